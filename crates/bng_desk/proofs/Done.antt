@@ -1,7 +1,8 @@
 -- A round that was held or refused, as a turn of the desk has it.
 use Rattle.std.proofs.Common.{◌≡◌, inl, inr, ℕ, ◌+◌, ◌&&◌, Bool, List, [], ◌∷◌, ◌++◌, Option, None, Some, map, length, refl, sym, ap, subst, ◌∙◌}
-use Rattle.std.specs.List.{AllZip}
+use Rattle.std.specs.List.{All, AllZip}
 use Rattle.std.proofs.lemmas.List.{length-map}
+use Rattle.std.proofs.lemmas.List.Elements.{recursion_from_All}
 use Rattle.bng_base.specs.declared.book.Book.{Book}
 use Rattle.bng_base.specs.declared.item.Entry.{Entry}
 use Rattle.bng_base.specs.declared.item.Item.{Item}
@@ -25,16 +26,19 @@ use Rattle.bng_desk.specs.declared.holding.Named.{Named}
 use Rattle.bng_desk.specs.declared.line.Line.{Line}
 use Rattle.bng_desk.specs.Accounting.{FormedRecord, Forms, IsStartOf, IsStopOf, acct_reading, records_stretch}
 use Rattle.bng_desk.specs.Allowing.{Allows, allowance_of, free_in}
+use Rattle.bng_desk.specs.Coa.{coa_sends, coa_stretch}
 use Rattle.bng_desk.specs.Control.{control_stretch}
 use Rattle.bng_desk.specs.Interims.{FormsInterims, TakesInterims, owed_by}
 use Rattle.bng_desk.specs.Kept.{rested}
 use Rattle.bng_desk.specs.Logins.{requests_stretch}
 use Rattle.bng_desk.specs.Model.{Desk}
+use Rattle.bng_desk.specs.Report.{stats_text}
 use Rattle.bng_desk.specs.Round.{Round, IsRound, handled_states, news_in, record_of, refused_record, starts_of, stops_of, terms_in}
-use Rattle.bng_desk.specs.Taking.{Accounts, Holds}
-use Rattle.bng_desk.specs.Turn.{Turn, FormsRecords, RoundOf, after_round, is_opened, round_stretch, round_told, after, auth_stretch, plant_stretch, data_stretch, reading_stretch, waiting_stretch, is_idle, wait_for, deadline_in}
+use Rattle.bng_desk.specs.Taking.{Accounts, AllTold, Holds, told_all}
+use Rattle.bng_desk.specs.Turn.{Turn, FormsRecords, RoundOf, after_round, answers_of, is_opened, loose_of, round_stretch, round_told, after, asked_stretch, auth_stretch, plant_stretch, data_stretch, reading_stretch, waiting_stretch, is_idle, wait_for, deadline_in}
 use Rattle.bng_desk.proofs.Awaited.{interims_form}
-use Rattle.bng_desk.proofs.Resting.{kept_rested, left_rested, round_rested}
+use Rattle.bng_desk.proofs.Resting.{kept_rested, left_rested, round_rested, told_rested}
+use Rattle.bng_desk.proofs.Telling.{answers_of_round, told_kept, untold, untold_left, untold_none}
 
 abbrev Shards : Type 0
 Shards = List (ShardView ShardState Entry)
@@ -44,7 +48,7 @@ abbrev pub stopped_in : Desk → Stopped
 stopped_in d = record { carried = d.stopped_book; stops = d.stops }
 
 -- what a turn has of its round, before which accounting stood so
-pub record RoundDone (d : Desk) (heard : BillingState) (moment wall : ℕ) (items : List Item) (old new : PlantTold) (shards : Shards) (pool : PlainView) (accounts : Accounts) (drops : Drops) (tally : Book) (told_is : RoundRecord) (opened : Bool) (kept : List Item) : Type 0 where
+pub record RoundDone (d : Desk) (heard : BillingState) (moment wall : ℕ) (items : List Item) (old new : PlantTold) (shards held : Shards) (pool : PlainView) (accounts : Accounts) (drops : Drops) (tally : Book) (told_is : RoundRecord) (opened : Bool) (kept : List Item) : Type 0 where
   pub round : Option Round
   pub is : RoundOf d moment items round
   pub shards_are : shards ≡ (after_round d items round).shards
@@ -59,6 +63,8 @@ pub record RoundDone (d : Desk) (heard : BillingState) (moment wall : ℕ) (item
   pub tallies_are : tally ∷ [] ≡ (after_round d items round).tallies
   pub told : ExtendsPlant old new (round_stretch round)
   pub record_told : told_is ≡ round_told d moment wall items round
+  pub loose_are : told_is.loose ≡ loose_of items round
+  pub answers_are : untold held ≡ answers_of round
   pub opened_is : opened ≡ is_opened round
   pub kept_is : kept ≡ (after_round d items round).kept
 
@@ -84,8 +90,8 @@ forms_more : (a b c : BillingState) (fs gs : List FormedRecord) → Forms a fs b
 forms_more a b c fs gs = chain_append (λ x (f : FormedRecord) y. IsFormedBy x f.status f.facts f.moment f.number y) a b c fs gs
 
 pub round_done : (d : Desk) (heard : BillingState) (named : Named) (items : List Item) (p p' : PlantTold) (vs ws : Shards) (pool' : PlainView) (accounts' : Accounts) (drops' : Drops) (tally tally' : Book) (told_is : RoundRecord) (opened : Bool) (kept : List Item) → Holds d.rules d.pool pool' (accounts_of d heard) accounts' named items p p' vs ws d.drops drops' tally tally' told_is opened kept
-    → d.shards ≡ map rested vs → d.tallies ≡ tally ∷ [] → named.number ≡ d.told + 1 → RoundDone d heard named.moment named.wall items p p' (map rested ws) pool' accounts' drops' tally' told_is opened kept
-round_done d heard named items p p' vs ws pool' accounts' drops' tally tally' told_is opened kept (inl (opened_is, kept_is, h)) shards tallies number =
+    → d.shards ≡ map rested vs → d.tallies ≡ tally ∷ [] → named.number ≡ d.told + 1 → All AllTold vs → RoundDone d heard named.moment named.wall items p p' (map rested (map told_all ws)) ws pool' accounts' drops' tally' told_is opened kept
+round_done d heard named items p p' vs ws pool' accounts' drops' tally tally' told_is opened kept (inl (opened_is, kept_is, h)) shards tallies number told =
     let same : map rested h.ready ≡ d.shards = kept_rested vs h.ready h.kept ∙ sym shards in
     let lists : List (List Item) = items ∷ [] in
     let states : handled_states h.ready h.held.round.shards ≡ handled_states d.shards h.held.round.shards =
@@ -121,15 +127,17 @@ round_done d heard named items p p' vs ws pool' accounts' drops' tally tally' to
       tallies_are = sym h.held.tallies_are;
       told = h.held.told;
       record_told = h.held.record_told ∙ ap (λ (n : ℕ). record_of n named.moment named.wall lists h.held.round) number;
+      loose_are = ap (λ (x : RoundRecord). x.loose) h.held.record_told;
+      answers_are = untold_left ws h.held.round.shards h.held.shards_are ∙ answers_of_round h.ready h.held.round.shards h.held.is.turn.shards (told_kept vs h.ready h.kept told);
       opened_is = opened_is;
       kept_is = kept_is;
     }
-round_done d heard named items p p' vs ws pool' accounts' drops' tally tally' told_is opened kept (inr (opened_is, kept_is, h)) shards tallies number =
+round_done d heard named items p p' vs ws pool' accounts' drops' tally tally' told_is opened kept (inr (opened_is, kept_is, h)) shards tallies number told =
     let count : length vs ≡ length d.shards = sym (length-map vs rested) ∙ ap (λ (xs : Shards). length xs) (sym shards) in
     record {
       round = None;
       is = tt;
-      shards_are = kept_rested vs ws h.kept ∙ sym shards;
+      shards_are = told_rested ws (recursion_from_All AllTold ws (told_kept vs ws h.kept told)) ∙ kept_rested vs ws h.kept ∙ sym shards;
       pool_is = h.pool_is;
       lines_are = ap (λ (a : Accounts). a.lines) h.accounts_are;
       stopped_is = ap (λ (a : Accounts). a.stopped) h.accounts_are;
@@ -141,6 +149,8 @@ round_done d heard named items p p' vs ws pool' accounts' drops' tally tally' to
       tallies_are = ap (λ (b : Book). let bs : List Book = b ∷ [] in bs) h.tally_is ∙ sym tallies;
       told = subst (λ (q : PlantTold). ExtendsPlant p q plant_none) (sym h.told) (plant_stays p);
       record_told = h.record_told ∙ ap (λ (n : ℕ). refused_record n named.moment named.wall (length vs) items) number ∙ ap (λ (n : ℕ). refused_record (d.told + 1) named.moment named.wall n items) count;
+      loose_are = ap (λ (x : RoundRecord). x.loose) h.record_told;
+      answers_are = untold_none vs ws h.kept told;
       opened_is = opened_is;
       kept_is = kept_is;
     }
@@ -180,21 +190,26 @@ module _ (d : Desk) (items : List Item) (round : Option Round) (shards : Shards)
       ∙ after_parts d items round
 
 -- the phases of a turn, one after the other
-pub phases : (d : Desk) (t : Turn) (p₀ p₁ p₂ p₃ p₄ p₅ : PlantTold) → ExtendsPlant p₀ p₁ (control_stretch t.control t.control_end) → ExtendsPlant p₁ p₂ (reading_stretch (acct_reading t.acknowledged t.acct_end))
-    → ExtendsPlant p₂ p₃ (plant_joined (auth_stretch t.answers t.auth_end) (data_stretch t.readings))
-    → ExtendsPlant p₃ p₄ (plant_joined (round_stretch t.round) (plant_joined (requests_stretch d.lane.client.auth_server t.requests) (records_stretch d.billing.client.acct_server t.records)))
-    → ExtendsPlant p₄ p₅ (waiting_stretch (is_idle t && t.noted) (wait_for (earliest (deadline_in (after d t).shards) (earliest t.deadline t.record_deadline)) t.moment)) → ExtendsPlant p₀ p₅ (plant_stretch d t)
-phases d t p₀ p₁ p₂ p₃ p₄ p₅ control acct readings settlement waiting =
+pub phases : (d : Desk) (t : Turn) (p₀ p₁ p₂ p₃ p₄ p₅ p₆ : PlantTold) → ExtendsPlant p₀ p₁ (control_stretch (stats_text d) t.control t.control_end) → ExtendsPlant p₁ p₂ (reading_stretch (acct_reading t.acknowledged t.acct_end))
+    → ExtendsPlant p₂ p₃ (asked_stretch t.requested t.coa_end) → ExtendsPlant p₃ p₄ (plant_joined (auth_stretch t.answers t.auth_end) (data_stretch t.readings))
+    → ExtendsPlant p₄ p₅ (plant_joined (round_stretch t.round) (plant_joined (coa_stretch (coa_sends t.replies)) (plant_joined (requests_stretch d.lane.client.auth_server t.requests) (records_stretch d.billing.client.acct_server t.records))))
+    → ExtendsPlant p₅ p₆ (waiting_stretch (is_idle t && t.noted) (wait_for (earliest (deadline_in (after d t).shards) (earliest t.deadline t.record_deadline)) t.moment)) → ExtendsPlant p₀ p₆ (plant_stretch d t)
+phases d t p₀ p₁ p₂ p₃ p₄ p₅ p₆ control acct coa readings settlement waiting =
     let w = waiting_stretch (is_idle t && t.noted) (wait_for (earliest (deadline_in (after d t).shards) (earliest t.deadline t.record_deadline)) t.moment) in
     let r = round_stretch t.round in
+    let s = coa_stretch (coa_sends t.replies) in
     let q = requests_stretch d.lane.client.auth_server t.requests in
     let b = records_stretch d.billing.client.acct_server t.records in
     let told = auth_stretch t.answers t.auth_end in
     let rs = data_stretch t.readings in
-    let rest = plant_joined r (plant_joined q (plant_joined b w)) in
-    let after_readings : ExtendsPlant p₃ p₅ rest =
-    subst (λ (s : PlantStretch). ExtendsPlant p₃ p₅ s) (plant_assoc r (plant_joined q b) w ∙ ap (plant_joined r) (plant_assoc q b w)) (plant_more p₃ p₄ p₅ (plant_joined r (plant_joined q b)) w settlement waiting) in
-    let after_acct : ExtendsPlant p₂ p₅ (plant_joined told (plant_joined rs rest)) =
-    subst (λ (s : PlantStretch). ExtendsPlant p₂ p₅ s) (plant_assoc told rs rest) (plant_more p₂ p₃ p₅ (plant_joined told rs) rest readings after_readings) in
+    let rest = plant_joined r (plant_joined s (plant_joined q (plant_joined b w))) in
+    let after_readings : ExtendsPlant p₄ p₆ rest =
+    subst (λ (x : PlantStretch). ExtendsPlant p₄ p₆ x) (plant_assoc r (plant_joined s (plant_joined q b)) w ∙ ap (plant_joined r) (plant_assoc s (plant_joined q b) w ∙ ap (plant_joined s) (plant_assoc q b w)))
+    (plant_more p₄ p₅ p₆ (plant_joined r (plant_joined s (plant_joined q b))) w settlement waiting) in
+    let after_coa : ExtendsPlant p₃ p₆ (plant_joined told (plant_joined rs rest)) =
+    subst (λ (x : PlantStretch). ExtendsPlant p₃ p₆ x) (plant_assoc told rs rest) (plant_more p₃ p₄ p₆ (plant_joined told rs) rest readings after_readings) in
+    let c = asked_stretch t.requested t.coa_end in
     let a = reading_stretch (acct_reading t.acknowledged t.acct_end) in
-    plant_more p₀ p₁ p₅ (control_stretch t.control t.control_end) (plant_joined a (plant_joined told (plant_joined rs rest))) control (plant_more p₁ p₂ p₅ a (plant_joined told (plant_joined rs rest)) acct after_acct)
+    let after_acct = plant_more p₂ p₃ p₆ c (plant_joined told (plant_joined rs rest)) coa after_coa in
+    plant_more p₀ p₁ p₆ (control_stretch (stats_text d) t.control t.control_end) (plant_joined a (plant_joined c (plant_joined told (plant_joined rs rest)))) control
+    (plant_more p₁ p₂ p₆ a (plant_joined c (plant_joined told (plant_joined rs rest))) acct after_acct)

@@ -9,7 +9,8 @@ use Rattle.bng_base.specs.declared.book.Book.{Book}
 use Rattle.bng_base.specs.declared.item.Entry.{Entry}
 use Rattle.bng_base.specs.declared.item.Item.{Item}
 use Rattle.bng_base.specs.declared.item.ItemKind.{ItemKind}
-use Rattle.bng_base.specs.declared.item.ItemKind.TheVariants.{End, Verdict}
+use Rattle.bng_base.specs.declared.item.ItemKind.TheVariants.{Change, End, Verdict}
+use Rattle.bng_base.specs.declared.item.OutRecord.{OutRecord}
 use Rattle.bng_base.specs.declared.round.RoundRecord.{RoundRecord}
 use Rattle.bng_base.specs.Told.{PlantTold}
 use Rattle.bng_engine.specs.Calls.{Kept, Moves}
@@ -23,21 +24,28 @@ use Rattle.bng_slots.specs.Sessions.{value_at, with_value}
 use Rattle.bng_shard.specs.declared.rules.Rules.{Rules}
 use Rattle.bng_shard.specs.declared.whose.Whose.{Whose}
 use Rattle.bng_shard.specs.declared.whose.Whose.TheVariants.{Stands}
+use Rattle.bng_shard.specs.declared.session.Service.{Service}
+use Rattle.bng_shard.specs.declared.session.Service.TheVariants.{Provisioned, Discovered}
 use Rattle.bng_shard.specs.declared.session.Session.{Session}
+use Rattle.bng_coa.specs.Wants.{wanted}
+use Rattle.bng_shard.specs.Changes.{HearsChange, lease_after, place_of}
 use Rattle.bng_shard.specs.Deed.{Deed}
-use Rattle.bng_shard.specs.Link.{Told}
+use Rattle.bng_shard.specs.Link.{Told, admin_reset}
 use Rattle.bng_shard.specs.Made.{Question}
+use Rattle.bng_shard.specs.Passing.{lapsed}
 use Rattle.bng_shard.specs.Protocol.{ShardState, Handled, pppoe, entry_of, sessions_of}
 use Rattle.bng_shard.specs.State.{State, count_in}
 use Rattle.bng_shard.specs.Step.{Hears}
+use Rattle.bng_shard.specs.Timers.{LosesTerm}
 use Rattle.bng_shard.specs.Verdicts.{HearsVerdict, Judges, next_lease, settled_by}
 use Rattle.bng_shard.specs.Whose.{IsForKind, IsForTarget}
+use Rattle.bng_shard.proofs.Changing.{Comes, change_comes}
 use Rattle.bng_shard.proofs.Fewer.{end_leaves_fewer}
 use Rattle.bng_shard.proofs.Values.{sum_by-replaced}
 use Rattle.bng_desk.specs.declared.drops.Drops.{Drops}
 use Rattle.bng_desk.specs.declared.holding.Named.{Named}
 use Rattle.bng_desk.specs.Items.{entries_in, for_shard, stands_in, without_claim}
-use Rattle.bng_desk.specs.Kept.{rested, undrawn, AreEndsOf, is_verdict}
+use Rattle.bng_desk.specs.Kept.{rested, undrawn, AreEndsOf, IsAsked}
 use Rattle.bng_desk.specs.Model.{sessions_in, unopened_most}
 use Rattle.bng_desk.specs.Round.{AreParts, IsWhoseIn, entries_of, views_of}
 use Rattle.bng_desk.specs.Taking.{Accounts, IsLeftBy, IsHeld, Holds}
@@ -86,19 +94,19 @@ record OneEnd (es : List Entry) : Type 0 where
   is : es ≡ entry ∷ []
   kind : entry.item.kind ≡ End
 
--- entries of verdicts, and one of an End after them
-abbrev IsVerdict : Entry → Type 0
-IsVerdict e = e.item.kind ≡ Verdict
+-- entries of requests and verdicts, and one of an End after them
+abbrev OfAsked : Entry → Type 0
+OfAsked e = IsAsked e.item
 
 record EndLast (es : List Entry) : Type 0 where
   front : List Entry
-  all : All IsVerdict front
+  all : All OfAsked front
   last : Entry
   is : es ≡ front ++ last ∷ []
   kind : last.item.kind ≡ End
 
-one_more : (b : Bool) (e : Entry) (es : List Entry) → IsVerdict e → EndLast es → EndLast ((if b then e ∷ [] else []) ++ es)
-one_more true e es v l = record { front = e ∷ l.front; all = All-cons IsVerdict e l.front v l.all; last = l.last; is = ap (λ (xs : List Entry). e ∷ xs) l.is; kind = l.kind }
+one_more : (b : Bool) (e : Entry) (es : List Entry) → OfAsked e → EndLast es → EndLast ((if b then e ∷ [] else []) ++ es)
+one_more true e es v l = record { front = e ∷ l.front; all = All-cons OfAsked e l.front v l.all; last = l.last; is = ap (λ (xs : List Entry). e ∷ xs) l.is; kind = l.kind }
 one_more false e es v l = l
 
 module _ (r : Rules) (opening last : Table) (moment : ℕ) where
@@ -159,15 +167,15 @@ module _ (r : Rules) (opening last : Table) (moment : ℕ) where
       one_by (eqb m k) k m n place i w is ws refl stands kind low few tail are.1
       (λ later. one_at k (m + 1) n (place + 1) is ws later (omega (arith, high)) (omega (arith, few)) tail are.1)
 
-  -- verdicts, and one End after them
-  end_last : (k n : ℕ) (vs es : List Item) → (place : ℕ) (ws : List Whose) → k < n → n ≤ r.shards → All is_verdict vs → AreEndsOf n es → Whoses (vs ++ es) ws → EndLast (entries_in 0 k place moment (vs ++ es) ws)
-  end_last k n [] es place ws high few verdicts ends are =
+  -- requests and verdicts, and one End after them
+  end_last : (k n : ℕ) (vs es : List Item) → (place : ℕ) (ws : List Whose) → k < n → n ≤ r.shards → All IsAsked vs → AreEndsOf n es → Whoses (vs ++ es) ws → EndLast (entries_in 0 k place moment (vs ++ es) ws)
+  end_last k n [] es place ws high few asked ends are =
       let one = one_at k 0 n place es ws (omega arith) (omega (arith, high)) (omega (arith, few)) ends are in
-      record { front = []; all = All-nil IsVerdict; last = one.entry; is = one.is; kind = one.kind }
-  end_last k n (v ∷ vs) es place [] high few verdicts ends are = absurd are
-  end_last k n (v ∷ vs) es place (w ∷ ws) high few verdicts ends are =
-      one_more (stands_in k w) (entry_of 0 place moment v) (entries_in 0 k (place + 1) moment (vs ++ es) ws) (All-head is_verdict v vs verdicts)
-      (end_last k n vs es (place + 1) ws high few (All-tail is_verdict v vs verdicts) ends are.1)
+      record { front = []; all = All-nil OfAsked; last = one.entry; is = one.is; kind = one.kind }
+  end_last k n (v ∷ vs) es place [] high few asked ends are = absurd are
+  end_last k n (v ∷ vs) es place (w ∷ ws) high few asked ends are =
+      one_more (stands_in k w) (entry_of 0 place moment v) (entries_in 0 k (place + 1) moment (vs ++ es) ws) (All-head IsAsked v vs asked)
+      (end_last k n vs es (place + 1) ws high few (All-tail IsAsked v vs asked) ends are.1)
 
 -- Fewer sessions --------------------------------------------------------------------------------------------------------
 
@@ -225,16 +233,38 @@ verdict_leaves_all s h is kind =
     ⊎_elim (λ told. judged s.slots d.entry d s.rules told.1 told.3)
     (λ none. ⊎_elim (λ silent. ap (λ (x : Deed). count_in x.next) silent.2) (λ other. ap (λ (x : Deed). count_in x.next) other.2) none) hears
 
-last_step : (front : List Entry) (s : ShardState) (es : List Handled) (e : Entry) → claimless es ≡ front ++ e ∷ [] → All IsVerdict front → e.item.kind ≡ End → AreSteps pppoe s es → Less (sessions_of s) (sessions_of (pppoe.settled (after pppoe s es)))
+-- and so does a request for a change
+lost_count : (service : Service) (r : Rules) (e : Entry) (s : State) (n : ℕ) (x : Session) (outs : List OutRecord) (s' : State) → value_at s.sessions n ≡ Some x → LosesTerm service admin_reset r e s n x outs s' → count_in s' ≡ count_in s
+lost_count (Provisioned over) r e s n x outs s' found (_, is) = ap count_in is ∙ replaced_count s n x (lapsed x) found
+lost_count (Discovered m) r e s n x outs s' found (after, _, asked, drives, is) = ap count_in is ∙ replaced_count s n x after found
+
+changed_count : (r : Rules) (s : State) (e : Entry) (d : Deed) → Comes r s e d → count_in d.next ≡ count_in s
+changed_count r s e d (inl is) = ap (λ (x : Deed). count_in x.next) is
+changed_count r s e d (inr (inl (p, f, found, is))) =
+    ap (λ (x : Deed). count_in x.next) is ∙ replaced_count s f.term.term.session.0 f.session (record f.session { lease = Some (lease_after f.lease (wanted r.profiles p) (place_of f.term.profile (wanted r.profiles p))) }) found.at
+changed_count r s e d (inr (inr (p, f, found, outs, s', loses, is))) =
+    ap (λ (x : Deed). count_in x.next) is ∙ lost_count f.session.service r e s f.term.term.session.0 f.session outs s' found.at loses
+
+change_leaves_all : (s : ShardState) (h : Handled) → pppoe.is_step s h → h.deed.entry.item.kind ≡ Change → sessions_of (pppoe.next s h) ≡ sessions_of s
+change_leaves_all s h is kind =
+    let d = h.deed in
+    let hears : HearsChange s.rules s.slots d.entry d = subst (λ (k : ItemKind). Hears k s.rules s.slots h.limited d.entry d) kind is.step.hears in
+    changed_count s.rules s.slots d.entry d (change_comes s.rules s.slots d.entry d hears)
+
+asked_leaves_all : (s : ShardState) (h : Handled) → pppoe.is_step s h → OfAsked h.deed.entry → sessions_of (pppoe.next s h) ≡ sessions_of s
+asked_leaves_all s h is (inl kind) = change_leaves_all s h is kind
+asked_leaves_all s h is (inr kind) = verdict_leaves_all s h is kind
+
+last_step : (front : List Entry) (s : ShardState) (es : List Handled) (e : Entry) → claimless es ≡ front ++ e ∷ [] → All OfAsked front → e.item.kind ≡ End → AreSteps pppoe s es → Less (sessions_of s) (sessions_of (pppoe.settled (after pppoe s es)))
 last_step [] s es e is all kind steps = one_step s es e is kind steps
 last_step (f ∷ front) s [] e is all kind steps = let no : ⊥ = cc in absurd no
 last_step (f ∷ front) s (h ∷ es) e is all kind steps =
     let first : without_claim h.deed.entry ≡ f = cc in
     let rest : claimless es ≡ front ++ e ∷ [] = cc in
-    let same = verdict_leaves_all s h steps.0 (ap (λ (x : Entry). x.item.kind) first ∙ All-head IsVerdict f front all) in
-    subst (λ (n : ℕ). Less n (sessions_of (pppoe.settled (after pppoe (pppoe.next s h) es)))) same (last_step front (pppoe.next s h) es e rest (All-tail IsVerdict f front all) kind steps.1)
+    let same = asked_leaves_all s h steps.0 (subst (λ (k : ItemKind). (k ≡ Change) ⊎ (k ≡ Verdict)) (sym (ap (λ (x : Entry). x.item.kind) first)) (All-head OfAsked f front all)) in
+    subst (λ (n : ℕ). Less n (sessions_of (pppoe.settled (after pppoe (pppoe.next s h) es)))) same (last_step front (pppoe.next s h) es e rest (All-tail OfAsked f front all) kind steps.1)
 
-module _ (r : Rules) (opening last : Table) (moment : ℕ) (vs₀ es₀ : List Item) (whose : List Whose) (n : ℕ) (few : n ≤ r.shards) (verdicts : All is_verdict vs₀) (ends : AreEndsOf n es₀) (are : AllZip (IsWhoseIn r opening last) (vs₀ ++ es₀) whose) where
+module _ (r : Rules) (opening last : Table) (moment : ℕ) (vs₀ es₀ : List Item) (whose : List Whose) (n : ℕ) (few : n ≤ r.shards) (asked : All IsAsked vs₀) (ends : AreEndsOf n es₀) (are : AllZip (IsWhoseIn r opening last) (vs₀ ++ es₀) whose) where
   abbrev items : List Item
   items = vs₀ ++ es₀
 
@@ -248,7 +278,7 @@ module _ (r : Rules) (opening last : Table) (moment : ℕ) (vs₀ es₀ : List I
       let entries = map without_claim (entries_of x) in
       let seats : AllByRecursion OfSeat entries = all_weaker (λ (e : Entry). e.seat < 1) OfSeat (λ e lt. omega (arith, lt)) entries (recursion_from_All (λ (e : Entry). e.seat < 1) entries parts.0.seats) in
       let those : entries ≡ entries_in 0 k 0 moment items whose = sym (all_kept entries seats) ∙ parts.0.each 0 (omega arith) in
-      let ends_last = end_last r opening last moment k n vs₀ es₀ 0 whose (omega (arith, within)) few verdicts ends are in
+      let ends_last = end_last r opening last moment k n vs₀ es₀ 0 whose (omega (arith, within)) few asked ends are in
       let m = moves.0 in
       let state : w.state ≡ pppoe.settled (after pppoe v.state x.journal) = left.0.state ∙ m.state in
       let here : Less (sessions_of v.state) (sessions_of w.state) =
@@ -284,7 +314,7 @@ module _ (r : Rules) (pool pool' : PlainView) (accounts accounts' : Accounts) (n
       → AllZip (Moves pppoe) (views_of ready) xs → AllZip IsLeftBy ws xs → Less (sessions_in ready) (sessions_in ws)
   dwindled last [] xs ready n few e within are parts moves left = absurd are
   dwindled last (w ∷ []) xs ready n few e within are parts moves left =
-      dwindles r pool.table last named.moment e.verdicts e.ends w n few e.all_verdicts e.each (subst (λ (is : List Item). AllZip (IsWhoseIn r pool.table last) is w) e.are are.0) 0 ready ws xs (omega (arith, within))
+      dwindles r pool.table last named.moment e.asked e.ends w n few e.all_asked e.each (subst (λ (is : List Item). AllZip (IsWhoseIn r pool.table last) is w) e.are are.0) 0 ready ws xs (omega (arith, within))
       (subst (λ (is : List Item). AreParts (is ∷ []) (w ∷ []) 0 named.moment xs) e.are parts) moves left
   dwindled last (w ∷ x ∷ more) xs ready n few e within are parts moves left = absurd are.1
 

@@ -1,5 +1,6 @@
 -- A turn of the ending, from its phases.
 use Rattle.std.proofs.Common.{◌≡◌, ℕ, Vec, Global, ◌+◌, ◌≤◌, Bool, ◌&&◌, ◌||◌, ◌==◌, cond, if◌then◌else◌, List, [], ◌∷◌, Some, sym, ap, subst, ◌∙◌, arith}
+use Rattle.std.specs.List.{All}
 use Rattle.bng_base.specs.declared.item.Item.{Item}
 use Rattle.bng_base.specs.declared.outside.ClockAnswer.TheVariants.{Now, Wall}
 use Rattle.bng_base.specs.Told.{PlantTold, ClockTold, TraceTold, GrowsIfTold}
@@ -10,10 +11,12 @@ use Rattle.bng_desk.specs.declared.holding.Named.{Named}
 use Rattle.bng_desk.specs.declared.lists.Lists.{Lists}
 use Rattle.bng_desk.specs.declared.settlement.Settled.{Settled}
 use Rattle.bng_desk.specs.declared.settlement.Works.{Works}
+use Rattle.bng_desk.specs.Coa.{CoaReply, SettlesCoa}
 use Rattle.bng_desk.specs.Model.{Desk, sessions_in}
 use Rattle.bng_desk.specs.Random.{Drawn}
 use Rattle.bng_desk.specs.Settlement.{Settles}
-use Rattle.bng_desk.specs.Turn.{Closes, MakesEnd, after_round, ending_items, ending_draws, is_opened, answer_if, told_after}
+use Rattle.bng_desk.specs.Taking.{AllTold}
+use Rattle.bng_desk.specs.Turn.{Closes, MakesEnd, after_round, answers_of, loose_of, ending_items, ending_draws, is_opened, answer_if, told_after}
 use Rattle.bng_desk.proofs.Resting.{sessions_rested}
 use Rattle.bng_desk.proofs.Settled.{settlement_done}
 use Rattle.bng_desk.proofs.Turning.{unnoted, well_noted}
@@ -23,17 +26,17 @@ use Rattle.bng_desk.proofs.Works.{billed_by, gathered, seen_with}
 abbrev pub after_ending : Desk → (unopened : ℕ) → (closed : Bool) → (closing moment told : ℕ) → Desk
 after_ending d unopened closed closing moment told = record d { told = told; moment = moment; endings = d.endings + 1; unopened = unopened; closed = closed; closing = closing }
 
-module _ (d : Desk) (w w' : Works) (draws : Drawn) (none : Vec Item Global) (lists : Lists) (named : Named) (items : List Item) (settled : Settled) (billing : BillingState) (p₀ p₁ : PlantTold) (t₀ t₁ : TraceTold) where
-  pub ended : named.number ≡ d.told + 1 → items ≡ ending_items (seen_with d w) → draws ≡ record { seed = w.draws.seed; drawn = w.draws.drawn + ending_draws (seen_with d w) }
-      → Settles d.rules named items (gathered w w.accounts.billing w.lane draws none lists) w' p₀ p₁ t₀ t₁ settled
+module _ (d : Desk) (w w' : Works) (draws : Drawn) (none : Vec Item Global) (lists : Lists) (named : Named) (repeats : List CoaReply) (items : List Item) (settled : Settled) (billing : BillingState) (p₀ p₁ : PlantTold) (t₀ t₁ : TraceTold) where
+  pub ended : named.number ≡ d.told + 1 → All AllTold w.shards.items → repeats ≡ [] → items ≡ ending_items (seen_with d w) → draws ≡ record { seed = w.draws.seed; drawn = w.draws.drawn + ending_draws (seen_with d w) }
+      → Settles d.rules named repeats items (gathered w w.accounts.billing w.coa w.lane draws none lists) w' p₀ p₁ t₀ t₁ settled
       → d.moment ≤ named.moment → (c₀ c₁ c₂ : ClockTold) → GrowsIfTold c₀.answers c₁.answers (Now named.moment ∷ []) → GrowsIfTold c₁.answers c₂.answers (Wall named.wall ∷ []) → c₂.last ≡ named.moment
       → (result : Turned) → result ≡ answer_if settled.noted → (unopened : ℕ) → unopened ≡ (if settled.is_opened then 0 else d.unopened + 1) → (closed : Bool) → closed ≡ (d.closed || settled.is_opened) → (closing : ℕ) → closing ≡ (if settled.is_opened then named.moment else d.closing)
       → Closes (closed && (sessions_in w'.shards.items == 0)) w'.accounts.billing billing → (told' : ℕ) → told' ≡ told_after settled.noted d.told
       → MakesEnd (seen_with d w) (after_ending (seen_with d (billed_by w' billing)) unopened closed closing named.moment told') (record { plant = p₀; clock = c₀; trace = t₀ }) (record { plant = p₁; clock = c₂; trace = t₁ }) result
-  ended number same drew s later c₀ c₁ c₂ now wall last result result_is unopened unopened_is closed closed_is closing closing_is closes told' told_as =
+  ended number told no_repeats same drew s later c₀ c₁ c₂ now wall last result result_is unopened unopened_is closed closed_is closing closing_is closes told' told_as =
       let was = seen_with d w in
       let moment = named.moment in
-      let done = settlement_done d w w' w.accounts.billing w.lane draws none lists named items p₀ p₁ t₀ t₁ settled number s (ending_items was) same (was.drawn + ending_draws was) drew in
+      let done = settlement_done d w w' w.accounts.billing w.coa w.lane draws none lists named repeats items p₀ p₁ t₀ t₁ settled number told s (ending_items was) same (was.drawn + ending_draws was) drew in
       let n = cond (is_opened done.round) 0 (d.unopened + 1) in
       let c = d.closed || is_opened done.round in
       let m = cond (is_opened done.round) moment d.closing in
@@ -46,8 +49,10 @@ module _ (d : Desk) (w w' : Works) (draws : Drawn) (none : Vec Item Global) (lis
           moment = moment;
           wall = named.wall;
           round = done.round;
+          replies = done.replies;
           requests = done.requests;
           noted = settled.noted;
+          coa = w'.coa;
           lane = w'.lane;
           handed = w'.handed.items;
           formed = done.formed;
@@ -61,6 +66,7 @@ module _ (d : Desk) (w w' : Works) (draws : Drawn) (none : Vec Item Global) (lis
           done.is,
           done.asks,
           record { allows = done.allows; booked = done.booked; forms = done.forms; of_round = done.of_round; settled = w'.accounts.billing; settles = done.bills; closes = subst (λ (b : Bool). Closes b w'.accounts.billing billing) gone closes },
+          subst (λ (rs : List CoaReply). SettlesCoa d.rules rs (loose_of (ending_items was) done.round) (answers_of done.round) w.coa done.replies w'.coa) no_repeats done.answers,
           ap (λ (k : ℕ). after_ending billed k closed closing moment told') (unopened_is ∙ ap (λ (b : Bool). cond b 0 (d.unopened + 1)) done.opened_is)
               ∙ ap (λ (b : Bool). after_ending billed n b closing moment told') closed_as
               ∙ ap (λ (k : ℕ). after_ending billed n c k moment told') (closing_is ∙ ap (λ (b : Bool). cond b moment d.closing) done.opened_is)

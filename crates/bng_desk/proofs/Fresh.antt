@@ -25,11 +25,11 @@ use Rattle.bng_desk.specs.declared.drops.Drops.{Drops}
 use Rattle.bng_desk.specs.declared.line.Line.{Line}
 use Rattle.bng_desk.specs.Accounting.{AreBilled, KnowsBegun}
 use Rattle.bng_desk.specs.Counting.{Within, no_drops}
-use Rattle.bng_desk.specs.Interims.{AreAwaited, AwaitsAt}
-use Rattle.bng_desk.specs.Kept.{IsKept, IsUnended, is_verdict, all_turns, rested, octets_most, drops_most}
+use Rattle.bng_desk.specs.Interims.{AreWaiting, WaitsAt}
+use Rattle.bng_desk.specs.Kept.{IsKept, IsAsked, IsUnended, all_turns, rested, octets_most, drops_most}
 use Rattle.bng_desk.specs.Model.{Desk, begun_in, keys_in, live_terms}
 use Rattle.bng_desk.specs.Opening.{line_of}
-use Rattle.bng_desk.specs.Taking.{IsEmpty, KeepsTerms, HasFewSessions, AddsUp, AreInOrder, AreTallied, CarriesWithin, kept_in, live_by, no_stops, stopped_in}
+use Rattle.bng_desk.specs.Taking.{AllTold, IsEmpty, KeepsTerms, HasFewSessions, AddsUp, AreInOrder, AreTallied, CarriesWithin, kept_in, live_by, no_stops, stopped_in}
 use Rattle.bng_desk.proofs.Readying.{WorksBy}
 use Rattle.bng_desk.proofs.Returning.{HoldsOwn}
 use Rattle.bng_desk.proofs.Keeping.{AreKept, none_kept, one_low, unended_left}
@@ -84,6 +84,9 @@ module _ (rules : Rules) (statics : ℕ → List Static) (now : ℕ) where
   pub fresh_empty : (n : ℕ) → All IsEmpty (map fresh (range_with_len 0 n))
   fresh_empty n k d lt = subst (λ (v : ShardView ShardState Entry). IsEmpty v) (sym (fresh_at n k d lt)) (refl, refl)
 
+  pub fresh_told : (n : ℕ) → All AllTold (map fresh (range_with_len 0 n))
+  fresh_told n k d lt = subst (λ (v : ShardView ShardState Entry). AllTold v) (sym (fresh_at n k d lt)) refl
+
   pub fresh_low : (most n : ℕ) → All (λ v. RowsAreLow most v.rows) (map fresh (range_with_len 0 n))
   fresh_low most n k d lt =
       subst (λ (v : ShardView ShardState Entry). RowsAreLow most v.rows) (sym (fresh_at n k d lt)) (λ q input. omega (arith, none_carried q is_any input (keys (terms_of (fresh k).state))))
@@ -105,10 +108,10 @@ any_moment : (o : Option ℕ) → IfSome o (λ at. 0 ≤ at)
 any_moment None = tt
 any_moment (Some at) = omega arith
 
-any_awaits : (moment : ℕ) (v : ShardView ShardState Entry) → AwaitsAt moment v no_reports
-any_awaits moment v = record { awaits = λ n x is. any_moment (interim_at no_reports.last x); soon = omega arith }
+any_awaits : (moment : ℕ) (v : ShardView ShardState Entry) → WaitsAt moment v no_reports
+any_awaits moment v = record { waits = λ n x is. any_moment (interim_at no_reports.last x); soon = omega arith }
 
-fresh_awaited : (moment : ℕ) (f : ℕ → ShardView ShardState Entry) (ns : List ℕ) → AreAwaited moment (map f ns) (map (λ (n : ℕ). no_reports) ns)
+fresh_awaited : (moment : ℕ) (f : ℕ → ShardView ShardState Entry) (ns : List ℕ) → AreWaiting moment (map f ns) (map (λ (n : ℕ). no_reports) ns)
 fresh_awaited moment f [] = tt
 fresh_awaited moment f (n ∷ ns) = (any_awaits moment (f n), fresh_awaited moment f ns)
 
@@ -170,13 +173,14 @@ kept_fresh d statics now cs shards few lines stopped counts some_port few_ports 
       counts = subst (λ (x : Drops). Within (drops_most * all_turns d) x) (sym drops) (record { malformed = omega arith; no_session = omega arith; not_open = omega arith; expired = omega arith; spoofed = omega arith; too_big = omega arith; exceeded = omega arith; link_failed = omega arith; want_of_memory = omega arith });
       kept = staying.items;
       stays = staying.stays;
-      while_serving = λ _. subst (λ (is : List Item). All is_verdict is) (sym kept) (λ k e l. absurd (omega arith));
+      while_serving = λ _. subst (λ (is : List Item). All IsAsked is) (sym kept) (λ k e l. absurd (omega arith));
       handed = ap (λ (hs : List (List ℕ)). length hs) handed ∙ length-map-range_with_len (λ (n : ℕ). none_handed) 0 d.rules.shards ∙ sym count;
       closing = omega (arith, closing);
       graces = omega (arith, graces);
       billed = billed;
       knows = knows;
-      awaited = subst (λ (rs : List Reports). AreAwaited d.moment d.shards rs) (sym reports)
-          (subst (λ (xs : List (ShardView ShardState Entry)). AreAwaited d.moment xs (map (λ n. no_reports) (range_with_len 0 d.rules.shards))) (sym shards)
+      awaited = subst (λ (rs : List Reports). AreWaiting d.moment d.shards rs) (sym reports)
+          (subst (λ (xs : List (ShardView ShardState Entry)). AreWaiting d.moment xs (map (λ n. no_reports) (range_with_len 0 d.rules.shards))) (sym shards)
           (fresh_awaited d.moment (λ n. opened n d.rules (statics n) now) (range_with_len 0 d.rules.shards)));
+      all_told = subst (λ (xs : List (ShardView ShardState Entry)). All AllTold xs) (sym shards) (fresh_told d.rules statics now d.rules.shards);
     }

@@ -62,29 +62,29 @@ count_pushed p xs x = sym (sum_by_push (λ y. one_if (p y)) xs x)
 heeded_failed : (hs : List Heeded) (h : Heeded) → count_by is_unanswered hs + (0 + one_if (is_unanswered h)) ≡ count_by is_unanswered (hs ++ h ∷ [])
 heeded_failed hs h = omega (arith, count_pushed is_unanswered hs h)
 
-heeding_more : (hs : List Heeded) (h : Heeded)
-    → plant_joined (heeding hs) (plant_joined (receiving Control (Got h.arrival.from h.arrival.cut) h.arrival.octets) (answering h)) ≡ heeding (hs ++ h ∷ [])
-heeding_more hs h = same _ _
+heeding_more : (stats : List ℕ) (hs : List Heeded) (h : Heeded)
+    → plant_joined (heeding stats hs) (plant_joined (receiving Control (Got h.arrival.from h.arrival.cut) h.arrival.octets) (answering stats h)) ≡ heeding stats (hs ++ h ∷ [])
+heeding_more stats hs h = same _ _
     (mapped_more (λ (a : Arrival). Receive Control (Got a.from a.cut)) (λ (k : Heeded). k.arrival) hs h)
     (mapped_more (λ (a : Arrival). as_datagram Control a) (λ (k : Heeded). k.arrival) hs h)
-    (kept_more reply is_answered hs h)
+    (kept_more (reply stats) is_answered hs h)
     (heeded_failed hs h)
 
 -- a datagram of Control was taken and answered
-pub one_heeded : (p₀ p₁ p₂ p₃ : PlantTold) (hs : List Heeded) (h : Heeded) → ExtendsPlant p₀ p₁ (heeding hs)
-    → ExtendsPlant p₁ p₂ (receiving Control (Got h.arrival.from h.arrival.cut) h.arrival.octets) → ExtendsPlant p₂ p₃ (answering h) → ExtendsPlant p₀ p₃ (heeding (hs ++ h ∷ []))
-one_heeded p₀ p₁ p₂ p₃ hs h so_far taken answered =
-    subst (λ (s : PlantStretch). ExtendsPlant p₀ p₃ s) (heeding_more hs h)
-    (plant_more p₀ p₁ p₃ (heeding hs) (plant_joined (receiving Control (Got h.arrival.from h.arrival.cut) h.arrival.octets) (answering h)) so_far
-    (plant_more p₁ p₂ p₃ (receiving Control (Got h.arrival.from h.arrival.cut) h.arrival.octets) (answering h) taken answered))
+pub one_heeded : (stats : List ℕ) (p₀ p₁ p₂ p₃ : PlantTold) (hs : List Heeded) (h : Heeded) → ExtendsPlant p₀ p₁ (heeding stats hs)
+    → ExtendsPlant p₁ p₂ (receiving Control (Got h.arrival.from h.arrival.cut) h.arrival.octets) → ExtendsPlant p₂ p₃ (answering stats h) → ExtendsPlant p₀ p₃ (heeding stats (hs ++ h ∷ []))
+one_heeded stats p₀ p₁ p₂ p₃ hs h so_far taken answered =
+    subst (λ (s : PlantStretch). ExtendsPlant p₀ p₃ s) (heeding_more stats hs h)
+    (plant_more p₀ p₁ p₃ (heeding stats hs) (plant_joined (receiving Control (Got h.arrival.from h.arrival.cut) h.arrival.octets) (answering stats h)) so_far
+    (plant_more p₁ p₂ p₃ (receiving Control (Got h.arrival.from h.arrival.cut) h.arrival.octets) (answering stats h) taken answered))
 
 -- a datagram of Control from elsewhere is not answered
-pub unanswered : (p : PlantTold) (a : Arrival) → is_near a ≡ false → ExtendsPlant p p (answering (record { arrival = a; answered = false }))
-unanswered p a far = subst (λ (b : Bool). ExtendsPlant p p (made [] [] (cond (b && false) (reply (record { arrival = a; answered = false }) ∷ []) []) (one_if (b && not false)))) (sym far) (plant_stays p)
+pub unanswered : (stats : List ℕ) (p : PlantTold) (a : Arrival) → is_near a ≡ false → ExtendsPlant p p (answering stats (record { arrival = a; answered = false }))
+unanswered stats p a far = subst (λ (b : Bool). ExtendsPlant p p (made [] [] (cond (b && false) (reply stats (record { arrival = a; answered = false }) ∷ []) []) (one_if (b && not false)))) (sym far) (plant_stays p)
 
 -- the answer to one from 127.0.0.0/8
-pub answered_as : (p p' : PlantTold) (a : Arrival) (sent : Bool) → is_near a ≡ true → ExtendsPlant p p' (sending Control a.from (reply_text a) sent) → ExtendsPlant p p' (answering (record { arrival = a; answered = sent }))
-answered_as p p' a sent near told = subst (λ (b : Bool). ExtendsPlant p p' (made [] [] (cond (b && sent) (reply (record { arrival = a; answered = sent }) ∷ []) []) (one_if (b && not sent)))) (sym near) told
+pub answered_as : (stats : List ℕ) (p p' : PlantTold) (a : Arrival) (sent : Bool) → is_near a ≡ true → ExtendsPlant p p' (sending Control a.from (reply_text stats a) sent) → ExtendsPlant p p' (answering stats (record { arrival = a; answered = sent }))
+answered_as stats p p' a sent near told = subst (λ (b : Bool). ExtendsPlant p p' (made [] [] (cond (b && sent) (reply stats (record { arrival = a; answered = sent }) ∷ []) []) (one_if (b && not sent)))) (sym near) told
 
 pub never_empty : {X : Type 0} (xs : List X) (x : X) → false ≡ is_empty (xs ++ x ∷ [])
 never_empty [] x = refl

@@ -48,6 +48,7 @@ left_closed d moment w ended billing agree closes l = record {
   billed = closed_billed (keys_in w.shards.items) ended w.accounts.billing billing closes l.billed;
   knows = knows_less w.shards.items w.accounts.billing billing (closed_forgets ended w.accounts.billing billing agree closes) l.knows;
   awaited = l.awaited;
+  all_told = l.all_told;
 }
 
 -- the moment of the last round of Ends is no later than that of the turn
@@ -102,6 +103,7 @@ module _ (d : Desk) (w : Works) (heard billing : BillingState) (moment : ℕ) (q
     knows = knows_less w.shards.items heard billing (settled_forgets moment heard billing sends.requests sends.settles)
         (knows_less w.shards.items w.accounts.billing heard (heard_forgets w.accounts.billing heard takes.acknowledged takes.hears) k.knows);
     awaited = awaited_later d.moment moment w.shards.items w.accounts.reports later k.awaited;
+    all_told = k.all_told;
   }
 
   pub graced : d.moment ≤ moment → (due : Option ℕ) → IsDeadline (places_of billing) due → (wait : ℕ) → wait ≡ wait_for (earliest due (Some (d.closing + grace_most))) moment → (p₃ : PlantTold) → ExtendsPlant p₂ p₃ (waiting_stretch quiet wait)

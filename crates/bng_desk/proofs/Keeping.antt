@@ -17,23 +17,19 @@ use Rattle.bng_base.specs.Told.{PlantTold}
 use Rattle.bng_desk.specs.declared.settlement.Works.{Works}
 use Rattle.bng_desk.specs.Accounting.{AreBilled, KnowsBegun}
 use Rattle.bng_desk.specs.Counting.{Within}
-use Rattle.bng_base.specs.FateOf.{Arrival}
 use Rattle.bng_lane.specs.State.{LaneState}
-use Rattle.bng_verdict.specs.declared.question.QuestionNo.{QuestionNo}
-use Rattle.bng_desk.specs.declared.reading.Ended.{Ended as Reading}
-use Rattle.bng_desk.specs.declared.reading.Ended.TheVariants.{Full, Dry, Broken}
 use Rattle.bng_desk.specs.Intake.{Gathers}
-use Rattle.bng_desk.specs.Interims.{AreAwaited}
-use Rattle.bng_desk.specs.Kept.{IsKept, IsUnended, Stays, is_verdict, all_turns, octets_most, drops_most}
-use Rattle.bng_desk.specs.Logins.{Answered, reply_in, reply_items}
+use Rattle.bng_desk.specs.Interims.{AreWaiting}
+use Rattle.bng_desk.specs.Kept.{AreFewAsked, IsAsked, IsKept, IsUnended, StandsFirst, Stays, all_turns, octets_most, drops_most}
+use Rattle.bng_desk.specs.Logins.{reply_items}
 use Rattle.bng_desk.specs.Model.{Desk, keys_in, is_over, grace_is_over, graces_most, grace_most, has_ended, has_starved, left_of, rounds_left, sessions_in, state_of, unopened_most}
 use Rattle.bng_desk.specs.Items.{kept_of, stays}
 use Rattle.bng_desk.specs.Random.{Drawn}
-use Rattle.bng_desk.specs.Reading.{EndsRight, is_empty}
-use Rattle.bng_desk.specs.Taking.{IsEmpty, KeepsTerms, HasFewSessions, AddsUp, AreInOrder, AreItems, AreTallied}
+use Rattle.bng_desk.specs.Taking.{AllTold, IsEmpty, KeepsTerms, HasFewSessions, AddsUp, AreInOrder, AreItems, AreTallied}
 use Rattle.bng_desk.proofs.Readying.{Shards, WorksBy}
 use Rattle.bng_desk.proofs.Returning.{HoldsOwn}
-use Rattle.bng_desk.specs.Turn.{ending_items, ending_draws, has_end, told_after, ReadsWhere}
+use Rattle.bng_desk.specs.Turn.{ending_items, ending_draws, has_end, told_after}
+use Rattle.bng_desk.specs.Reading.{is_empty}
 use Rattle.bng_desk.proofs.DropLaws.{within_wider}
 use Rattle.bng_desk.proofs.Ending.{after_ending}
 use Rattle.bng_desk.proofs.ItemLaws.{IsWhole}
@@ -44,7 +40,8 @@ use Rattle.bng_engine.specs.Views.{ShardView}
 use Rattle.bng_desk.proofs.Dwindling.{Nears, less_left, still_left, unopened_low}
 use Rattle.bng_desk.proofs.Joining.{HasLow, HasLowBooks, low_wider, books_wider}
 use Rattle.bng_desk.proofs.OneMore.{low_more}
-use Rattle.bng_desk.proofs.Staying.{AreEnds, IsStaying, are_there, ends_by, ending_few, ending_kept, ending_stays, few_while, items_of_ends, serving_stays, verdict_items, verdicts_stay}
+use Rattle.bng_desk.proofs.GatherLaws.{auth_few}
+use Rattle.bng_desk.proofs.Staying.{AreEnds, IsStaying, are_there, asked_items, asked_stay, ends_by, ending_few, ending_kept, ending_stays, few_asked, few_while, items_of_ends, serving_stays}
 use Rattle.bng_desk.proofs.Turning.{after_turn}
 use Rattle.bng_desk.proofs.Works.{kept_with}
 
@@ -171,7 +168,8 @@ pub record IsLeft (d : Desk) (moment : ℕ) (w : Works) : Type 0 where
   pub handed_is : length w.handed.items ≡ length d.handed
   pub billed : AreBilled (keys_in w.shards.items) w.accounts.billing
   pub knows : KnowsBegun w.shards.items w.accounts.billing
-  pub awaited : AreAwaited moment w.shards.items w.accounts.reports
+  pub awaited : AreWaiting moment w.shards.items w.accounts.reports
+  pub all_told : All AllTold w.shards.items
 
 -- what stays of the round
 pub record AreKept (d : Desk) (kept : List Item) : Type 0 where
@@ -181,10 +179,10 @@ pub record AreKept (d : Desk) (kept : List Item) : Type 0 where
 pub none_kept : (d : Desk) → AreKept d []
 none_kept d = record {
   items = record { few = omega arith; whole = λ k e l. absurd (omega arith); once = λ i j e low high. absurd (omega arith) };
-  stays = record { verdicts = []; ends = []; are = refl; all_verdicts = λ k e l. absurd (omega arith); few = omega arith; one_each = inl refl };
+  stays = record { asked = []; ends = []; are = refl; all_asked = λ k e l. absurd (omega arith); few = record { verdicts = omega arith; changes = omega arith }; one_each = inl refl };
 }
 
-pub kept_served : (d : Desk) (w : Works) (stopped : Bool) (moment told : ℕ) → IsKept d → is_over d ≡ false → d.turns < d.rounds → d.moment ≤ moment → IsLeft d moment w → told ≤ d.told + 1 → AreKept d w.kept.items → All is_verdict w.kept.items
+pub kept_served : (d : Desk) (w : Works) (stopped : Bool) (moment told : ℕ) → IsKept d → is_over d ≡ false → d.turns < d.rounds → d.moment ≤ moment → IsLeft d moment w → told ≤ d.told + 1 → AreKept d w.kept.items → All IsAsked w.kept.items
     → IsKept (after_turn (kept_with d w) stopped moment told)
 kept_served d w stopped moment told k serves turns later l up staying verdicts =
     let u = k.serving serves in
@@ -227,6 +225,7 @@ kept_served d w stopped moment told k serves turns later l up staying verdicts =
       billed = l.billed;
       knows = l.knows;
       awaited = l.awaited;
+      all_told = l.all_told;
     }
 
 -- what a turn of the ending leaves of those that there may be
@@ -284,13 +283,14 @@ kept_ended d w unopened closed closing moment told k over near later before l up
   counts = within_wider (drops_most * all_turns d + drops_most) (drops_most * (d.turns + (d.endings + 1))) w.drops (omega arith) l.counts;
   kept = staying.items;
   stays = subst (λ (n : ℕ). Stays n w.kept.items) (sym l.shards) staying.stays;
-  while_serving = λ serves. not_served (is_over d) (All is_verdict w.kept.items) over serves;
+  while_serving = λ serves. not_served (is_over d) (All IsAsked w.kept.items) over serves;
   handed = l.handed_is ∙ k.handed ∙ sym l.shards;
   closing = before;
   graces = k.graces;
   billed = l.billed;
   knows = l.knows;
   awaited = l.awaited;
+  all_told = l.all_told;
 }
 
 -- the number of the last round that the trace took rises by one at most
@@ -300,55 +300,34 @@ few_told false n = omega arith
 
 -- The items of a round ------------------------------------------------------------------------------------------------------
 
--- of verdicts that stay while the desk serves there are few
-pub few_kept : (d : Desk) → IsKept d → is_over d ≡ false → length d.kept ≤ 128
+-- of what stays while the desk serves there is little
+pub few_kept : (d : Desk) → IsKept d → is_over d ≡ false → AreFewAsked d.kept
 few_kept d k serves = few_while (length d.shards) d.kept (omega (arith, k.some_shard, k.shards)) k.stays (k.while_serving serves)
 
 -- what stays of the items of a turn while serving
 pub record StaysServing (d : Desk) (items : List Item) : Type 0 where
-  pub few : length (kept_of items) ≤ 128
-  pub verdicts : All is_verdict (kept_of items)
+  pub few : length (kept_of items) ≤ 160
+  pub asked : All IsAsked (kept_of items)
   pub kept : AreKept d (kept_of items)
 
-ends_few : (most n : ℕ) (ended : Reading) → EndsRight most n ended → n ≤ most
-ends_few most n Full e = omega (arith, e)
-ends_few most n Dry lt = omega (arith, lt)
-ends_few most n Broken lt = omega (arith, lt)
-
-one_reply : (a : Arrival) (found : Option QuestionNo) → length (reply_in a found) ≤ 1
-one_reply a None = omega arith
-one_reply a (Some q) = omega arith
-
-replies_few : (answers : List Answered) → length (reply_items answers) ≤ length answers
-replies_few [] = omega arith
-replies_few (a ∷ answers) = omega (arith, replies_few answers, length-append (reply_in a.arrival a.found) (reply_items answers), one_reply a.arrival a.found)
-
--- there are replies only where nothing stays
-replies_by : (kept : List Item) (answers : List Answered) (auth_end : Option Reading) → ReadsWhere (is_empty kept) answers auth_end → (length (reply_items answers) ≡ 0) ⊎ ((length kept ≡ 0) × (length (reply_items answers) ≤ 128))
-replies_by [] answers auth_end reads = inr (refl, omega (arith, replies_few answers, ends_few 128 (length answers) reads.0 reads.2))
-replies_by (i ∷ kept) answers auth_end reads = inl (ap (λ (xs : List Answered). length (reply_items xs)) reads.1)
-
-given_few : (kept replies timed : ℕ) → kept ≤ 128 → (replies ≡ 0) ⊎ ((kept ≡ 0) × (replies ≤ 128)) → timed ≤ 128 - (kept + replies) → kept + replies + timed ≤ 128
-given_few kept replies timed few (inl e) given = omega (arith, few, e, given)
-given_few kept replies timed few (inr e) given = omega (arith, few, e.0, e.1, given)
-
-pub serving_staying : (d : Desk) (vs : Shards) (moment : ℕ) (p p' : PlantTold) (l l' : LaneState) (draws draws' : Drawn) (items : List Item) (quiet : Bool) → Gathers d.rules vs moment d.kept p p' l l' draws draws' items quiet → AreItems items → All is_verdict d.kept → length d.kept ≤ 128
-    → StaysServing d items
-serving_staying d vs moment p p' l l' draws draws' items quiet g whole verdicts few =
-    let most = length d.kept + length (reply_items g.answers) + length g.timed in
-    let staying : IsStaying items most = subst (λ (is : List Item). IsStaying is most) (sym g.items_are) (serving_stays d.rules draws.seed draws.drawn moment d.kept g.answers g.readings g.timed vs verdicts g.are_roles) in
-    let all_few : most ≤ 128 = given_few (length d.kept) (length (reply_items g.answers)) (length g.timed) few (replies_by d.kept g.answers g.auth_end g.auth) g.times_out.few in
-    let these : length (kept_of items) ≤ 128 = omega (arith, staying.few, all_few) in
+pub serving_staying : (d : Desk) (vs : Shards) (moment : ℕ) (reads : Bool) (verdicts : ℕ) (front : List Item) (p p' : PlantTold) (l l' : LaneState) (draws draws' : Drawn) (items : List Item) (quiet : Bool)
+    → Gathers d.rules vs moment reads verdicts front p p' l l' draws draws' items quiet → AreItems items → StandsFirst reads verdicts front → StaysServing d items
+serving_staying d vs moment reads verdicts front p p' l l' draws draws' items quiet g whole first =
+    let few_verdicts : verdicts ≤ 128 = omega (arith, first.count, first.few.verdicts) in
+    let enough : verdicts + length (reply_items g.answers) ≤ 128 = auth_few reads verdicts g.answers g.auth_end g.auth few_verdicts first.none in
+    let staying : IsStaying items = subst IsStaying (sym g.items_are)
+    (serving_stays d.rules draws.seed draws.drawn moment front g.answers g.readings g.timed vs g.are_roles first.all_asked first.few.changes (omega (arith, first.count, enough, g.times_out.few))) in
+    let these : length (kept_of items) ≤ 160 = few_asked (kept_of items) staying.asked staying.few in
     record {
       few = these;
-      verdicts = staying.verdicts;
+      asked = staying.asked;
       kept = record {
-        items = verdict_items (kept_of items) staying.verdicts (All-filter (λ (i : Item). stays i.kind) IsWhole items whole.whole) (omega (arith, these));
-        stays = verdicts_stay (length d.shards) (kept_of items) staying.verdicts these;
+        items = asked_items (kept_of items) staying.asked (All-filter (λ (i : Item). stays i.kind) IsWhole items whole.whole) (omega (arith, these));
+        stays = asked_stay (length d.shards) (kept_of items) staying.asked staying.few;
       };
     }
 
--- the items of a round of the ending are verdicts that stay and an End for each shard
+-- the items of a round of the ending are requests and verdicts that stay and an End for each shard
 pub are_ends_of : (d : Desk) → IsKept d → AreEnds (length d.shards) (ending_items d)
 are_ends_of d k = ends_by (has_end d.kept) (length d.shards) d.kept d.seed d.drawn k.stays k.kept (are_there (length d.shards) d.kept (omega (arith, k.some_shard, k.shards)) k.stays)
 
@@ -358,7 +337,7 @@ ends_kept d items k e =
     subst (λ (is : List Item). AreKept d is) (sym (ending_stays (length d.shards) items e))
     (record { items = items_of_ends (length d.shards) items (omega (arith, k.shards, k.few_shards)) e; stays = ending_kept (length d.shards) items e })
 
-pub ends_few_kept : (d : Desk) (items : List Item) → IsKept d → AreEnds (length d.shards) items → length (kept_of items) ≤ 192
+pub ends_few_kept : (d : Desk) (items : List Item) → IsKept d → AreEnds (length d.shards) items → length (kept_of items) ≤ 224
 ends_few_kept d items k e = omega (arith, ap (λ (is : List Item). length is) (ending_stays (length d.shards) items e), ending_few (length d.shards) items (omega (arith, k.shards, k.few_shards)) e)
 
 draws_by : (b : Bool) (n : ℕ) → n ≤ 64 → cond b 0 n ≤ 64

@@ -56,6 +56,10 @@ pub mod Turning
 pub mod Ending
 pub mod Keeping
 pub mod Leaving
+pub mod Telling
+pub mod CoaLaws
+pub mod Texts
+pub mod StatsTold
 pub mod LoginLaws
 pub mod RadiusSends
 pub mod RequestLaws

@@ -172,7 +172,7 @@ module _ (r : Rules) (circuits : List Static) (now : ℕ) (served : AreServed r 
   opened_keeps few n low =
       let of = are_of r circuits n served in
       record {
-        sound = opened_sound n (of_shard circuits n) of.sessions r.profiles now low of.own;
+        sound = opened_sound now n (of_shard circuits n) of.sessions r.profiles low of.own;
         number = refl;
         tenures = tenures_opened n now r.profiles (of_shard circuits n) of.own;
         owes_none = refl;

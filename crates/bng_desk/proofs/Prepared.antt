@@ -10,15 +10,16 @@ use Rattle.bng_engine.specs.Terms.{Key}
 use Rattle.bng_engine.specs.Views.{ShardView}
 use Rattle.bng_shard.specs.declared.rules.Rules.{Rules}
 use Rattle.bng_shard.specs.Protocol.{ShardState}
+use Rattle.bng_desk.specs.declared.coa.Repeated.{Repeated}
 use Rattle.bng_desk.specs.declared.holding.Named.{Named}
 use Rattle.bng_desk.specs.declared.lists.Lists.{Lists}
 use Rattle.bng_desk.specs.declared.settlement.Works.{Works}
 use Rattle.bng_desk.specs.Accounting.{AreBilled, KnowsBegun}
 use Rattle.bng_desk.specs.Holding.{IsPrepared}
-use Rattle.bng_desk.specs.Interims.{AreAwaited}
+use Rattle.bng_desk.specs.Interims.{AreWaiting}
 use Rattle.bng_desk.specs.Model.{keys_in}
 use Rattle.bng_desk.specs.Settlement.{AreBlank, IsReady, KeepsWorks}
-use Rattle.bng_desk.specs.Taking.{AddsUp, AreInOrder, AreTallied, HasNumbers, HasRows, IsEmpty, KeepsTerms, outs_of_items}
+use Rattle.bng_desk.specs.Taking.{AllTold, AddsUp, AreInOrder, AreTallied, HasNumbers, HasRows, IsEmpty, KeepsTerms, outs_of_items}
 use Rattle.bng_desk.proofs.Awaited.{awaited_held}
 use Rattle.bng_desk.proofs.Joining.{HasLow, HasLowBooks, books_kept, low_kept, sessions_kept}
 use Rattle.bng_desk.proofs.Readying.{Shards, WorksBy, all_onward, order_kept}
@@ -39,8 +40,8 @@ pub record StandReady (r : Rules) (named : Named) (lists : Lists) (w : Works) (v
   pub adds_up : AddsUp w.tally vs w.accounts.stopped
   pub billed : AreBilled (keys_in vs) w.accounts.billing
   pub knows : KnowsBegun vs w.accounts.billing
-  pub awaited : AreAwaited named.moment vs w.accounts.reports
-  pub few_outs : outs_of_items lists.items.items ≤ 8000 + 320 * length vs
+  pub awaited : AreWaiting named.moment vs w.accounts.reports
+  pub few_outs : outs_of_items lists.items.items ≤ 8320 + 320 * length vs
   pub blank : AreBlank (length vs) lists
   pub roomy : All (λ (v : ShardView ShardState Entry). IsRoomy (length lists.items.items) v.allowance v) vs
   pub rows : All HasRows vs
@@ -101,6 +102,7 @@ module _ (w : Works) (shards : Vec (ShardView ShardState Entry) Global) (spare :
     billed = subst (λ (ks : List Key). AreBilled ks w.accounts.billing) (sym (kept_keys w.shards.items shards.items kept)) was.billed;
     knows = knows_held w.shards.items shards.items w.accounts.billing kept was.knows;
     awaited = awaited_held named.moment w.shards.items shards.items w.accounts.reports kept was.awaited;
+    all_told = all_onward Kept AllTold (λ x y k here. ap (λ (s : ShardState). s.changed) k.state ∙ here) w.shards.items shards.items kept was.all_told;
     moment = was.moment;
     counts = was.counts;
     drawn = was.drawn;
@@ -136,3 +138,45 @@ module _ (w : Works) (shards : Vec (ShardView ShardState Entry) Global) (spare :
     knows = k.knows;
     awaited = k.awaited;
   }
+
+-- the replies that are sent again stand beside what a round is opened with
+pub ready_with : (r : Rules) (named : Named) (lists : Lists) (w : Works) (repeats : Vec Repeated Global) → IsReady r named lists w → IsReady r named (record lists { repeats = repeats }) w
+ready_with r named lists w repeats was = record {
+  count = was.count;
+  some = was.some;
+  few = was.few;
+  order = was.order;
+  empty = was.empty;
+  sessions = was.sessions;
+  places = was.places;
+  held = was.held;
+  pools = was.pools;
+  one_rule = was.one_rule;
+  terms = was.terms;
+  low = was.low;
+  books = was.books;
+  tally = was.tally;
+  tallied = was.tallied;
+  adds_up = was.adds_up;
+  billed = was.billed;
+  knows = was.knows;
+  awaited = was.awaited;
+  all_told = was.all_told;
+  moment = was.moment;
+  counts = was.counts;
+  drawn = was.drawn;
+  handed = was.handed;
+  none_kept = was.none_kept;
+  room = was.room;
+  items = was.items;
+  few_outs = was.few_outs;
+  blank = record {
+    loose = was.blank.loose;
+    loose_room = was.blank.loose_room;
+    journals = was.blank.journals;
+    journals_room = was.blank.journals_room;
+    outs = was.blank.outs;
+    outs_room = was.blank.outs_room;
+    allowances = was.blank.allowances;
+  };
+}

@@ -24,6 +24,7 @@ use Rattle.bng_engine.proofs.SameLists.{same_equal}
 use Rattle.bng_engine.proofs.Walks.{same_at}
 use Rattle.bng_pool.specs.Plain.{PlainView}
 use Rattle.bng_pool.specs.Tables.{TableFrees, entry}
+use Rattle.bng_shard.specs.declared.changes.Answer.{Answer}
 use Rattle.bng_shard.specs.declared.rules.Rules.{Rules}
 use Rattle.bng_shard.specs.Lasting.{AreTenures}
 use Rattle.bng_shard.specs.Protocol.{ShardState, AreHeld, Handled, Leaves, pppoe, ended_terms, key_in, term_in, terms_of}
@@ -56,6 +57,7 @@ pub record LeavesSome (v w : ShardView ShardState Entry) (stops : List Stop) : T
   pub reaping : InReaping pppoe (seen v []) (seen w stops)
   pub rules : w.state.rules ≡ v.state.rules
   pub slots : reaped_slots w.state.slots ≡ reaped_slots v.state.slots
+  pub changed : w.state.changed ≡ v.state.changed
   pub among : AreAmong w.state.slots.terms v.state.slots.terms
   pub fit : Same (row_keys v.rows) (keys (terms_of v.state)) → Same (row_keys w.rows) (keys (terms_of w.state))
   pub count : length stops + terms_by w ≡ terms_by v
@@ -70,6 +72,7 @@ leaves_none v = record {
   reaping = reaping_begins pppoe (seen v []) refl;
   rules = refl;
   slots = refl;
+  changed = refl;
   among = λ user class began k any. any;
   fit = λ h. h;
   count = omega arith;
@@ -103,6 +106,7 @@ leaves_more v w w' stops s t some one left = record {
   reaping = reaping_goes_on pppoe (seen v []) (seen w stops) s (seen w' (stops ++ s ∷ [])) some.reaping (record { one = one.one; least = one.least; rows = one.rows; stops = refl });
   rules = one.rules ∙ some.rules;
   slots = one.slots ∙ some.slots;
+  changed = one.changed ∙ some.changed;
   among = λ user class began k any. some.among user class began k (among_left_by w.state.slots.terms w'.state.slots.terms t left user class began k any);
   fit = λ h. same_equal (row_keys w'.rows) (keys (terms_of w'.state)) one.fit;
   count = omega (arith, some.count, one_less w w' t left, length-append stops (s ∷ []));
@@ -221,8 +225,8 @@ over room w = record w { state = record w.state { slots = reaped_slots w.state.s
 pub settled_is : (v : ShardView ShardState Entry) → reaped_slots v.state.slots ≡ v.state.slots → v ≡ over v.room v
 settled_is v same = ap (λ (s : State). record v { state = record v.state { slots = s } }) (sym same)
 
-abbrev state_with : Rules → State → ShardState
-state_with rules slots = record { rules = rules; slots = slots }
+abbrev state_with : Rules → State → List Answer → ShardState
+state_with rules slots changed = record { rules = rules; slots = slots; changed = changed }
 
 module _ (w w' : ShardView ShardState Entry) (room : ℕ) (none : filter is_ended (terms_of w.state) ≡ []) (is : w' ≡ over room w) where
   -- those that are left are all that were there
@@ -246,7 +250,8 @@ module _ (w w' : ShardView ShardState Entry) (room : ℕ) (none : filter is_ende
   leaves_all v stops some few = record {
     order = some.reaping.order;
     each = reaping_ends pppoe (seen v []) (seen w stops) some.reaping none;
-    state = ap (λ (x : ShardView ShardState Entry). x.state) is ∙ ap (λ (r : Rules). state_with r (reaped_slots w.state.slots)) some.rules ∙ ap (λ (s : State). state_with v.state.rules s) some.slots;
+    state = ap (λ (x : ShardView ShardState Entry). x.state) is ∙ ap (λ (r : Rules). state_with r (reaped_slots w.state.slots) w.state.changed) some.rules
+        ∙ ap (λ (s : State). state_with v.state.rules s w.state.changed) some.slots ∙ ap (λ (answers : List Answer). state_with v.state.rules (reaped_slots v.state.slots) answers) some.changed;
     fit = λ h. same_fit (some.fit h);
     rows = λ q pick input. omega (arith, some.reaping.rows q pick input, ap (rows_where q pick input) rows_are);
     count = omega (arith, some.count, ap (λ (ts : List Tenure). length (map term_in ts)) same_terms);

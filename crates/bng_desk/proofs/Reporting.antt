@@ -22,7 +22,7 @@ use Rattle.bng_shard.specs.Interims.{Reports, owed, with_report}
 use Rattle.bng_shard.specs.Protocol.{SaysOf}
 use Rattle.bng_shard.specs.Tenures.{Tenure}
 use Rattle.bng_desk.specs.Accounting.{FormedRecord}
-use Rattle.bng_desk.specs.Interims.{AreAwaited, AwaitsAt, FormsInterim, FormsInterims, TakesInterims, last_after, owed_by}
+use Rattle.bng_desk.specs.Interims.{AreAwaited, AreWaiting, AwaitsAt, WaitsAt, FormsInterim, FormsInterims, TakesInterims, last_after, owed_by}
 use Rattle.bng_desk.specs.Model.{keys_in}
 use Rattle.bng_desk.specs.Round.{terms_in}
 use Rattle.bng_desk.specs.Taking.{KeepsHeld, ReportsShard, Shown, states_of}
@@ -32,7 +32,7 @@ use Rattle.bng_desk.proofs.Parts.{all_left, all_right}
 use Rattle.bng_desk.proofs.Readying.{Shards}
 use Rattle.bng_desk.proofs.ShardKeys.{keys_of, keys_split, shard_at, tenures_among}
 use Rattle.bng_desk.proofs.TermsLeft.{keys_there}
-use Rattle.bng_desk.proofs.Zips.{zip3_length, zip3_push, zip_at}
+use Rattle.bng_desk.proofs.Zips.{zip3_length, zip3_push, zip_at, zip_push}
 
 -- What is held --------------------------------------------------------------------------------------------------------------
 
@@ -198,10 +198,11 @@ pub record ReportsFew (moment wall : ℕ) (vs : Shards) (i : ℕ) (rs rs' : List
   pub count : length rs' ≡ length rs
   pub rest : drop i rs' ≡ drop i rs
   pub awaited : AreAwaited moment vs rs'
+  pub waiting : AreWaiting moment (take i vs) (take i rs')
   pub held : KeepsHeld b b'
 
 pub few_none : (moment wall : ℕ) (vs : Shards) (rs : List Reports) (b : BillingState) → AreAwaited moment vs rs → ReportsFew moment wall vs 0 rs rs b b
-few_none moment wall vs rs b awaited = record { formed = []; forms = (refl, refl); taken = tt; count = refl; rest = refl; awaited = awaited; held = held_none b }
+few_none moment wall vs rs b awaited = record { formed = []; forms = (refl, refl); taken = tt; count = refl; rest = refl; awaited = awaited; waiting = tt; held = held_none b }
 
 tails : (xs ys : List Reports) (i : ℕ) → drop i xs ≡ drop i ys → drop (i + 1) xs ≡ drop (i + 1) ys
 tails xs ys i e = sym (drop-drop 1 i xs) ∙ ap (drop 1) e ∙ drop-drop 1 i ys
@@ -217,7 +218,7 @@ live_there b b' vs i v is lt keeps live =
 
 -- one shard more
 pub few_more : (moment wall : ℕ) (vs : Shards) (i : ℕ) (v : Shown) (d : Reports) (rs rs' : List Reports) (r : Reports) (b b' b'' : BillingState) → v ≡ get_or vs i v → i < length vs → length vs ≡ length rs
-    → ReportsFew moment wall vs i rs rs' b b' → ReportsShard moment wall v (get_or rs' i d) r b' b'' → AwaitsAt moment v r → KeepsHeld b' b'' → ReportsFew moment wall vs (i + 1) rs (set rs' i r) b b''
+    → ReportsFew moment wall vs i rs rs' b b' → ReportsShard moment wall v (get_or rs' i d) r b' b'' → WaitsAt moment v r → KeepsHeld b' b'' → ReportsFew moment wall vs (i + 1) rs (set rs' i r) b b''
 few_more moment wall vs i v d rs rs' r b b' b'' is lt same so_far one awaits held =
     let at = shard_at vs i v is lt in
     let terms = terms_in (states_of vs) in
@@ -242,7 +243,10 @@ few_more moment wall vs i v d rs rs' r b b' b'' is lt same so_far one awaits hel
           (zip3_push (TakesInterims moment) (take i vs) (take i rs) (take i rs') v was r so_far.taken (subst (λ (q : Reports). TakesInterims moment v q r) here one.taken))));
       count = length-set rs' i r ∙ so_far.count;
       rest = drop-set-lt (i + 1) rs' i r (omega arith) ∙ tails rs' rs i so_far.rest;
-      awaited = zip_set (AwaitsAt moment) vs rs' i v r so_far.awaited (subst (λ (u : Shown). AwaitsAt moment u r) is awaits);
+      awaited = zip_set (AwaitsAt moment) vs rs' i v r so_far.awaited (subst (λ (u : Shown). AwaitsAt moment u r) is (record { awaits = λ empty. awaits.waits; soon = awaits.soon }));
+      waiting = subst (λ (us : Shards). AreWaiting moment us (take (i + 1) (set rs' i r))) (sym at.next)
+          (subst (λ (qs : List Reports). AreWaiting moment (take i vs ++ v ∷ []) qs) (sym (take_more_set rs' i r within'))
+          (zip_push (WaitsAt moment) (take i vs) (take i rs') v r so_far.waiting awaits));
       held = held_more b b' b'' so_far.held held;
     }
 
@@ -273,3 +277,6 @@ module _ (moment wall : ℕ) (vs : Shards) (i : ℕ) (rs rs' : List Reports) (b 
       subst (λ (us : Shards). Zip3 (TakesInterims moment) us rs rs') whole
       (subst (λ (qs : List Reports). Zip3 (TakesInterims moment) (take i vs) qs rs') whole_rs
       (subst (λ (qs : List Reports). Zip3 (TakesInterims moment) (take i vs) (take i rs) qs) whole_rs' x.taken))
+
+  pub each_waiting : AreWaiting moment vs rs'
+  each_waiting = subst (λ (us : Shards). AreWaiting moment us rs') whole (subst (λ (qs : List Reports). AreWaiting moment (take i vs) qs) whole_rs' x.waiting)

@@ -1,6 +1,6 @@
 -- Shards between rounds, as the desk's contracts see them.
 use Rattle.std.proofs.Common.{◌≡◌, ℕ, zero, suc, ◌+◌, Bool, true, false, cond, List, [], ◌∷◌, Option, None, map, filter, fold, slice_get, refl, sym, ap, ◌∙◌, arith}
-use Rattle.std.specs.List.{AllZip}
+use Rattle.std.specs.List.{AllByRecursion, AllZip}
 use Rattle.std.proofs.lemmas.List.Sums.{sum_by-cons}
 use Rattle.bng_base.specs.declared.address.Ip4.{Ip4}
 use Rattle.bng_base.specs.declared.book.Book.{Book}
@@ -17,6 +17,7 @@ use Rattle.bng_engine.specs.Views.{Row, ShardView}
 use Rattle.bng_engine.proofs.Adding.{sum_map}
 use Rattle.bng_ppp.specs.LinkRelation.{earliest}
 use Rattle.bng_pool.specs.Plain.{PlainView}
+use Rattle.bng_shard.specs.declared.changes.Answer.{Answer}
 use Rattle.bng_shard.specs.declared.rules.Rules.{Rules}
 use Rattle.bng_shard.specs.declared.sums.Traffic.{Traffic}
 use Rattle.bng_shard.specs.Protocol.{ShardState, Handled, pppoe, deadline_of, sessions_of}
@@ -25,7 +26,7 @@ use Rattle.bng_desk.specs.Items.{for_shard, is_due, ticks_of}
 use Rattle.bng_desk.specs.Kept.{rested}
 use Rattle.bng_desk.specs.Model.{begun_in, sessions_in, carried_on, live_of, live_terms, plus_traffic, traffic_at, traffic_under}
 use Rattle.bng_desk.specs.Round.{Round, IsRound, left_by, views_of, view_of, view_after}
-use Rattle.bng_desk.specs.Taking.{IsLeftBy, live_by}
+use Rattle.bng_desk.specs.Taking.{AllTold, IsLeftBy, live_by, told_all}
 use Rattle.bng_desk.specs.Turn.{deadline_in}
 use Rattle.bng_desk.proofs.InAll.{book_is, live_in_all, terms_by}
 
@@ -110,16 +111,27 @@ kept_rested (v ∷ vs) (w ∷ ws) h =
     ∙ ap (λ (bs : List Book). made v.number v.state v.rows bs ∷ map rested ws) h.0.books
     ∙ ap (λ (xs : Shards). rested v ∷ xs) (kept_rested vs ws h.1)
 
-pub left_rested : (ws : Shards) (xs : List (ShardView ShardState Handled)) → AllZip IsLeftBy ws xs → map rested ws ≡ map left_by xs
+abbrev all_told : ShardState → ShardState
+all_told s = record s { changed = [] }
+
+-- once all was told that they answered to requests for changes
+pub left_rested : (ws : Shards) (xs : List (ShardView ShardState Handled)) → AllZip IsLeftBy ws xs → map rested (map told_all ws) ≡ map left_by xs
 left_rested [] [] h = refl
 left_rested [] (x ∷ xs) h = absurd h
 left_rested (w ∷ ws) [] h = absurd h
 left_rested (w ∷ ws) (x ∷ xs) h =
-    ap (λ (n : ℕ). made n w.state w.rows w.books ∷ map rested ws) h.0.number
-    ∙ ap (λ (s : ShardState). made x.number s w.rows w.books ∷ map rested ws) h.0.state
-    ∙ ap (λ (rs : List Row). made x.number x.state rs w.books ∷ map rested ws) h.0.rows
-    ∙ ap (λ (bs : List Book). made x.number x.state x.rows bs ∷ map rested ws) h.0.books
+    ap (λ (n : ℕ). made n (all_told w.state) w.rows w.books ∷ map rested (map told_all ws)) h.0.number
+    ∙ ap (λ (s : ShardState). made x.number (all_told s) w.rows w.books ∷ map rested (map told_all ws)) h.0.state
+    ∙ ap (λ (rs : List Row). made x.number (all_told x.state) rs w.books ∷ map rested (map told_all ws)) h.0.rows
+    ∙ ap (λ (bs : List Book). made x.number (all_told x.state) x.rows bs ∷ map rested (map told_all ws)) h.0.books
     ∙ ap (λ (ys : Shards). left_by x ∷ ys) (left_rested ws xs h.1)
+
+-- where nothing was left to be told they are as they were
+pub told_rested : (vs : Shards) → AllByRecursion AllTold vs → map rested (map told_all vs) ≡ map rested vs
+told_rested [] told = refl
+told_rested (v ∷ vs) told =
+    ap (λ (bs : List Answer). let s : ShardState = record v.state { changed = bs } in made v.number s v.rows v.books ∷ map rested (map told_all vs)) (sym told.0)
+    ∙ ap (λ (xs : Shards). rested v ∷ xs) (told_rested vs told.1)
 
 -- a turn sees of a shard before it what is kept
 moves_rested : (v : ShardView ShardState Entry) (x : ShardView ShardState Handled) → Moves pppoe (with_journal v []) x → Moves pppoe (with_journal (rested v) []) x

@@ -1,23 +1,24 @@
 -- What stays of a round that was not opened, and the items of a round of the ending.
 use Rattle.std.proofs.Common.{◌≡◌, ◌⊎◌, inl, inr, ℕ, zero, suc, ◌+◌, ◌*◌, ◌<◌, ◌≤◌, Bool, true, false, ◌||◌, cond, List, [], ◌∷◌, ◌++◌, Option, None, Some, map, length, take, drop, get_or, append-nil, refl, sym, ap, subst, ◌∙◌, arith}
-use Rattle.std.specs.List.{All, AllPairs, AllZip, filter, range_with_len}
+use Rattle.std.specs.List.{All, AllPairs, AllZip, count_by, filter, range_with_len}
 use Rattle.std.proofs.lemmas.Bool.{false≢true}
 use Rattle.std.proofs.lemmas.List.{get_or-map, length-append, length-map, take-append-drop, take_more}
 use Rattle.std.proofs.lemmas.List.Elements.{All-nil, All-cons, All-head, All-tail, All-append, All-map, filter-append}
 use Rattle.std.proofs.lemmas.List.Kept.{AllPairs-filter}
-use Rattle.std.proofs.lemmas.List.Sums.{count_by-le-length, length-filter, sum_by-append, sum_by-le}
+use Rattle.std.proofs.lemmas.List.Sums.{count_by-le-length, length-filter, sum_by-append, sum_by-cons, sum_by-le}
 use Rattle.bng_base.specs.declared.item.Entry.{Entry}
 use Rattle.bng_base.specs.declared.item.Item.{Item}
 use Rattle.bng_base.specs.declared.item.ItemKind.{ItemKind}
 use Rattle.bng_base.specs.declared.item.ItemKind.TheVariants.{Access, Core, Tunnel, Verdict, Change, Tick, End}
+use Rattle.bng_engine.specs.Lists.{one_if}
 use Rattle.bng_engine.specs.Views.{ShardView}
 use Rattle.bng_shard.specs.declared.rules.Rules.{Rules}
 use Rattle.bng_shard.specs.Hearing.{outs_most}
 use Rattle.bng_shard.specs.Protocol.{ShardState}
 use Rattle.bng_shard.specs.Room.{is_end}
 use Rattle.bng_verdict.specs.declared.question.QuestionNo.{QuestionNo}
-use Rattle.bng_desk.specs.Items.{DataReading, drawn_from, ends_of, for_shard, is_from_outside, kept_of, stays, taken_items, ticks_of}
-use Rattle.bng_desk.specs.Kept.{AreEndsOf, Stays, is_verdict, undrawn}
+use Rattle.bng_desk.specs.Items.{DataReading, drawn_from, ends_of, for_shard, is_change_item, is_change_kind, is_from_outside, is_verdict_item, is_verdict_kind, kept_of, stays, taken_items, ticks_of}
+use Rattle.bng_desk.specs.Kept.{AreEndsOf, AreFewAsked, IsAsked, Stays, undrawn}
 use Rattle.bng_desk.specs.Logins.{Answered, reply_in, reply_items, silence, timeout_items, verdict_item}
 use Rattle.bng_desk.specs.Random.{draw}
 use Rattle.bng_desk.specs.Round.{refused_of}
@@ -95,104 +96,225 @@ all_stay [] all = refl
 all_stay (i ∷ is) all =
     ap (λ (b : Bool). cond b (i ∷ kept_of is) (kept_of is)) (All-head (λ (x : Item). does_stay x ≡ true) i is all) ∙ ap (λ (xs : List Item). i ∷ xs) (all_stay is (All-tail (λ (x : Item). does_stay x ≡ true) i is all))
 
-few_stay : (is : List Item) → length (kept_of is) ≤ length is
-few_stay is = omega (arith, length-filter does_stay is, count_by-le-length does_stay is)
-
 abbrev Goes : Item → Type 0
 Goes i = does_stay i ≡ false
 
--- a verdict, or an item that does not stay
+-- a request or a verdict stays, once, and is no Tick and no End
+pub asked_stays : (i : Item) → IsAsked i → does_stay i ≡ true
+asked_stays i (inl e) = ap stays e
+asked_stays i (inr e) = ap stays e
+
+pub asked_taken : (i : Item) → IsAsked i → IsTaken i
+asked_taken i (inl e) = ap is_once e
+asked_taken i (inr e) = ap is_once e
+
+pub asked_few : (i : Item) → IsAsked i → HasFew 10 i
+asked_few i (inl e) = subst (λ (k : ItemKind). outs_most k ≤ 10) (sym e) (omega arith)
+asked_few i (inr e) = subst (λ (k : ItemKind). outs_most k ≤ 10) (sym e) (omega arith)
+
+asked_no_end : (i : Item) → IsAsked i → is_end i.kind ≡ false
+asked_no_end i (inl e) = ap is_end e
+asked_no_end i (inr e) = ap is_end e
+
+asked_one : (i : Item) → IsAsked i → one_if (is_verdict_kind i.kind) + one_if (is_change_kind i.kind) ≡ 1
+asked_one i (inl e) = ap (λ (k : ItemKind). one_if (is_verdict_kind k) + one_if (is_change_kind k)) e
+asked_one i (inr e) = ap (λ (k : ItemKind). one_if (is_verdict_kind k) + one_if (is_change_kind k)) e
+
+-- Counts ----------------------------------------------------------------------------------------------------------------------
+
+-- how many are of such a kind
+abbrev pub counted : (ItemKind → Bool) → List Item → ℕ
+counted q is = count_by (λ (i : Item). q i.kind) is
+
+counted_cons : (q : ItemKind → Bool) (i : Item) (is : List Item) → counted q (i ∷ is) ≡ one_if (q i.kind) + counted q is
+counted_cons q i is = sum_by-cons (λ (x : Item). one_if (q x.kind)) i is
+
+pub counted_append : (q : ItemKind → Bool) (xs ys : List Item) → counted q (xs ++ ys) ≡ counted q xs + counted q ys
+counted_append q xs ys = sum_by-append (λ (x : Item). one_if (q x.kind)) xs ys
+
+pub counted_drawn : (q : ItemKind → Bool) (seed : List ℕ) (n : ℕ) (is : List Item) → counted q (drawn_from seed n is) ≡ counted q is
+counted_drawn q seed n [] = refl
+counted_drawn q seed n (i ∷ is) =
+    counted_cons q (record i { random = draw seed n }) (drawn_from seed (n + 1) is) ∙ ap (λ (k : ℕ). one_if (q i.kind) + k) (counted_drawn q seed (n + 1) is) ∙ sym (counted_cons q i is)
+
+pub counted_none : (q : ItemKind → Bool) (is : List Item) → All (λ (i : Item). q i.kind ≡ false) is → counted q is ≡ 0
+counted_none q [] all = refl
+counted_none q (i ∷ is) all =
+    let Not = λ (x : Item). q x.kind ≡ false in
+    omega (arith, counted_cons q i is, ap one_if (All-head Not i is all), counted_none q is (All-tail Not i is all))
+
+-- of what stays no more
+counted_kept : (q : ItemKind → Bool) (is : List Item) → counted q (kept_of is) ≤ counted q is
+counted_kept q [] = omega arith
+counted_kept q (i ∷ is) =
+    elim (does_stay i) as (λ b. counted q (cond b (i ∷ kept_of is) (kept_of is)) ≤ counted q (i ∷ is)) [
+      | true ↦ omega (arith, counted_cons q i (kept_of is), counted_cons q i is, counted_kept q is)
+      | false ↦ omega (arith, counted_cons q i is, counted_kept q is)
+    ]
+
+-- they are requests and verdicts, and so there are few
+asked_length : (is : List Item) → All IsAsked is → length is ≡ counted is_verdict_kind is + counted is_change_kind is
+asked_length [] all = refl
+asked_length (i ∷ is) all =
+    omega (arith, counted_cons is_verdict_kind i is, counted_cons is_change_kind i is, asked_one i (All-head IsAsked i is all), asked_length is (All-tail IsAsked i is all))
+
+pub few_asked : (is : List Item) → All IsAsked is → AreFewAsked is → length is ≤ 160
+few_asked is all few = omega (arith, asked_length is all, few.verdicts, few.changes)
+
+-- beside so many verdicts
+pub few_beside : (is : List Item) → All IsAsked is → AreFewAsked is → length is ≤ count_by is_verdict_item is + 32
+few_beside is all few = omega (arith, asked_length is all, few.changes)
+
+-- What stays of a turn while serving --------------------------------------------------------------------------------------------
+
+-- a request or a verdict, or an item that does not stay
 abbrev IsFine : Item → Type 0
-IsFine i = is_verdict i ⊎ (does_stay i ≡ false)
+IsFine i = IsAsked i ⊎ (does_stay i ≡ false)
 
-fine_one : (i : Item) (rest : List Item) → IsFine i → All is_verdict rest → All is_verdict (cond (does_stay i) (i ∷ rest) rest)
-fine_one i rest (inl v) all = subst (λ (b : Bool). All is_verdict (cond b (i ∷ rest) rest)) (sym (ap stays v)) (All-cons is_verdict i rest v all)
-fine_one i rest (inr e) all = subst (λ (b : Bool). All is_verdict (cond b (i ∷ rest) rest)) (sym e) all
+fine_one : (i : Item) (rest : List Item) → IsFine i → All IsAsked rest → All IsAsked (cond (does_stay i) (i ∷ rest) rest)
+fine_one i rest (inl v) all = subst (λ (b : Bool). All IsAsked (cond b (i ∷ rest) rest)) (sym (asked_stays i v)) (All-cons IsAsked i rest v all)
+fine_one i rest (inr e) all = subst (λ (b : Bool). All IsAsked (cond b (i ∷ rest) rest)) (sym e) all
 
-fine_stay : (is : List Item) → All IsFine is → All is_verdict (kept_of is)
-fine_stay [] all = All-nil is_verdict
+fine_stay : (is : List Item) → All IsFine is → All IsAsked (kept_of is)
+fine_stay [] all = All-nil IsAsked
 fine_stay (i ∷ is) all = fine_one i (kept_of is) (All-head IsFine i is all) (fine_stay is (All-tail IsFine i is all))
 
 pub each_weaker : (P Q : Item → Type 0) → ((i : Item) → P i → Q i) → (is : List Item) → All P is → All Q is
 each_weaker P Q f is all k d lt = f (get_or is k d) (all k d lt)
 
+abbrev pub is_verdict : Item → Type 0
+is_verdict i = i.kind ≡ Verdict
+
+pub verdict_asked : (i : Item) → is_verdict i → IsAsked i
+verdict_asked i v = inr v
+
 reply_verdict : (a : Answered) → (found : Option QuestionNo) → All is_verdict (reply_in a.arrival found)
 reply_verdict a None = All-nil is_verdict
 reply_verdict a (Some q) = All-cons is_verdict _ [] refl (All-nil is_verdict)
 
-pub replies_verdicts : (answers : List Answered) → All is_verdict (reply_items answers)
+replies_verdicts : (answers : List Answered) → All is_verdict (reply_items answers)
 replies_verdicts [] = All-nil is_verdict
 replies_verdicts (a ∷ answers) = All-append is_verdict (reply_in a.arrival a.found) (reply_items answers) (reply_verdict a a.found) (replies_verdicts answers)
 
-pub timeouts_verdicts : (timed : List QuestionNo) → All is_verdict (timeout_items timed)
+timeouts_verdicts : (timed : List QuestionNo) → All is_verdict (timeout_items timed)
 timeouts_verdicts timed = All-map is_verdict (verdict_item silence) timed (λ k d l. refl)
 
-drawn_stay : (seed : List ℕ) (n : ℕ) (is : List Item) → length (kept_of (drawn_from seed n is)) ≡ length (kept_of is)
-drawn_stay seed n [] = refl
-drawn_stay seed n (i ∷ is) =
-    elim (does_stay i) as (λ b. length (cond b (record i { random = draw seed n } ∷ kept_of (drawn_from seed (n + 1) is)) (kept_of (drawn_from seed (n + 1) is))) ≡ length (cond b (i ∷ kept_of is) (kept_of is))) [
-      | true ↦ ap suc (drawn_stay seed (n + 1) is)
-      | false ↦ drawn_stay seed (n + 1) is
-    ]
+pub replies_asked : (answers : List Answered) → All IsAsked (reply_items answers)
+replies_asked answers = each_weaker is_verdict IsAsked verdict_asked (reply_items answers) (replies_verdicts answers)
 
--- of a turn while serving the verdicts alone stay
-pub record IsStaying (is : List Item) (most : ℕ) : Type 0 where
-  pub verdicts : All is_verdict (kept_of is)
-  pub few : length (kept_of is) ≤ most
+pub timeouts_asked : (timed : List QuestionNo) → All IsAsked (timeout_items timed)
+timeouts_asked timed = each_weaker is_verdict IsAsked verdict_asked (timeout_items timed) (timeouts_verdicts timed)
 
-pub serving_stays : (r : Rules) (seed : List ℕ) (n moment : ℕ) (kept : List Item) (answers : List Answered) (readings : List DataReading) (timed : List QuestionNo) (shards : List (ShardView ShardState Entry)) → All is_verdict kept → map (λ (x : DataReading). x.role) readings ≡ data_roles r
-    → IsStaying (kept ++ drawn_from seed n (reply_items answers ++ taken_items readings ++ timeout_items timed ++ ticks_of moment shards)) (length kept + length (reply_items answers) + length timed)
-serving_stays r seed n moment kept answers readings timed shards verdicts roles =
-    let replies = reply_items answers in
-    let ts = taken_items readings in
-    let qs = timeout_items timed in
-    let ds = ticks_of moment shards in
-    let new = replies ++ ts ++ qs ++ ds in
-    let goes : All (λ i. does_stay i ≡ false) ts = taken_goes r readings roles in
-    let waits : All (λ i. does_stay i ≡ false) ds = all_due (λ (i : Item). does_stay i ≡ false) (λ shard. refl) moment shards in
-    let fine : All IsFine new =
-    All-append IsFine (replies ++ ts ++ qs) ds
-    (All-append IsFine (replies ++ ts) qs (All-append IsFine replies ts (each_weaker is_verdict IsFine (λ i v. inl v) replies (replies_verdicts answers)) (each_weaker Goes IsFine (λ i e. inr e) ts goes)) (each_weaker is_verdict IsFine (λ i v. inl v) qs (timeouts_verdicts timed)))
-    (each_weaker Goes IsFine (λ i e. inr e) ds waits) in
-    record {
-      verdicts = fine_stay (kept ++ drawn_from seed n new)
-          (All-append IsFine kept (drawn_from seed n new) (each_weaker is_verdict IsFine (λ i v. inl v) kept verdicts) (drawn_all IsFine (λ i octets holds. holds) seed n new fine));
-      few = omega (
-        arith,
-        ap (λ (is : List Item). length is) (kept_append kept (drawn_from seed n new)),
-        length-append (kept_of kept) (kept_of (drawn_from seed n new)),
-        few_stay kept,
-        drawn_stay seed n new,
-        ap (λ (is : List Item). length is) (kept_append (replies ++ ts ++ qs) ds),
-        length-append (kept_of (replies ++ ts ++ qs)) (kept_of ds),
-        ap (λ (is : List Item). length is) (kept_append (replies ++ ts) qs),
-        length-append (kept_of (replies ++ ts)) (kept_of qs),
-        ap (λ (is : List Item). length is) (kept_append replies ts),
-        length-append (kept_of replies) (kept_of ts),
-        few_stay replies,
-        ap (λ (is : List Item). length is) (none_stays ts goes),
-        few_stay qs,
-        length-map timed (verdict_item silence),
-        ap (λ (is : List Item). length is) (none_stays ds waits),
-      );
-    }
+-- a verdict is no request, and what does not stay is neither
+verdict_no_change : (i : Item) → is_verdict i → is_change_kind i.kind ≡ false
+verdict_no_change i v = ap is_change_kind v
 
--- verdicts are items of a round
+goes_no_verdict : (k : ItemKind) → stays k ≡ false → is_verdict_kind k ≡ false
+goes_no_verdict (Access number) e = refl
+goes_no_verdict Core e = refl
+goes_no_verdict Tunnel e = refl
+goes_no_verdict Verdict e = e
+goes_no_verdict Change e = refl
+goes_no_verdict Tick e = refl
+goes_no_verdict End e = refl
+
+goes_no_change : (k : ItemKind) → stays k ≡ false → is_change_kind k ≡ false
+goes_no_change (Access number) e = refl
+goes_no_change Core e = refl
+goes_no_change Tunnel e = refl
+goes_no_change Verdict e = refl
+goes_no_change Change e = e
+goes_no_change Tick e = refl
+goes_no_change End e = refl
+
+-- of a turn while serving the requests and the verdicts alone stay
+pub record IsStaying (is : List Item) : Type 0 where
+  pub asked : All IsAsked (kept_of is)
+  pub few : AreFewAsked (kept_of is)
+
+module _ (r : Rules) (seed : List ℕ) (n moment : ℕ) (front : List Item) (answers : List Answered) (readings : List DataReading) (timed : List QuestionNo) (shards : List (ShardView ShardState Entry)) (roles : map (λ (x : DataReading). x.role) readings ≡ data_roles r) where
+  abbrev rs : List Item
+  rs = reply_items answers
+
+  abbrev ts : List Item
+  ts = taken_items readings
+
+  abbrev qs : List Item
+  qs = timeout_items timed
+
+  abbrev ds : List Item
+  ds = ticks_of moment shards
+
+  abbrev new : List Item
+  new = rs ++ ts ++ qs ++ ds
+
+  goes : All Goes ts
+  goes = taken_goes r readings roles
+
+  waits : All Goes ds
+  waits = all_due Goes (λ shard. refl) moment shards
+
+  fine : All IsFine new
+  fine =
+      All-append IsFine (rs ++ ts ++ qs) ds
+      (All-append IsFine (rs ++ ts) qs (All-append IsFine rs ts (each_weaker IsAsked IsFine (λ i v. inl v) rs (replies_asked answers)) (each_weaker Goes IsFine (λ i e. inr e) ts goes)) (each_weaker IsAsked IsFine (λ i v. inl v) qs (timeouts_asked timed)))
+      (each_weaker Goes IsFine (λ i e. inr e) ds waits)
+
+  counted_new : (q : ItemKind → Bool) → counted q (front ++ drawn_from seed n new) ≡ counted q front + (counted q rs + counted q ts + counted q qs + counted q ds)
+  counted_new q = omega (arith, counted_append q front (drawn_from seed n new), counted_drawn q seed n new, counted_append q (rs ++ ts ++ qs) ds, counted_append q (rs ++ ts) qs, counted_append q rs ts)
+
+  none_of : (q : ItemKind → Bool) → ((k : ItemKind) → stays k ≡ false → q k ≡ false) → (counted q ts ≡ 0) × (counted q ds ≡ 0)
+  none_of q none = (
+    counted_none q ts (each_weaker Goes (λ (i : Item). q i.kind ≡ false) (λ i e. none i.kind e) ts goes),
+    counted_none q ds (each_weaker Goes (λ (i : Item). q i.kind ≡ false) (λ i e. none i.kind e) ds waits),
+  )
+
+  pub serving_stays : All IsAsked front → count_by is_change_item front ≤ 32 → count_by is_verdict_item front + length rs + length timed ≤ 128 → IsStaying (front ++ drawn_from seed n new)
+  serving_stays asked changes verdicts =
+      let Not = λ (i : Item). is_change_kind i.kind ≡ false in
+      let no_verdicts = none_of is_verdict_kind goes_no_verdict in
+      let no_changes = none_of is_change_kind goes_no_change in
+      record {
+        asked = fine_stay (front ++ drawn_from seed n new)
+            (All-append IsFine front (drawn_from seed n new) (each_weaker IsAsked IsFine (λ i v. inl v) front asked) (drawn_all IsFine (λ i octets holds. holds) seed n new fine));
+        few = record {
+          verdicts = omega (
+            arith,
+            counted_kept is_verdict_kind (front ++ drawn_from seed n new),
+            counted_new is_verdict_kind,
+            count_by-le-length is_verdict_item rs,
+            no_verdicts.0,
+            count_by-le-length is_verdict_item qs,
+            length-map timed (verdict_item silence),
+            no_verdicts.1,
+            verdicts,
+          );
+          changes = omega (
+            arith,
+            counted_kept is_change_kind (front ++ drawn_from seed n new),
+            counted_new is_change_kind,
+            counted_none is_change_kind rs (each_weaker is_verdict Not verdict_no_change rs (replies_verdicts answers)),
+            no_changes.0,
+            counted_none is_change_kind qs (each_weaker is_verdict Not verdict_no_change qs (timeouts_verdicts timed)),
+            no_changes.1,
+            changes,
+          );
+        };
+      }
+
+-- requests and verdicts are items of a round
 no_pairs : (is : List Item) → is ≡ [] → AllPairs IsBelow is
 no_pairs is e = subst (AllPairs IsBelow) (sym e) (λ i j d low high. absurd (omega arith))
 
-not_once : (i : Item) → is_verdict i → IsTaken i
-not_once i v = ap is_once v
-
-pub verdict_items : (is : List Item) → All is_verdict is → All IsWhole is → length is ≤ 1024 → AreItems is
-verdict_items is verdicts whole few = record {
+pub asked_items : (is : List Item) → All IsAsked is → All IsWhole is → length is ≤ 1024 → AreItems is
+asked_items is asked whole few = record {
   few = few;
   whole = whole;
-  once = no_pairs (filter (λ (i : Item). is_once i.kind) is) (ap (filter (λ (i : Item). is_once i.kind)) (sym (append-nil is)) ∙ none_kept is (each_weaker is_verdict IsTaken not_once is verdicts) []);
+  once = no_pairs (filter (λ (i : Item). is_once i.kind) is) (ap (filter (λ (i : Item). is_once i.kind)) (sym (append-nil is)) ∙ none_kept is (each_weaker IsAsked IsTaken asked_taken is asked) []);
 }
 
-pub verdicts_stay : (shards : ℕ) (is : List Item) → All is_verdict is → length is ≤ 128 → Stays shards is
-verdicts_stay shards is verdicts few = record { verdicts = is; ends = []; are = sym (append-nil is); all_verdicts = verdicts; few = few; one_each = inl refl }
+pub asked_stay : (shards : ℕ) (is : List Item) → All IsAsked is → AreFewAsked is → Stays shards is
+asked_stay shards is asked few = record { asked = is; ends = []; are = sym (append-nil is); all_asked = asked; few = few; one_each = inl refl }
 
 -- Ends ------------------------------------------------------------------------------------------------------------------
 
@@ -226,39 +348,36 @@ ends_below n is ends i j d low high =
       ap (λ (x : Item). x.target) (get_or-map undrawn is j d d high),
     )
 
--- the items of a round of the ending: verdicts that stay, and an End for each shard
+-- the items of a round of the ending: requests and verdicts that stay, and an End for each shard
 pub record AreEnds (shards : ℕ) (is : List Item) : Type 0 where
-  pub verdicts : List Item
+  pub asked : List Item
   pub ends : List Item
-  pub are : is ≡ verdicts ++ ends
-  pub all_verdicts : All is_verdict verdicts
-  pub few : length verdicts ≤ 128
+  pub are : is ≡ asked ++ ends
+  pub all_asked : All IsAsked asked
+  pub few : AreFewAsked asked
   pub each : AreEndsOf shards ends
   pub whole : All IsWhole is
 
 pub items_of_ends : (n : ℕ) (is : List Item) → n ≤ 64 → AreEnds n is → AreItems is
 items_of_ends n is low e =
     let once = λ (i : Item). is_once i.kind in
-    let these : filter once is ≡ filter once e.ends = ap (filter once) e.are ∙ none_kept e.verdicts (each_weaker is_verdict IsTaken not_once e.verdicts e.all_verdicts) e.ends in
+    let these : filter once is ≡ filter once e.ends = ap (filter once) e.are ∙ none_kept e.asked (each_weaker IsAsked IsTaken asked_taken e.asked e.all_asked) e.ends in
     record {
-      few = omega (arith, low, e.few, ends_count n e.ends e.each, ap (λ (xs : List Item). length xs) e.are, length-append e.verdicts e.ends);
+      few = omega (arith, low, few_asked e.asked e.all_asked e.few, ends_count n e.ends e.each, ap (λ (xs : List Item). length xs) e.are, length-append e.asked e.ends);
       whole = e.whole;
       once = subst (AllPairs IsBelow) (sym these) (AllPairs-filter IsBelow once e.ends (ends_below n e.ends e.each));
     }
 
-few_outs : (i : Item) → is_verdict i → HasFew 10 i
-few_outs i v = subst (λ (k : ItemKind). outs_most k ≤ 10) (sym v) (omega arith)
-
-pub outs_of_ending : (n : ℕ) (is : List Item) → AreEnds n is → outs_of_items is ≤ 8000 + 320 * n
+pub outs_of_ending : (n : ℕ) (is : List Item) → AreEnds n is → outs_of_items is ≤ 8320 + 320 * n
 outs_of_ending n is e =
     let f = λ (i : Item). outs_most i.kind in
     omega (
       arith,
-      e.few,
+      few_asked e.asked e.all_asked e.few,
       ap (λ (xs : List Item). outs_of_items xs) e.are,
-      sum_by-append f e.verdicts e.ends,
+      sum_by-append f e.asked e.ends,
       ends_count n e.ends e.each,
-      sum_by-le f 10 e.verdicts (each_weaker is_verdict (HasFew 10) few_outs e.verdicts e.all_verdicts),
+      sum_by-le f 10 e.asked (each_weaker IsAsked (HasFew 10) asked_few e.asked e.all_asked),
       sum_by-le f 320 e.ends (ends_all (HasFew 320) (λ i h. h) (λ shard. omega arith) n e.ends e.each),
     )
 
@@ -267,20 +386,20 @@ pub ending_stays : (n : ℕ) (is : List Item) → AreEnds n is → kept_of is �
 ending_stays n is e =
     all_stay is
     (subst (λ (xs : List Item). All (λ i. does_stay i ≡ true) xs) (sym e.are)
-    (All-append (λ (i : Item). does_stay i ≡ true) e.verdicts e.ends (each_weaker is_verdict (λ i. does_stay i ≡ true) (λ i v. ap stays v) e.verdicts e.all_verdicts)
+    (All-append (λ (i : Item). does_stay i ≡ true) e.asked e.ends (each_weaker IsAsked (λ i. does_stay i ≡ true) asked_stays e.asked e.all_asked)
     (ends_all (λ (i : Item). does_stay i ≡ true) (λ i h. h) (λ shard. refl) n e.ends e.each)))
 
 pub ending_kept : (n : ℕ) (is : List Item) → AreEnds n is → Stays n is
-ending_kept n is e = record { verdicts = e.verdicts; ends = e.ends; are = e.are; all_verdicts = e.all_verdicts; few = e.few; one_each = inr e.each }
+ending_kept n is e = record { asked = e.asked; ends = e.ends; are = e.are; all_asked = e.all_asked; few = e.few; one_each = inr e.each }
 
-pub ending_few : (n : ℕ) (is : List Item) → n ≤ 64 → AreEnds n is → length is ≤ 192
-ending_few n is low e = omega (arith, low, e.few, ends_count n e.ends e.each, ap (λ (xs : List Item). length xs) e.are, length-append e.verdicts e.ends)
+pub ending_few : (n : ℕ) (is : List Item) → n ≤ 64 → AreEnds n is → length is ≤ 224
+ending_few n is low e = omega (arith, low, few_asked e.asked e.all_asked e.few, ends_count n e.ends e.each, ap (λ (xs : List Item). length xs) e.are, length-append e.asked e.ends)
 
 -- Whether Ends are among what stays -----------------------------------------------------------------------------------------
 
-end_later : (vs es : List Item) → All is_verdict vs → has_end (vs ++ es) ≡ has_end es
+end_later : (vs es : List Item) → All IsAsked vs → has_end (vs ++ es) ≡ has_end es
 end_later [] es all = refl
-end_later (v ∷ vs) es all = ap (λ (k : ItemKind). is_end k || has_end (vs ++ es)) (All-head is_verdict v vs all) ∙ end_later vs es (All-tail is_verdict v vs all)
+end_later (v ∷ vs) es all = ap (λ (b : Bool). b || has_end (vs ++ es)) (asked_no_end v (All-head IsAsked v vs all)) ∙ end_later vs es (All-tail IsAsked v vs all)
 
 end_there : (n : ℕ) (es : List Item) → 1 ≤ n → AreEndsOf n es → has_end es ≡ true
 end_there zero es some each = absurd (omega (arith, some))
@@ -301,33 +420,33 @@ there_by false n ends some e (inl none) = none
 there_by false n ends some e (inr each) = absurd (false≢true (sym e ∙ end_there n ends some each))
 
 pub are_there : (n : ℕ) (is : List Item) → 1 ≤ n → (s : Stays n is) → AreThere (has_end is) n s.ends
-are_there n is some s = there_by (has_end is) n s.ends some (sym (end_later s.verdicts s.ends s.all_verdicts) ∙ ap has_end (sym s.are)) s.one_each
+are_there n is some s = there_by (has_end is) n s.ends some (sym (end_later s.asked s.ends s.all_asked) ∙ ap has_end (sym s.are)) s.one_each
 
--- where all that stays are verdicts there are few
-pub few_while : (n : ℕ) (is : List Item) → 1 ≤ n → Stays n is → All is_verdict is → length is ≤ 128
+-- where all that stays are requests and verdicts there are few
+pub few_while : (n : ℕ) (is : List Item) → 1 ≤ n → Stays n is → All IsAsked is → AreFewAsked is
 few_while n is some s all =
     let none : has_end is ≡ false = ap has_end (sym (append-nil is)) ∙ end_later is [] all in
     let ends : s.ends ≡ [] = subst (λ (b : Bool). AreThere b n s.ends) none (are_there n is some s) in
-    omega (arith, s.few, ap (λ (xs : List Item). length xs) s.are, length-append s.verdicts s.ends, ap (λ (xs : List Item). length xs) ends)
+    subst AreFewAsked (sym (s.are ∙ ap (λ (xs : List Item). s.asked ++ xs) ends ∙ append-nil s.asked)) s.few
 
 some_count : (n : ℕ) (ends : List Item) → (ends ≡ []) ⊎ AreEndsOf n ends → length ends ≤ n
 some_count n ends (inl none) = omega (arith, ap (λ (xs : List Item). length xs) none)
 some_count n ends (inr each) = omega (arith, ends_count n ends each)
 
-pub stays_few : (n : ℕ) (is : List Item) → n ≤ 64 → Stays n is → length is ≤ 192
-stays_few n is low s = omega (arith, low, s.few, some_count n s.ends s.one_each, ap (λ (xs : List Item). length xs) s.are, length-append s.verdicts s.ends)
+pub stays_few : (n : ℕ) (is : List Item) → n ≤ 64 → Stays n is → length is ≤ 224
+stays_few n is low s = omega (arith, low, few_asked s.asked s.all_asked s.few, some_count n s.ends s.one_each, ap (λ (xs : List Item). length xs) s.are, length-append s.asked s.ends)
 
 -- the items of a round of the ending, by whether Ends stay
 pub ends_by : (b : Bool) (n : ℕ) (kept : List Item) (seed : List ℕ) (drawn : ℕ) (s : Stays n kept) → AreItems kept → AreThere b n s.ends → AreEnds n (cond b kept (kept ++ drawn_from seed drawn (ends_of n)))
-ends_by true n kept seed drawn s items there = record { verdicts = s.verdicts; ends = s.ends; are = s.are; all_verdicts = s.all_verdicts; few = s.few; each = there; whole = items.whole }
+ends_by true n kept seed drawn s items there = record { asked = s.asked; ends = s.ends; are = s.are; all_asked = s.all_asked; few = s.few; each = there; whole = items.whole }
 ends_by false n kept seed drawn s items there =
-    let these : kept ≡ s.verdicts = s.are ∙ ap (λ (xs : List Item). s.verdicts ++ xs) there ∙ append-nil s.verdicts in
+    let these : kept ≡ s.asked = s.are ∙ ap (λ (xs : List Item). s.asked ++ xs) there ∙ append-nil s.asked in
     let new = drawn_from seed drawn (ends_of n) in
     record {
-      verdicts = s.verdicts;
+      asked = s.asked;
       ends = new;
       are = ap (λ (xs : List Item). xs ++ new) these;
-      all_verdicts = s.all_verdicts;
+      all_asked = s.all_asked;
       few = s.few;
       each = are_drawn_ends seed drawn n;
       whole = All-append IsWhole kept new items.whole (drawn_all IsWhole (λ i octets holds. holds) seed drawn (ends_of n) (all_ends IsWhole (λ shard. refl) n));

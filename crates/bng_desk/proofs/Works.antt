@@ -2,6 +2,7 @@
 use Rattle.std.proofs.Common.{[], ◌∷◌, map, Vec, Global}
 use Rattle.bng_base.specs.declared.item.Item.{Item}
 use Rattle.bng_billing.specs.State.{BillingState}
+use Rattle.bng_coa.specs.State.{State as CoaState}
 use Rattle.bng_lane.specs.State.{LaneState}
 use Rattle.bng_desk.specs.declared.lists.Lists.{Lists}
 use Rattle.bng_desk.specs.declared.settlement.Works.{Works}
@@ -26,6 +27,7 @@ with_works d w shards = record d {
   handed = w.handed.items;
   billing = w.accounts.billing;
   reports = w.accounts.reports;
+  coa = w.coa;
   kept = w.kept.items;
 }
 
@@ -37,9 +39,10 @@ seen_with d w = with_works d w (map rested w.shards.items)
 abbrev pub kept_with : Desk → Works → Desk
 kept_with d w = with_works d w w.shards.items
 
--- once a turn has gathered its items: accounting and the lane have heard what came, octets were drawn, and nothing stays
-abbrev pub gathered : Works → BillingState → LaneState → Drawn → Vec Item Global → Lists → Works
-gathered w billing lane draws kept lists = record w { accounts = record w.accounts { billing = billing }; lane = lane; draws = draws; kept = kept; lists = lists }
+-- once a turn has gathered its items: accounting, the requests for changes and the lane have heard what came, octets were drawn, and nothing
+-- stays
+abbrev pub gathered : Works → BillingState → CoaState → LaneState → Drawn → Vec Item Global → Lists → Works
+gathered w billing coa lane draws kept lists = record w { accounts = record w.accounts { billing = billing }; coa = coa; lane = lane; draws = draws; kept = kept; lists = lists }
 
 -- with accounting as this
 abbrev pub billed_by : Works → BillingState → Works

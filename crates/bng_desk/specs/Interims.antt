@@ -45,11 +45,20 @@ last_after moment rows last = fold (λ l (r : Row). with_report l moment r.key.t
 abbrev pub TakesInterims : {E : Type 0} → ℕ → ShardView ShardState E → Reports → Reports → Type 0
 TakesInterims moment v r r' = r'.last ≡ last_after moment (owed v r.last moment) r.last
 
--- No Interim of the shard is due before the moment that is kept for that, which is at most a minute past this one.
+-- The moment that is kept for that is at most a minute past this one. No Interim of the shard is due before it, unless the shard answered
+-- requests for changes that were not told yet: they may have brought one forward.
 pub record AwaitsAt {E : Type 0} (moment : ℕ) (v : ShardView ShardState E) (r : Reports) : Type 0 where
-  pub awaits : AwaitsInterims v.state.slots r
+  pub awaits : v.state.changed ≡ [] → AwaitsInterims v.state.slots r
   pub soon : r.next ≤ moment + 60000
 
 -- so of each shard, of which there is a list each
 abbrev pub AreAwaited : {E : Type 0} → ℕ → List (ShardView ShardState E) → List Reports → Type 0
 AreAwaited moment vs rs = AllZip (AwaitsAt moment) vs rs
+
+-- And no Interim of the shard is due before it whatever the shard answered: so between two rounds.
+pub record WaitsAt {E : Type 0} (moment : ℕ) (v : ShardView ShardState E) (r : Reports) : Type 0 where
+  pub waits : AwaitsInterims v.state.slots r
+  pub soon : r.next ≤ moment + 60000
+
+abbrev pub AreWaiting : {E : Type 0} → ℕ → List (ShardView ShardState E) → List Reports → Type 0
+AreWaiting moment vs rs = AllZip (WaitsAt moment) vs rs

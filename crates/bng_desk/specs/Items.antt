@@ -106,6 +106,32 @@ stays kind.Change = true
 stays kind.Tick = false
 stays kind.End = true
 
+-- the item is a verdict
+abbrev pub is_verdict_kind : ItemKind → Bool
+is_verdict_kind (kind.Access number) = false
+is_verdict_kind kind.Core = false
+is_verdict_kind kind.Tunnel = false
+is_verdict_kind kind.Verdict = true
+is_verdict_kind kind.Change = false
+is_verdict_kind kind.Tick = false
+is_verdict_kind kind.End = false
+
+abbrev pub is_verdict_item : Item → Bool
+is_verdict_item i = is_verdict_kind i.kind
+
+-- the item is a request for a change
+abbrev pub is_change_kind : ItemKind → Bool
+is_change_kind (kind.Access number) = false
+is_change_kind kind.Core = false
+is_change_kind kind.Tunnel = false
+is_change_kind kind.Verdict = false
+is_change_kind kind.Change = true
+is_change_kind kind.Tick = false
+is_change_kind kind.End = false
+
+abbrev pub is_change_item : Item → Bool
+is_change_item i = is_change_kind i.kind
+
 abbrev pub kept_of : List Item → List Item
 kept_of items = filter (λ (i : Item). stays i.kind) items
 

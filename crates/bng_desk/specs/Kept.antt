@@ -1,20 +1,21 @@
 -- What a desk keeps from turn to turn.
-use Rattle.std.specs.Prelude.{◌≡◌, ◌⊎◌, ℕ, ◌+◌, ◌*◌, ◌^◌, ◌≤◌, false, List, [], ◌++◌, length, map}
+use Rattle.std.specs.Prelude.{◌≡◌, ◌⊎◌, ℕ, ◌+◌, ◌*◌, ◌^◌, ◌≤◌, Bool, true, false, List, [], ◌++◌, length, map, count_by}
 use Rattle.std.specs.List.{All}
 use Rattle.bng_base.specs.declared.item.Entry.{Entry}
 use Rattle.bng_base.specs.declared.item.Item.{Item}
-use Rattle.bng_base.specs.declared.item.ItemKind.TheVariants.{Verdict}
+use Rattle.bng_base.specs.declared.item.ItemKind.TheVariants.{Change, Verdict}
 use Rattle.bng_engine.specs.Books.{book_at}
 use Rattle.bng_engine.specs.Views.{ShardView}
 use Rattle.bng_shard.specs.Protocol.{ShardState, AreHeld, HasPools, terms_of}
 use Rattle.bng_shard.specs.Sums.{AreLow, RowsAreLow}
 use Rattle.bng_desk.specs.Accounting.{AreBilled, KnowsBegun}
 use Rattle.bng_desk.specs.Counting.{Within}
-use Rattle.bng_desk.specs.Interims.{AreAwaited}
-use Rattle.bng_desk.specs.Items.{ends_of}
+use Rattle.bng_desk.specs.Coa.{requests_most}
+use Rattle.bng_desk.specs.Interims.{AreWaiting}
+use Rattle.bng_desk.specs.Items.{ends_of, is_change_item, is_verdict_item}
 use Rattle.bng_desk.specs.Logins.{verdicts_most}
 use Rattle.bng_desk.specs.Model.{Desk, HasOneRule, keys_in, is_over, graces_most, rounds_left, unopened_most}
-use Rattle.bng_desk.specs.Taking.{IsEmpty, KeepsTerms, HasFewSessions, AddsUp, AreInOrder, AreItems, AreTallied}
+use Rattle.bng_desk.specs.Taking.{AllTold, IsEmpty, KeepsTerms, HasFewSessions, AddsUp, AreInOrder, AreItems, AreTallied}
 
 -- a shard between two rounds, as the desk's contracts see it: nothing of a round, and no room for one
 abbrev pub rested : ShardView ShardState Entry → ShardView ShardState Entry
@@ -47,22 +48,36 @@ pub record IsUnended (d : Desk) : Type 0 where
   pub closed : d.closed ≡ false
   pub graces : d.graces ≡ 0
 
-abbrev pub is_verdict : Item → Type 0
-is_verdict i = i.kind ≡ Verdict
+-- a request for a change, or a verdict
+abbrev pub IsAsked : Item → Type 0
+IsAsked i = (i.kind ≡ Change) ⊎ (i.kind ≡ Verdict)
 
--- what stays of a round that was not opened: at most 128 verdicts, and then an End for each shard, or none
+-- at most 128 verdicts are among them, and at most 32 requests for changes
+pub record AreFewAsked (items : List Item) : Type 0 where
+  pub verdicts : count_by is_verdict_item items ≤ verdicts_most
+  pub changes : count_by is_change_item items ≤ requests_most
+
+-- What stands first among the items of a turn: requests and verdicts, of which so many are verdicts. Where Auth is read there is none yet.
+pub record StandsFirst (reads : Bool) (verdicts : ℕ) (items : List Item) : Type 0 where
+  pub all_asked : All IsAsked items
+  pub few : AreFewAsked items
+  pub count : verdicts ≡ count_by is_verdict_item items
+  pub none : reads ≡ true → verdicts ≡ 0
+  pub whole : All (λ (i : Item). i.frame.headroom ≡ 64) items
+
+-- what stays of a round that was not opened: at most 32 requests for changes and 128 verdicts, and then an End for each shard, or none
 pub record Stays (shards : ℕ) (items : List Item) : Type 0 where
-  pub verdicts : List Item
+  pub asked : List Item
   pub ends : List Item
-  pub are : items ≡ verdicts ++ ends
-  pub all_verdicts : All is_verdict verdicts
-  pub few : length verdicts ≤ verdicts_most
+  pub are : items ≡ asked ++ ends
+  pub all_asked : All IsAsked asked
+  pub few : AreFewAsked asked
   pub one_each : (ends ≡ []) ⊎ AreEndsOf shards ends
 
 -- One port to sixteen, sixteen profiles at most, one shard to 64 in their order, all by the desk's rules, with nothing of a round in them and at most 1,022
 -- sessions in each, one seat. Its terms hold their addresses, have numbers that it gave, and have a Start each. No sum is above what the
 -- turns so far could add, and none wraps before the last; what was carried with a circuit's address, by Stops and by rows, stands in the
--- seat's tally, and what all Stops and all rows say is exactly that tally; each term that began has its Stop, or has none yet. What stays of a round that was not opened are verdicts, and Ends in the ending alone. Of each shard there is a list of the
+-- seat's tally, and what all Stops and all rows say is exactly that tally; each term that began has its Stop, or has none yet. What stays of a round that was not opened are requests for changes and verdicts, and Ends in the ending alone. All that the shards answered to requests was told. Of each shard there is a list of the
 -- questions that it handed out. Each term that is there is live in accounting, no two terms are one, and accounting knows of no term that
 -- did not begin. No Interim is due before the moment that is kept for that of its shard.
 pub record IsKept (d : Desk) : Type 0 where
@@ -97,10 +112,11 @@ pub record IsKept (d : Desk) : Type 0 where
   pub counts : Within (drops_most * all_turns d) d.drops
   pub kept : AreItems d.kept
   pub stays : Stays (length d.shards) d.kept
-  pub while_serving : is_over d ≡ false → All is_verdict d.kept
+  pub while_serving : is_over d ≡ false → All IsAsked d.kept
   pub handed : length d.handed ≡ length d.shards
   pub closing : d.closing ≤ d.moment
   pub graces : d.graces ≤ graces_most
   pub billed : AreBilled (keys_in d.shards) d.billing
   pub knows : KnowsBegun d.shards d.billing
-  pub awaited : AreAwaited d.moment d.shards d.reports
+  pub awaited : AreWaiting d.moment d.shards d.reports
+  pub all_told : All AllTold d.shards

@@ -4,6 +4,7 @@ pub mod Control
 pub mod Random
 pub mod Model
 pub mod Items
+pub mod Coa
 pub mod Logins
 pub mod Accounting
 pub mod Interims

@@ -7,6 +7,7 @@ use Rattle.bng_base.specs.declared.book.Book.{Book}
 use Rattle.bng_base.specs.declared.item.Entry.{Entry}
 use Rattle.bng_base.specs.declared.item.Item.{Item}
 use Rattle.bng_billing.specs.State.{BillingState}
+use Rattle.bng_coa.specs.State.{State as CoaState}
 use Rattle.bng_engine.specs.Books.{book_at}
 use Rattle.bng_engine.specs.Quantities.{Octets, Packets, in_book}
 use Rattle.bng_engine.specs.Sums.{has_lease, is_any, stopped_where}
@@ -31,7 +32,8 @@ use Rattle.bng_desk.specs.Reading.{is_empty}
 -- and how many those are, after how many turns it ends serving by itself, how many it made, whether it was told to stop, the shards in the order of their numbers, who holds an address, what each seat passed, the
 -- seed and how many times sixteen octets were drawn from it, the drops, the last moment that it was given, and the number of the last
 -- round that the trace took, 0 before the first. The lane of the questions that are out at the server, and of each shard which of its
--- questions were handed out. The records that are open at the server of accounting. Of each shard which Interims were taken. Of the ending: how
+-- questions were handed out. The records that are open at the server of accounting. Of each shard which Interims were taken. The requests for
+-- changes that are in hand, and the replies that are kept. Of the ending: how
 -- many of its turns were made, how many in a row opened no round, whether one opened a round, and the moment of the last that did, which
 -- is that of the opening before the first. How many turns of the grace were made. The items that stay of the last round, where it was not
 -- opened.
@@ -55,6 +57,7 @@ pub record Desk : Type 0 where
   pub handed : List (List ℕ)
   pub billing : BillingState
   pub reports : List Reports
+  pub coa : CoaState
   pub endings : ℕ
   pub unopened : ℕ
   pub closed : Bool

@@ -1,5 +1,5 @@
 -- A desk that was opened over a configuration.
-use Rattle.std.specs.Prelude.{◌≡◌, ◌≢◌, ℕ, ◌+◌, ◌/◌, ◌<◌, ◌≤◌, ◌==◌, false, List, [], ◌∷◌, Option, Some, find, is_some, length, map, filter, option_map, slice_get}
+use Rattle.std.specs.Prelude.{◌≡◌, ◌≢◌, ℕ, ◌+◌, ◌/◌, ◌<◌, ◌≤◌, ◌==◌, false, List, [], ◌∷◌, Option, Some, None, find, is_some, length, map, filter, option_map, slice_get}
 use Rattle.std.specs.List.{All, AllPairs, AllZip, range_with_len}
 use Rattle.arrayvec.specs.ArrayVec.{ArrayVec}
 use Rattle.bng_acct.specs.declared.held.Held.{Held}
@@ -8,8 +8,10 @@ use Rattle.bng_base.specs.declared.address.Ip4.{Ip4}
 use Rattle.bng_base.specs.declared.circuit.TermId.{TermId}
 use Rattle.bng_base.specs.declared.item.Entry.{Entry}
 use Rattle.bng_base.specs.declared.settings.AccessPort.{AccessPort}
+use Rattle.bng_base.specs.declared.settings.CoaPart.{CoaPart}
 use Rattle.bng_base.specs.declared.settings.NamedRange.{NamedRange}
 use Rattle.bng_base.specs.declared.settings.Static.{Static}
+use Rattle.bng_coa.specs.State.{State as CoaState}
 use Rattle.bng_config.specs.declared.config.Config.{Config}
 use Rattle.bng_discovery.specs.declared.port.PortRules.{PortRules}
 use Rattle.bng_base.specs.Books.{empty_book}
@@ -57,8 +59,8 @@ AreOffers config seed ports offers = AreOffersOf config.name.items config.servic
 abbrev pub dns_of : List Ip4 → List (Option Ip4)
 dns_of servers = slice_get servers 0 ∷ slice_get servers 1 ∷ []
 
--- by what the shards work
-pub record AreRules (config : Config) (seed : List ℕ) (r : Rules) : Type 0 where
+-- by what the shards work, where the run opened at this second on the wall
+pub record AreRules (config : Config) (seed : List ℕ) (wall : ℕ) (r : Rules) : Type 0 where
   pub shards : r.shards ≡ config.shards
   pub core_peer : r.core_peer ≡ config.core_peer
   pub access : r.access ≡ config.access
@@ -67,6 +69,9 @@ pub record AreRules (config : Config) (seed : List ℕ) (r : Rules) : Type 0 whe
   pub profiles : r.profiles ≡ config.profiles
   pub lacs : r.lacs ≡ config.lacs
   pub serves_tunnels : r.serves_tunnels ≡ is_some config.tunnel_local
+  pub nas_ip : r.nas_ip ≡ config.nas_ip
+  pub opened_at : r.wall ≡ wall
+  pub serves_changes : r.serves_changes ≡ is_some config.coa
   pub name : r.link.name.items ≡ config.name.items
   pub address : r.link.address ≡ config.address
   pub dns : r.link.dns ≡ dns_of config.dns.items
@@ -121,6 +126,11 @@ billing_rules config wall = record {
   secret = config.secret;
 }
 
+-- who may ask for changes, and by which secret; nobody may where the configuration has no such part
+abbrev pub coa_of : Option CoaPart → CoaState
+coa_of None = record { peers = []; secret = []; requests = [] }
+coa_of (Some c) = record { peers = c.peers.items; secret = c.secret.items; requests = [] }
+
 -- Accounting was opened by these rules over these lines, and of each of the terms of these shards a Start was formed, at this moment, in
 -- their order; each of them is live in accounting from then on, and it knows of no other.
 pub record OpensAccounts (rules : BillingRules) (lines : List Line) (reports : List Reports) (shards : List (ShardView ShardState Entry)) (now : ℕ) (a : Accounts) : Type 0 where
@@ -131,11 +141,11 @@ pub record OpensAccounts (rules : BillingRules) (lines : List Line) (reports : L
   pub known : (t : TermId) (h : Held) → of_term t a.billing.spool.held ≡ Some h → AnyOf (λ (k : Key). k.term ≡ t) (keys_in shards)
 
 -- Each shard works by the same rules. Each provisioned circuit has its term in the shard of its number and holds its address; there is
--- no session, and nothing has passed. Of each term a Start was formed, at this moment and this second of the wall, by rising session
+-- no session, and nothing has passed. No request for a change is in hand. Of each term a Start was formed, at this moment and this second of the wall, by rising session
 -- number.
 pub record IsOpened (config : Config) (rounds : ℕ) (seed : List ℕ) (now wall : ℕ) (d : Desk) : Type 0 where
   pub rules : Rules
-  pub are_rules : AreRules config seed rules
+  pub are_rules : AreRules config seed wall rules
   pub lane : LaneState
   pub new_lane : IsNewLane (lane_rules config) lane
   pub pool : PlainView
@@ -166,6 +176,7 @@ pub record IsOpened (config : Config) (rounds : ℕ) (seed : List ℕ) (now wall
     handed = map (λ n. none_handed) (range_with_len 0 config.shards);
     billing = billing;
     reports = map (λ n. no_reports) (range_with_len 0 config.shards);
+    coa = coa_of config.coa;
     endings = 0;
     unopened = 0;
     closed = false;

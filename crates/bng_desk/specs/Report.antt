@@ -1,16 +1,24 @@
 -- The report.
-use Rattle.std.specs.Prelude.{ℕ, ◌+◌, List, [], ◌∷◌, ◌++◌, codes}
+use Rattle.std.specs.Prelude.{◌≡◌, ℕ, ◌+◌, ◌^◌, ◌<◌, ◌≤◌, Bool, List, [], ◌∷◌, ◌++◌, codes, length, map}
+use Rattle.std.specs.List.{All, range_with_len}
 use Rattle.std.specs.Fmt.{decimal}
 use Rattle.bng_acct.specs.declared.facts.TermFacts.{TermFacts}
 use Rattle.bng_acct.specs.Texts.{session_id, port_id}
 use Rattle.bng_base.specs.declared.address.Ip4.{Ip4}
 use Rattle.bng_base.specs.declared.book.Book.{Book}
 use Rattle.bng_base.specs.declared.book.Profile.{Profile}
+use Rattle.bng_base.specs.declared.item.Entry.{Entry}
+use Rattle.bng_engine.specs.Quantities.{Quantity, in_book}
+use Rattle.bng_engine.specs.Views.{ShardView}
 use Rattle.bng_schema.specs.Address.{address_text}
 use Rattle.bng_base.specs.declared.fate.DropCause.{DropCause}
 use Rattle.bng_base.specs.declared.fate.DropCause.TheVariants.{Malformed, NoSession, NotOpen, Expired, Spoofed, TooBig, Exceeded, LinkFailed, WantOfMemory}
+use Rattle.bng_shard.specs.Protocol.{ShardState}
+use Rattle.bng_desk.specs.declared.accounts.Stopped.{Stopped}
+use Rattle.bng_desk.specs.declared.drops.Drops.{Drops}
 use Rattle.bng_desk.specs.declared.line.Line.{Line}
-use Rattle.bng_desk.specs.Model.{traffic_by}
+use Rattle.bng_desk.specs.Counting.{by_number}
+use Rattle.bng_desk.specs.Model.{Desk, by_profile, live_of, plus_book, sums_of, traffic_by, traffic_under}
 use Rattle.bng_shard.specs.declared.sums.Traffic.{Traffic}
 
 -- the causes, by number
@@ -86,6 +94,22 @@ report_text stopped live total workers profiles under circuits traffic drops =
     ++ profile_lines profiles under
     ++ static_lines circuits traffic
     ++ drop_lines causes drops
+
+-- the report without its lines of circuits: of these shards, what the Stops say, what the one worker passed, and what was dropped
+abbrev pub stats_by : List (ShardView ShardState Entry) → Stopped → Book → Drops → List Profile → List ℕ
+stats_by shards stopped tally drops profiles =
+    report_text stopped.carried (live_of shards) (plus_book stopped.carried (live_of shards)) (traffic_by tally ∷ []) profiles (map (traffic_under shards) (range_with_len 0 (length profiles))) [] [] (by_number drops)
+
+-- each shard has a book for each of these profiles, of which there are 16 at most, and no sum wraps
+pub record MayTell (shards : List (ShardView ShardState Entry)) (stopped : Stopped) (profiles : List Profile) : Type 0 where
+  pub few_profiles : length profiles ≤ 16
+  pub few_shards : length shards ≤ 64
+  pub books : All (λ v. length v.state.rules.profiles ≡ length profiles) shards
+  pub low : (q : Quantity) (input : Bool) → in_book q input stopped.carried + in_book q input (live_of shards) < 2 ^ 64
+
+-- the same of a desk, as Control is told it
+abbrev pub stats_text : Desk → List ℕ
+stats_text d = report_text (sums_of d).stopped (sums_of d).live (sums_of d).total (map traffic_by d.tallies) d.rules.profiles (by_profile d) [] [] (sums_of d).drops
 
 -- the address of a term, and its octets in and out
 abbrev pub carried_text : TermFacts → List ℕ

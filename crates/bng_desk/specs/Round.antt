@@ -141,11 +141,11 @@ pub record IsRound (r : Rules) (shards : List (ShardView ShardState Entry)) (poo
   pub turn : TurnOf pppoe (view_of shards pool tallies) (view_after round)
   pub returned : IsReturned (stops_of round) round.claimed round.pool
 
--- a shard once its round is over
+-- a shard once its round is over, and what it answered to requests for changes was told
 abbrev pub left_by : ShardView ShardState Handled → ShardView ShardState Entry
 left_by v = record {
   number = v.number;
-  state = v.state;
+  state = record v.state { changed = [] };
   rows = v.rows;
   books = v.books;
   allowance = 0;

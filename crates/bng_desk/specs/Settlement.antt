@@ -15,12 +15,13 @@ use Rattle.bng_desk.specs.declared.settlement.Settled.{Settled}
 use Rattle.bng_desk.specs.declared.settlement.Works.{Works}
 use Rattle.bng_desk.specs.Accounting.{AreBilled, KnowsBegun}
 use Rattle.bng_desk.specs.Counting.{Within}
-use Rattle.bng_desk.specs.Intake.{SendsRequests, SendsRecords}
-use Rattle.bng_desk.specs.Interims.{AreAwaited}
+use Rattle.bng_desk.specs.Coa.{CoaReply}
+use Rattle.bng_desk.specs.Intake.{SendsReplies, SendsRequests, SendsRecords}
+use Rattle.bng_desk.specs.Interims.{AreWaiting}
 use Rattle.bng_desk.specs.Items.{kept_of}
 use Rattle.bng_desk.specs.Kept.{octets_most, drops_most}
 use Rattle.bng_desk.specs.Model.{keys_in}
-use Rattle.bng_desk.specs.Taking.{IsEmpty, KeepsTerms, HasFewSessions, AddsUp, AreInOrder, AreItems, AreTallied, Holds, outs_of_items}
+use Rattle.bng_desk.specs.Taking.{AllTold, Shown, IsEmpty, KeepsTerms, HasFewSessions, AddsUp, AreInOrder, AreItems, AreTallied, Holds, outs_of_items}
 use Rattle.bng_desk.specs.Turn.{told_if}
 
 -- the lists of a turn over so many shards, with nothing on them but its items, and with room for all that it may put on them
@@ -30,12 +31,12 @@ pub record AreBlank (shards : ℕ) (lists : Lists) : Type 0 where
   pub journals : lists.journals.items ≡ []
   pub journals_room : shards ≤ vec_capacity lists.journals
   pub outs : lists.outs.items ≡ []
-  pub outs_room : 8000 + 320 * shards ≤ lists.outs.room
+  pub outs_room : 8320 + 320 * shards ≤ lists.outs.room
   pub allowances : lists.allowances.items ≡ replicate shards 0
 
 -- The shards are those of the rules, in their order, with nothing of a round in them, and no sum is near its end; what was carried with the
--- circuits' addresses stands in the tally, which is exactly what was carried in all, and the terms are billed. Nothing stays of the round before, and there is room for what may stay
--- of this one.
+-- circuits' addresses stands in the tally, which is exactly what was carried in all, and the terms are billed. All that the shards answered
+-- to requests for changes was told. Nothing stays of the round before, and there is room for what may stay of this one.
 pub record IsReady (r : Rules) (named : Named) (lists : Lists) (w : Works) : Type 0 where
   pub count : length w.shards.items ≡ r.shards
   pub some : 1 ≤ r.shards
@@ -55,7 +56,8 @@ pub record IsReady (r : Rules) (named : Named) (lists : Lists) (w : Works) : Typ
   pub adds_up : AddsUp w.tally w.shards.items w.accounts.stopped
   pub billed : AreBilled (keys_in w.shards.items) w.accounts.billing
   pub knows : KnowsBegun w.shards.items w.accounts.billing
-  pub awaited : AreAwaited named.moment w.shards.items w.accounts.reports
+  pub awaited : AreWaiting named.moment w.shards.items w.accounts.reports
+  pub all_told : All AllTold w.shards.items
   pub moment : named.moment < 2 ^ 60
   pub counts : Within (2 ^ 61) w.drops
   pub drawn : w.draws.drawn < 2 ^ 60
@@ -63,25 +65,29 @@ pub record IsReady (r : Rules) (named : Named) (lists : Lists) (w : Works) : Typ
   pub none_kept : w.kept.items ≡ []
   pub room : length (kept_of lists.items.items) ≤ vec_capacity w.kept
   pub items : AreItems lists.items.items
-  pub few_outs : outs_of_items lists.items.items ≤ 8000 + 320 * length w.shards.items
+  pub few_outs : outs_of_items lists.items.items ≤ 8320 + 320 * length w.shards.items
   pub blank : AreBlank (length w.shards.items) lists
 
--- A round of these items was held, or could not be opened; then the requests of the lane were sent, and then those of accounting; and the
--- trace was told the round.
-pub record Settles (r : Rules) (named : Named) (items : List Item) (w w' : Works) (p p' : PlantTold) (t t' : TraceTold) (s : Settled) : Type 0 where
+-- A round of these items was held, or could not be opened; then the replies to requests for changes were sent, those that are repeated first,
+-- then the requests of the lane, and then those of accounting; and the trace was told the round.
+pub record Settles (r : Rules) (named : Named) (repeats : List CoaReply) (items : List Item) (w w' : Works) (p p' : PlantTold) (t t' : TraceTold) (s : Settled) : Type 0 where
   pub round : RoundRecord
   pub booked : BillingState
+  pub held : List Shown
   pub sent : PlantTold
+  pub replied : PlantTold
   pub asked : PlantTold
-  pub holds : Holds r w.pool w'.pool w.accounts (record w'.accounts { billing = booked }) named items p sent w.shards.items w'.shards.items w.drops w'.drops w.tally w'.tally round s.is_opened w'.kept.items
-  pub asks : SendsRequests named.moment w'.shards.items sent asked w.lane w'.lane w.handed.items w'.handed.items w.draws w'.draws
+  pub holds : Holds r w.pool w'.pool w.accounts (record w'.accounts { billing = booked }) named items p sent w.shards.items held w.drops w'.drops w.tally w'.tally round s.is_opened w'.kept.items
+  pub replies : SendsReplies r repeats round.loose held w'.shards.items sent replied w.coa w'.coa
+  pub asks : SendsRequests named.moment w'.shards.items replied asked w.lane w'.lane w.handed.items w'.handed.items w.draws w'.draws
   pub bills : SendsRecords named.moment asked p' booked w'.accounts.billing
   pub rounds : Grows t.rounds t'.rounds (told_if s.noted round)
   pub cause : HasCause t.faults t'.faults (s.noted ≡ false)
   pub uncounted : s.noted ≡ true → t'.faults ≡ t.faults
 
 -- The shards are as many as before, in their order, with nothing of a round in them. No sum is higher than a round can make it; what was
--- carried with the circuits' addresses stands in the tally still, which is exactly what was carried in all, and the terms are billed. The round was at this moment.
+-- carried with the circuits' addresses stands in the tally still, which is exactly what was carried in all, and the terms are billed. The
+-- round was at this moment.
 pub record KeepsWorks (moment : ℕ) (w w' : Works) : Type 0 where
   pub count : length w'.shards.items ≡ length w.shards.items
   pub order : AreInOrder w'.shards.items
@@ -102,4 +108,4 @@ pub record KeepsWorks (moment : ℕ) (w w' : Works) : Type 0 where
   pub ranges : w'.pool.ranges ≡ w.pool.ranges
   pub terms : All (KeepsTerms moment) w'.shards.items
   pub knows : KnowsBegun w'.shards.items w'.accounts.billing
-  pub awaited : AreAwaited moment w'.shards.items w'.accounts.reports
+  pub awaited : AreWaiting moment w'.shards.items w'.accounts.reports

@@ -67,6 +67,14 @@ Sight = ShardView ShardState Handled
 abbrev pub IsEmpty : Shown → Type 0
 IsEmpty v = (v.journal ≡ []) × (v.outs ≡ [])
 
+-- what it answered to requests for changes was told
+abbrev pub AllTold : Shown → Type 0
+AllTold v = v.state.changed ≡ []
+
+-- the shard once it was
+abbrev pub told_all : Shown → Shown
+told_all v = record v { state = record v.state { changed = [] }; room = 0 }
+
 -- of each term that began a Start was formed
 abbrev pub OwesNone : Shown → Type 0
 OwesNone v = v.state.slots.news ≡ []

@@ -1,8 +1,9 @@
 -- One turn of the desk: what the outside answered in it, what it sent, and the desk that it leaves.
-use Rattle.std.specs.Prelude.{◌≡◌, ℕ, ◌+◌, ◌-◌, ◌/◌, ◌≤◌, Bool, true, false, not, ◌&&◌, ◌||◌, List, [], ◌∷◌, ◌++◌, Option, Some, None, All, length, map, min, fold, if◌then◌else◌}
+use Rattle.std.specs.Prelude.{◌≡◌, ℕ, ◌+◌, ◌-◌, ◌/◌, ◌≤◌, Bool, true, false, not, ◌&&◌, ◌||◌, List, [], ◌∷◌, ◌++◌, Option, Some, None, All, length, map, min, fold, count_by, if◌then◌else◌}
 use Rattle.std.specs.List.{AllZip, flat_map, range_with_len, list_any}
 use Rattle.bng_base.specs.declared.item.Entry.{Entry}
 use Rattle.bng_base.specs.declared.item.Item.{Item}
+use Rattle.bng_base.specs.declared.item.Loose.{Loose}
 use Rattle.bng_base.specs.declared.outside.Heard.{Heard}
 use Rattle.bng_base.specs.declared.outside.Heard.TheVariants.{Wait}
 use Rattle.bng_base.specs.declared.outside.ClockAnswer.TheVariants.{Now, Wall}
@@ -11,10 +12,12 @@ use Rattle.bng_base.specs.declared.outside.Role.TheVariants.{Access, Core, Tunne
 use Rattle.bng_base.specs.declared.round.RoundRecord.{RoundRecord}
 use Rattle.bng_base.specs.FateOf.{Arrival}
 use Rattle.bng_base.specs.Stretch.{Outside, PlantStretch, plant_none, plant_joined, Stretch, Extends, no_stretch}
+use Rattle.bng_coa.specs.State.{State as CoaState}
 use Rattle.bng_engine.specs.Calls.{all_sends}
 use Rattle.bng_engine.specs.Lists.{Zip3}
 use Rattle.bng_engine.specs.Views.{ShardView}
 use Rattle.bng_ppp.specs.LinkRelation.{earliest}
+use Rattle.bng_shard.specs.declared.changes.Answer.{Answer}
 use Rattle.bng_shard.specs.declared.rules.Rules.{Rules}
 use Rattle.bng_shard.specs.Interims.{Reports}
 use Rattle.bng_shard.specs.Protocol.{ShardState, deadline_of}
@@ -23,6 +26,7 @@ use Rattle.bng_desk.specs.declared.desk.Turned.{Turned}
 use Rattle.bng_desk.specs.declared.desk.Turned.TheVariants.{Ok, TraceFault, WantOfMemory}
 use Rattle.bng_desk.specs.declared.reading.Ended.{Ended}
 use Rattle.bng_desk.specs.Accounting.{Acknowledged, FormedRecord, RecordRequests, HearsRecords, Forms, IsStartOf, IsStopOf, SettlesRecords, acct_reading, acknowledged_most, records_stretch}
+use Rattle.bng_desk.specs.Coa.{AdmitsAll, CoaReplies, Requested, SettlesCoa, change_items, coa_reading, coa_sends, coa_stretch, has_places, repeats_of, requests_most, shard_answers}
 use Rattle.bng_desk.specs.Control.{Heeded, has_stop, control_stretch}
 use Rattle.bng_desk.specs.Counting.{plus}
 use Rattle.bng_billing.specs.State.{BillingState, places_of}
@@ -32,9 +36,10 @@ use Rattle.bng_desk.specs.Interims.{FormsInterims, TakesInterims, owed_by}
 use Rattle.bng_lane.specs.State.{LaneState}
 use Rattle.bng_rad_client.specs.DueRequests.{IsDeadline}
 use Rattle.bng_verdict.specs.declared.question.QuestionNo.{QuestionNo}
-use Rattle.bng_desk.specs.Items.{DataReading, taken_items, ticks_of, ends_of, drawn_from, kept_of}
+use Rattle.bng_desk.specs.Items.{DataReading, all_loose, taken_items, ticks_of, ends_of, drawn_from, is_verdict_item, kept_of}
 use Rattle.bng_desk.specs.Logins.{Answered, Requests, Hears, TimesOut, SettlesLane, reply_items, timeout_items, auth_reading, requests_stretch, verdicts_most}
 use Rattle.bng_desk.specs.Model.{Desk, all_stopped, grace_most, has_ended, line_after, plus_book}
+use Rattle.bng_desk.specs.Report.{stats_text}
 use Rattle.bng_desk.specs.Reading.{receives, taken_in, ending_stretch, EndsRight, is_empty}
 use Rattle.bng_desk.specs.Round.{Round, IsRound, stops_of, starts_of, terms_in, news_in, handled_states, left_by, drops_in, sends_stretch, record_of, refused_of, refused_record, with_refused}
 
@@ -60,9 +65,10 @@ most_of r Acct = 0
 most_of r Coa = 0
 most_of r Control = 0
 
--- The moments; what was taken from Control and how its reading ended, and so from Acct; what was taken from Auth and how its reading
--- ended, which is None where it was not read; the readings of the other roles; the questions that were given up; the round, which is None
--- where it could not be opened for want of memory; the requests that were sent; whether the trace took the round. Of the lane: how it
+-- The moments; what was taken from Control and how its reading ended, and so from Acct; what was taken from Coa and how its reading ended,
+-- which is None where it was not read, and so from Auth; the readings of the other roles; the questions that were given up; the round, which is None
+-- where it could not be opened for want of memory; the replies to requests for changes; the requests that were sent; whether the trace took
+-- the round. Of the requests for changes: which are in hand in the end, and which replies are kept. Of the lane: how it
 -- stood once it had heard Auth, once the questions were given up, and in the end, with its first deadline, and which questions were
 -- handed out then. Of accounting: the records that were formed, the requests that were sent, and how it stood in the end, with its first
 -- deadline, and of each shard which Interims were taken then.
@@ -73,13 +79,17 @@ pub record Turn : Type 0 where
   pub control_end : Ended
   pub acknowledged : List Acknowledged
   pub acct_end : Ended
+  pub requested : List Requested
+  pub coa_end : Option Ended
   pub answers : List Answered
   pub auth_end : Option Ended
   pub readings : List DataReading
   pub timed : List QuestionNo
   pub round : Option Round
+  pub replies : CoaReplies
   pub requests : Requests
   pub noted : Bool
+  pub coa : CoaState
   pub heard : LaneState
   pub waited : LaneState
   pub lane : LaneState
@@ -91,25 +101,32 @@ pub record Turn : Type 0 where
   pub record_deadline : Option ℕ
   pub reports : List Reports
 
--- Auth is read at most 128 times; it is not read where verdicts of a round that was not opened stand first.
-abbrev pub ReadsWhere : Bool → List Answered → Option Ended → Type 0
-ReadsWhere true answers auth_end = (ended : Ended) × (auth_end ≡ Some ended) × EndsRight verdicts_most (length answers) ended
-ReadsWhere false answers auth_end = (auth_end ≡ None) × (answers ≡ [])
+-- where it is read, a role is read so many times at most
+abbrev pub ReadsWhere : {X : Type 0} → ℕ → Bool → List X → Option Ended → Type 0
+ReadsWhere most true taken last = (ended : Ended) × (last ≡ Some ended) × EndsRight most (length taken) ended
+ReadsWhere most false taken last = (last ≡ None) × (taken ≡ [])
 
--- Control is read at most 8 times, then Acct at most 128 times, then Auth, then the end for tunnels, where there is one, at most 224 times,
+-- Coa is read where requests for changes are served and nothing of a round that was not opened stands first. It is not read either while
+-- more than 224 requests are in hand.
+abbrev pub reads_changes : Desk → Bool
+reads_changes d = d.rules.serves_changes && (is_empty d.kept && has_places d.coa)
+
+-- Control is read at most 8 times, then Acct at most 128 times, then Coa at most 32 times, then Auth at most 128 times, which is not read
+-- where verdicts or requests of a round that was not opened stand first, then the end for tunnels, where there is one, at most 224 times,
 -- then the access ports in their order, which share 224 receives, and then the core, at most 224 times.
 pub record IsReading (d : Desk) (t : Turn) : Type 0 where
   pub moment : d.moment ≤ t.moment
   pub control : EndsRight 8 (length t.control) t.control_end
   pub acct : EndsRight acknowledged_most (length t.acknowledged) t.acct_end
-  pub auth : ReadsWhere (is_empty d.kept) t.answers t.auth_end
+  pub coa : ReadsWhere requests_most (reads_changes d) t.requested t.coa_end
+  pub auth : ReadsWhere verdicts_most (is_empty d.kept) t.answers t.auth_end
   pub roles : map (λ r. r.role) t.readings ≡ data_roles d.rules
   pub read : All (λ r. EndsRight (most_of d.rules r.role) (length r.arrivals) r.ended) t.readings
 
--- the items that are new in a turn while serving: those of the replies, those of the datagrams, the questions that are given up, and
+-- the items that are new in a turn while serving: those of the new requests, those of the replies, those of the datagrams, the questions that are given up, and
 -- then the Ticks that are due
 abbrev pub new_items : Desk → Turn → List Item
-new_items d t = reply_items t.answers ++ taken_items t.readings ++ timeout_items t.timed ++ ticks_of t.moment d.shards
+new_items d t = change_items t.requested ++ (reply_items t.answers ++ taken_items t.readings ++ timeout_items t.timed ++ ticks_of t.moment d.shards)
 
 -- the items of a turn while serving: those that stay of the round before, and then the new ones, each of which draws its random octets
 abbrev pub items_of : Desk → Turn → List Item
@@ -117,7 +134,7 @@ items_of d t = d.kept ++ drawn_from d.seed d.drawn (new_items d t)
 
 -- how many verdicts there may still be beside those that stay and those of the replies
 abbrev pub timeouts_most : Desk → Turn → ℕ
-timeouts_most d t = verdicts_most - (length d.kept + length (reply_items t.answers))
+timeouts_most d t = verdicts_most - (count_by is_verdict_item d.kept + length (reply_items t.answers))
 
 -- an End is among these
 abbrev pub has_end : List Item → Bool
@@ -136,7 +153,8 @@ abbrev pub RoundOf : Desk → ℕ → List Item → Option Round → Type 0
 RoundOf d moment items None = Unit {0}
 RoundOf d moment items (Some round) = IsRound d.rules d.shards d.pool d.tallies moment (items ∷ []) round
 
--- the desk after a round, or after one that was not opened, whose items of the outside are dropped, and whose verdicts and Ends stay
+-- the desk after a round, or after one that was not opened, whose items of the outside are dropped, and whose requests, verdicts and Ends
+-- stay
 abbrev pub after_round : Desk → List Item → Option Round → Desk
 after_round d items None = record d { drops = plus d.drops (with_refused (length (refused_of items))); kept = kept_of items }
 after_round d items (Some round) = record d {
@@ -167,7 +185,24 @@ after d t = record (after_round d (items_of d t) t.round) {
   handed = t.handed;
   billing = t.billing;
   reports = t.reports;
+  coa = t.coa;
 }
+
+-- the loose items of a round, and what its shards answered to requests for changes; there are none where it was not opened
+abbrev pub loose_of : List Item → Option Round → List Loose
+loose_of items None = []
+loose_of items (Some round) = all_loose 0 (items ∷ []) round.whose
+
+abbrev pub answers_of : Option Round → List Answer
+answers_of None = []
+answers_of (Some round) = shard_answers round.shards
+
+-- Requests for changes in a turn while serving: each datagram of Coa is admitted as it is taken, and in the settlement the replies are sent:
+-- to each request of the round one, with the verdict of its shard, or of one that is loose that for which it is refused.
+pub record CoaTurn (d : Desk) (t : Turn) : Type 0 where
+  pub admitted : CoaState
+  pub admits : AdmitsAll t.moment t.wall d.coa t.requested admitted
+  pub settles : SettlesCoa d.rules (repeats_of t.requested) (loose_of (items_of d t) t.round) (answers_of t.round) admitted t.replies t.coa
 
 -- The lane in a turn while serving: it hears Auth, gives up the questions that are due, and in the settlement sends what is due again
 -- and asks the questions that wait in the shards.
@@ -212,7 +247,7 @@ pub record BillingTurn (d : Desk) (t : Turn) : Type 0 where
 -- A turn that wanted memory is None: it counts as a turn, and all else is as before.
 abbrev pub Step : Desk → Option Turn → Desk → Type 0
 Step d None d' = d' ≡ record d { turns = d.turns + 1 }
-Step d (Some t) d' = IsReading d t × RoundOf d t.moment (items_of d t) t.round × LaneTurn d t × BillingTurn d t × (d' ≡ after d t)
+Step d (Some t) d' = IsReading d t × RoundOf d t.moment (items_of d t) t.round × LaneTurn d t × BillingTurn d t × CoaTurn d t × (d' ≡ after d t)
 
 -- the milliseconds from a moment to a deadline: 0 where that is past, 100 at most and where there is none
 abbrev pub wait_for : Option ℕ → ℕ → ℕ
@@ -228,7 +263,7 @@ arrivals_in readings = flat_map (λ r. r.arrivals) readings
 
 -- no datagram was taken
 abbrev pub is_idle : Turn → Bool
-is_idle t = is_empty t.control && is_empty t.acknowledged && is_empty t.answers && is_empty (arrivals_in t.readings)
+is_idle t = is_empty t.control && is_empty t.acknowledged && is_empty t.requested && is_empty t.answers && is_empty (arrivals_in t.readings)
 
 -- a turn that took no datagram ends with one wait, unless the trace failed
 abbrev pub waits : Bool → ℕ → List Heard
@@ -247,7 +282,11 @@ abbrev pub data_stretch : List DataReading → PlantStretch
 data_stretch [] = plant_none
 data_stretch (r ∷ rs) = plant_joined (reading_stretch r) (data_stretch rs)
 
--- what the reading of Auth adds, where it was read
+-- what the reading of Coa adds, where it was read, and so of Auth
+abbrev pub asked_stretch : List Requested → Option Ended → PlantStretch
+asked_stretch requested None = plant_none
+asked_stretch requested (Some ended) = reading_stretch (coa_reading requested ended)
+
 abbrev pub auth_stretch : List Answered → Option Ended → PlantStretch
 auth_stretch answers None = plant_none
 auth_stretch answers (Some ended) = reading_stretch (auth_reading answers ended)
@@ -269,14 +308,16 @@ told_if false r = []
 -- what the phases of a turn add to what the plant tells, in their order
 abbrev pub plant_stretch : Desk → Turn → PlantStretch
 plant_stretch d t =
-    plant_joined (control_stretch t.control t.control_end)
+    plant_joined (control_stretch (stats_text d) t.control t.control_end)
     (plant_joined (reading_stretch (acct_reading t.acknowledged t.acct_end))
+    (plant_joined (asked_stretch t.requested t.coa_end)
     (plant_joined (auth_stretch t.answers t.auth_end)
     (plant_joined (data_stretch t.readings)
     (plant_joined (round_stretch t.round)
+    (plant_joined (coa_stretch (coa_sends t.replies))
     (plant_joined (requests_stretch d.lane.client.auth_server t.requests)
     (plant_joined (records_stretch d.billing.client.acct_server t.records)
-    (waiting_stretch (is_idle t && t.noted) (wait_for (earliest (deadline_in (after d t).shards) (earliest t.deadline t.record_deadline)) t.moment))))))))
+    (waiting_stretch (is_idle t && t.noted) (wait_for (earliest (deadline_in (after d t).shards) (earliest t.deadline t.record_deadline)) t.moment))))))))))
 
 -- what a turn adds to what the outside tells
 abbrev pub stretch_of : Desk → Option Turn → Stretch
@@ -307,15 +348,17 @@ pub record MakesTurn (d d' : Desk) (o o' : Outside) (result : Turned) : Type 0 w
 
 -- Ending ----------------------------------------------------------------------------------------------------------------
 
--- a turn of the ending: its moments, its round of Ends, the requests that were sent, whether the trace took the round, and how the lane
--- stands then, with the questions that were handed out; the records that were formed, their requests, and how accounting stands then, with the Interims
+-- a turn of the ending: its moments, its round of Ends, the replies to requests for changes that stayed, the requests that were sent,
+-- whether the trace took the round, which requests for changes are in hand then and which replies are kept, and how the lane stands then, with the questions that were handed out; the records that were formed, their requests, and how accounting stands then, with the Interims
 -- that were taken
 pub record EndTurn : Type 0 where
   pub moment : ℕ
   pub wall : ℕ
   pub round : Option Round
+  pub replies : CoaReplies
   pub requests : Requests
   pub noted : Bool
+  pub coa : CoaState
   pub lane : LaneState
   pub handed : List (List ℕ)
   pub formed : List FormedRecord
@@ -337,6 +380,7 @@ after_end d t = record (after_round d (ending_items d) t.round) {
   handed = t.handed;
   billing = t.billing;
   reports = t.reports;
+  coa = t.coa;
   endings = d.endings + 1;
   unopened = (if is_opened t.round then 0 else d.unopened + 1);
   closed = d.closed || is_opened t.round;
@@ -346,6 +390,10 @@ after_end d t = record (after_round d (ending_items d) t.round) {
 -- the lane in a turn of the ending: its settlement alone
 abbrev pub LaneEnd : Desk → EndTurn → Type 0
 LaneEnd d t = SettlesLane t.moment d.lane (after_round d (ending_items d) t.round).shards d.handed d.seed (d.drawn + ending_draws d) t.requests t.lane t.handed
+
+-- requests for changes in a turn of the ending: its settlement alone, and none is repeated
+abbrev pub CoaEnd : Desk → EndTurn → Type 0
+CoaEnd d t = SettlesCoa d.rules [] (loose_of (ending_items d) t.round) (answers_of t.round) d.coa t.replies t.coa
 
 -- once no session is left, Starts and Interims are sent no longer and their identifiers are free
 abbrev pub Closes : Bool → BillingState → BillingState → Type 0
@@ -365,13 +413,13 @@ pub record BillingEnd (d : Desk) (t : EndTurn) : Type 0 where
 -- A turn that wanted memory is None: it counts as one that opened no round.
 abbrev pub EndStep : Desk → Option EndTurn → Desk → Type 0
 EndStep d None d' = d' ≡ record d { endings = d.endings + 1; unopened = d.unopened + 1 }
-EndStep d (Some t) d' = (d.moment ≤ t.moment) × RoundOf d t.moment (ending_items d) t.round × LaneEnd d t × BillingEnd d t × (d' ≡ after_end d t)
+EndStep d (Some t) d' = (d.moment ≤ t.moment) × RoundOf d t.moment (ending_items d) t.round × LaneEnd d t × BillingEnd d t × CoaEnd d t × (d' ≡ after_end d t)
 
 -- it reads its moments, sends what the round has to send and tells the trace, and takes nothing and does not wait
 abbrev pub end_stretch : Desk → Option EndTurn → Stretch
 end_stretch d None = no_stretch
 end_stretch d (Some t) = record {
-  plant = plant_joined (round_stretch t.round) (plant_joined (requests_stretch d.lane.client.auth_server t.requests) (records_stretch d.billing.client.acct_server t.records));
+  plant = plant_joined (round_stretch t.round) (plant_joined (coa_stretch (coa_sends t.replies)) (plant_joined (requests_stretch d.lane.client.auth_server t.requests) (records_stretch d.billing.client.acct_server t.records)));
   answers = Now t.moment ∷ Wall t.wall ∷ [];
   rounds = told_if t.noted (round_told d t.moment t.wall (ending_items d) t.round);
   unnoted = not t.noted;

@@ -16,7 +16,7 @@ ghost use Rattle.bng_shard.specs.Protocol.{key_of, stop_of, SaysOf};
 ghost use Rattle.bng_shard.specs.Tenures.{Tenure};
 ghost use Rattle.bng_desk.specs.Accounting.{AreBilled, IsStartOf, IsStopOf};
 ghost use Rattle.bng_desk.specs.Intake.{SendsRecords, TakesAcknowledgements};
-ghost use Rattle.bng_desk.specs.Interims.{AreAwaited};
+ghost use Rattle.bng_desk.specs.Interims.{AreAwaited, AreWaiting};
 ghost use Rattle.bng_desk.specs.Model.{keys_in, line_after};
 ghost use Rattle.bng_desk.specs.Reading.{is_empty};
 ghost use Rattle.bng_desk.specs.Report.{stop_lines};
@@ -183,7 +183,7 @@ impl Accounts {
         ensures reports { ReportsAll moment wall shards.now self.old self.new }
         ensures billed { AreBilled (keys_in shards.now) self.new.billing }
         ensures held { KeepsHeld self.old.billing self.new.billing }
-        ensures awaited { AreAwaited moment shards.now self.new.reports }
+        ensures awaited { AreWaiting moment shards.now self.new.reports }
     {
         let reports = self.reports.as_mut_slice();
         report_each(shards, reports, &mut self.billing, moment, wall);

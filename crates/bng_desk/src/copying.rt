@@ -3,7 +3,7 @@ ghost use Rattle.std.specs.Prelude.{◌≡◌, IfOk};
 
 use crate::desk::DeskError;
 use arrayvec::ArrayVec;
-use bng_base::{AccessPort, AuthKind, Lac, Listed, NamedRange, Profile};
+use bng_base::{AccessPort, AuthKind, Ip4, Lac, Listed, NamedRange, Profile};
 use bng_discovery::PortRules;
 use bng_ppp::LinkRules;
 use bng_shard::Rules;
@@ -35,6 +35,16 @@ pub(crate) fn kinds_copied(kinds: &ArrayVec<AuthKind, 2>) -> ArrayVec<AuthKind, 
     ensures { result ≡ kinds.now }
 {
     let Ok(copy) = ArrayVec::try_from(kinds.as_slice()) else {
+        unreachable!();
+    };
+    copy
+}
+
+/// The same addresses again.
+pub(crate) fn peers_copied(peers: &ArrayVec<Ip4, 16>) -> ArrayVec<Ip4, 16>
+    ensures { result ≡ peers.now }
+{
+    let Ok(copy) = ArrayVec::try_from(peers.as_slice()) else {
         unreachable!();
     };
     copy
@@ -197,6 +207,9 @@ pub(crate) fn rules_copied(alloc: Global, rules: &Rules) -> Result<Rules, DeskEr
         profiles: Listed::of(profiles),
         lacs: Listed::of(lacs),
         serves_tunnels: rules.serves_tunnels,
+        nas_ip: rules.nas_ip,
+        wall: rules.wall,
+        serves_changes: rules.serves_changes,
         link: link_copied(&rules.link),
     })
 }

@@ -32,8 +32,8 @@ pub(crate) const GRACE_MOST: u64 = 30_000;
 /// So many turns of the grace are its end.
 const GRACES_MOST: u64 = 1_000_000;
 
-/// The most items that stay of a round: 128 verdicts, and an End for each of 64 shards.
-const KEPT_MOST: usize = 192;
+/// The most items that stay of a round: 32 requests for changes, 128 verdicts, and an End for each of 64 shards.
+const KEPT_MOST: usize = 224;
 
 /// What a desk was not opened or did not report for.
 #[derive(Clone, Copy, PartialEq, Eq, Debug)]
@@ -108,14 +108,14 @@ impl Model for Desk {
 
     ghost coded = { Prim.hlevel (codes, state_code) };
 
-    ghost view = { λ d. record { rules = d.rules; lines = d.works.accounts.lines; stopped_book = d.works.accounts.stopped.carried; stops = d.works.accounts.stopped.stops; rounds = d.rounds; turns = d.turns; stopped = d.stopped; shards = map rested d.works.shards.items; pool = d.works.pool; tallies = d.works.tally ∷ []; seed = d.works.draws.seed; drawn = d.works.draws.drawn; drops = d.works.drops; moment = d.moment; told = d.told; lane = d.works.lane; handed = d.works.handed.items; billing = d.works.accounts.billing; reports = d.works.accounts.reports; endings = d.endings; unopened = d.unopened; closed = d.closed; closing = d.closing; graces = d.graces; kept = d.works.kept.items } };
+    ghost view = { λ d. record { rules = d.rules; lines = d.works.accounts.lines; stopped_book = d.works.accounts.stopped.carried; stops = d.works.accounts.stopped.stops; rounds = d.rounds; turns = d.turns; stopped = d.stopped; shards = map rested d.works.shards.items; pool = d.works.pool; tallies = d.works.tally ∷ []; seed = d.works.draws.seed; drawn = d.works.draws.drawn; drops = d.works.drops; moment = d.moment; told = d.told; lane = d.works.lane; handed = d.works.handed.items; billing = d.works.accounts.billing; reports = d.works.accounts.reports; coa = d.works.coa; endings = d.endings; unopened = d.unopened; closed = d.closed; closing = d.closing; graces = d.graces; kept = d.works.kept.items } };
 
-    ghost invariant = { λ d. IsKept (record { rules = d.rules; lines = d.works.accounts.lines; stopped_book = d.works.accounts.stopped.carried; stops = d.works.accounts.stopped.stops; rounds = d.rounds; turns = d.turns; stopped = d.stopped; shards = d.works.shards.items; pool = d.works.pool; tallies = d.works.tally ∷ []; seed = d.works.draws.seed; drawn = d.works.draws.drawn; drops = d.works.drops; moment = d.moment; told = d.told; lane = d.works.lane; handed = d.works.handed.items; billing = d.works.accounts.billing; reports = d.works.accounts.reports; endings = d.endings; unopened = d.unopened; closed = d.closed; closing = d.closing; graces = d.graces; kept = d.works.kept.items }) × (192 ≤ vec_capacity d.works.kept) };
+    ghost invariant = { λ d. IsKept (record { rules = d.rules; lines = d.works.accounts.lines; stopped_book = d.works.accounts.stopped.carried; stops = d.works.accounts.stopped.stops; rounds = d.rounds; turns = d.turns; stopped = d.stopped; shards = d.works.shards.items; pool = d.works.pool; tallies = d.works.tally ∷ []; seed = d.works.draws.seed; drawn = d.works.draws.drawn; drops = d.works.drops; moment = d.moment; told = d.told; lane = d.works.lane; handed = d.works.handed.items; billing = d.works.accounts.billing; reports = d.works.accounts.reports; coa = d.works.coa; endings = d.endings; unopened = d.unopened; closed = d.closed; closing = d.closing; graces = d.graces; kept = d.works.kept.items }) × (224 ≤ vec_capacity d.works.kept) };
 }
 
 // An empty list with room for all items that may stay of a round.
 fn room_to_keep(alloc: Global) -> Result<Vec<Item>, DeskError>
-    ensures { IfOk result (λ kept. (kept.items ≡ []) × (192 ≤ vec_capacity kept)) }
+    ensures { IfOk result (λ kept. (kept.items ≡ []) × (224 ≤ vec_capacity kept)) }
 {
     match Vec::with_capacity(alloc, KEPT_MOST) {
         Ok(kept) => Ok(kept),
@@ -169,6 +169,7 @@ impl Desk {
     ) -> Result<Desk, DeskError>
         requires some { 1 ≤ rounds }
         requires most { rounds ≤ 2 ^ 40 }
+        requires moment { now < 2 ^ 60 }
         requires rules { KeepsRules config }
         requires pools { ArePoolRanges (map (λ (p : NamedRange). p.range) config.pools) }
         requires within { All (λ c. HasAddress (map (λ (p : NamedRange). p.range) config.pools) c.address.0) config.statics }
@@ -184,7 +185,8 @@ impl Desk {
         let pool = opening::pool(alloc, &config)?;
         let (handed, reports) = opening::notes(alloc, config.shards)?;
         let kept = room_to_keep(alloc)?;
-        let rules = opening::rules(alloc, &config, offers)?;
+        let coa = opening::coa(alloc, &config.coa)?;
+        let rules = opening::rules(alloc, &config, offers, wall)?;
         let circuits = mem::replace(&mut config.statics, Listed::of(Vec::new(alloc)));
         let opens = opening::shards(alloc, &rules, circuits.into_vec(), now)?;
         let accounts = opening::accounts(alloc, billing, lines, reports, opens.as_slice(), now)?;
@@ -202,6 +204,7 @@ impl Desk {
                 drops: NO_DROPS,
                 lane,
                 handed,
+                coa,
                 kept,
                 lists: Lists::new(alloc),
                 spare: Vec::new(alloc),

@@ -40,6 +40,7 @@ fn recorded(named: Named, lists: Lists) -> RoundRecord
         allowances,
         journals,
         outs,
+        repeats: _,
     } = lists;
     RoundRecord {
         number: named.number,
@@ -120,6 +121,7 @@ pub(crate) fn refused(
         allowances,
         mut journals,
         outs,
+        repeats,
     } = lists;
     for _shard in 0..shards {
         journals.push_reserved(Listed::of(Vec::new(alloc)));
@@ -132,6 +134,7 @@ pub(crate) fn refused(
             allowances,
             journals,
             outs,
+            repeats,
         },
     )
 }
@@ -188,8 +191,8 @@ pub(crate) struct Held {
     pub(crate) is_opened: bool,
 }
 
-/// Holds a round of these items; or, for want of memory, refuses those of the outside, and keeps the verdicts and the Ends for the
-/// next turn.
+/// Holds a round of these items; or, for want of memory, refuses those of the outside, and keeps the requests for
+/// changes, the verdicts and the Ends for the next turn.
 pub(crate) fn hold<P: Plant>(
     alloc: Global,
     rules: &Rules,

@@ -12,7 +12,7 @@ ghost use Rattle.bng_shard.specs.Lasting.{AreTenures};
 ghost use Rattle.bng_shard.specs.Protocol.{key_of, terms_of, SaysOf};
 ghost use Rattle.bng_shard.specs.Tenures.{Tenure};
 ghost use Rattle.bng_desk.specs.Accounting.{FormedRecord};
-ghost use Rattle.bng_desk.specs.Interims.{owed_by, AreAwaited, AwaitsAt, FormsInterim, FormsInterims, TakesInterims};
+ghost use Rattle.bng_desk.specs.Interims.{owed_by, AreAwaited, AreWaiting, AwaitsAt, WaitsAt, FormsInterim, FormsInterims, TakesInterims};
 ghost use Rattle.bng_desk.specs.Model.{keys_in};
 ghost use Rattle.bng_desk.specs.Round.{terms_in};
 ghost use Rattle.bng_desk.specs.Taking.{states_of, KeepsHeld, ReportsShard};
@@ -60,7 +60,7 @@ fn report(shard: &Shard, reports: &mut Reports, billing: &mut Billing, moment: u
     requires live { All (λ k. is_live (of_term k.term billing.old.spool.held) ≡ true) (keys (terms_of shard.now.state)) }
     requires awaited { AwaitsAt moment shard.now reports.old }
     ensures reports { ReportsShard moment wall shard.now reports.old reports.new billing.old billing.new }
-    ensures awaited { AwaitsAt moment shard.now reports.new }
+    ensures awaited { WaitsAt moment shard.now reports.new }
     ensures held { KeepsHeld billing.old billing.new }
 {
     if !shard.may_report(reports, moment) {
@@ -87,7 +87,7 @@ pub(crate) fn report_each(
     requires awaited { AreAwaited moment shards.now reports.old }
     ensures forms { (formed : List FormedRecord) × FormsInterims (terms_in (states_of shards.now)) moment wall billing.old (owed_by moment shards.now reports.old) formed billing.new }
     ensures taken { Zip3 (TakesInterims moment) shards.now reports.old reports.new }
-    ensures awaited { AreAwaited moment shards.now reports.new }
+    ensures awaited { AreWaiting moment shards.now reports.new }
     ensures held { KeepsHeld billing.old billing.new }
 {
     for (place, shard) in shards.iter().enumerate() {

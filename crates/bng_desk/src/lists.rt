@@ -1,16 +1,17 @@
 //! The lists of a turn.
 ghost use Rattle.std.specs.Prelude.{◌≡◌, ◌≤◌, ◌+◌, ◌*◌, ◌++◌, [], length, vec_capacity, replicate, IfOk};
 
+use crate::coa::{REQUESTS_MOST, Repeated};
 use bng_base::{Batch, Entry, Item, Listed, Loose, OutRecord, RoundRecord};
 use std::alloc::{AllocError, Global};
 use std::mem;
 
-/// The most items that the lists have room for. At most 864 come: 128 verdicts, 672 datagrams, and one Tick or End for each of 64
-/// shards.
+/// The most items that the lists have room for. At most 896 come: 32 requests for changes, 128 verdicts, 672 datagrams, and one Tick or
+/// End for each of 64 shards.
 pub(crate) const ITEMS_MOST: usize = 1024;
 
-/// The most outs that verdicts and items of the outside have, all together.
-const TAKEN_OUTS_MOST: usize = 8000;
+/// The most outs that requests, verdicts and items of the outside have, all together.
+const TAKEN_OUTS_MOST: usize = 8320;
 
 /// The most outs of a Tick or an End.
 const SHARD_OUTS_MOST: usize = 320;
@@ -26,6 +27,7 @@ pub(crate) struct Lists {
     pub(crate) allowances: Vec<u32>,
     pub(crate) journals: Vec<Listed<Entry>>,
     pub(crate) outs: Batch<OutRecord>,
+    pub(crate) repeats: Vec<Repeated>,
 }
 
 // An empty list with room for so many, of one that was used before.
@@ -104,6 +106,7 @@ impl Lists {
             allowances: Vec::new(alloc),
             journals: Vec::new(alloc),
             outs: Batch::new(alloc),
+            repeats: Vec::new(alloc),
         }
     }
 
@@ -114,7 +117,8 @@ impl Lists {
         ensures loose { IfOk result (λ l. (l.loose.items ≡ []) × (1024 ≤ vec_capacity l.loose)) }
         ensures allowances { IfOk result (λ l. l.allowances.items ≡ replicate shards 0) }
         ensures journals { IfOk result (λ l. (l.journals.items ≡ []) × (shards ≤ vec_capacity l.journals)) }
-        ensures outs { IfOk result (λ l. (l.outs.items ≡ []) × (8000 + 320 * shards ≤ l.outs.room)) }
+        ensures outs { IfOk result (λ l. (l.outs.items ≡ []) × (8320 + 320 * shards ≤ l.outs.room)) }
+        ensures repeats { IfOk result (λ l. (l.repeats.items ≡ []) × (32 ≤ vec_capacity l.repeats)) }
     {
         let Lists {
             items,
@@ -122,27 +126,31 @@ impl Lists {
             allowances,
             journals,
             outs,
+            repeats,
         } = mem::replace(self, Lists::new(alloc));
         let items = cleared(items, ITEMS_MOST)?;
         let loose = roomy(loose, ITEMS_MOST)?;
         let allowances = zeros(allowances, shards)?;
         let journals = roomy(journals, shards)?;
         let outs = cleared(outs, TAKEN_OUTS_MOST + SHARD_OUTS_MOST * shards)?;
+        let repeats = roomy(repeats, REQUESTS_MOST)?;
         Ok(Lists {
             items,
             loose,
             allowances,
             journals,
             outs,
+            repeats,
         })
     }
 
     /// The lists of a round that was told, for the next turn. Those of its journals go to `spare`; where it was not opened they have no
-    /// memory, and are let go.
+    /// memory, and are let go. The list of the replies that were sent again goes along.
     pub(crate) fn of_round(
         round: RoundRecord,
         is_opened: bool,
         spare: &mut Vec<Batch<Entry>>,
+        repeats: Vec<Repeated>,
     ) -> Lists {
         let RoundRecord {
             number: _,
@@ -164,6 +172,7 @@ impl Lists {
             allowances: allowances.into_vec(),
             journals,
             outs: outs.into_batch(),
+            repeats,
         }
     }
 }

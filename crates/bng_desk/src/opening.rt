@@ -1,5 +1,5 @@
 //! What a desk is opened with.
-ghost use Rattle.std.specs.Prelude.{◌≡◌, ◌≤◌, ◌<◌, ◌==◌, ◌/◌, [], ℕ, false, IfOk, is_some, length, map, filter, option_map};
+ghost use Rattle.std.specs.Prelude.{◌≡◌, ◌≤◌, ◌<◌, ◌==◌, ◌/◌, ◌^◌, [], ℕ, false, IfOk, is_some, length, map, filter, option_map};
 ghost use Rattle.std.specs.List.{All, AllPairs, range_with_len};
 ghost use Rattle.bng_acct.specs.Roster.{same};
 ghost use Rattle.bng_base.specs.declared.settings.NamedRange.{NamedRange};
@@ -11,14 +11,14 @@ ghost use Rattle.bng_shard.specs.Lasting.{AreTenures};
 ghost use Rattle.bng_shard.specs.Protocol.{opened};
 ghost use Rattle.bng_lane.specs.State.{IsNewLane};
 ghost use Rattle.bng_shard.specs.Questions.{none_handed};
-ghost use Rattle.bng_desk.specs.Opening.{line_of, shard_of, circuit_with, dns_of, lane_rules, billing_rules, AreOffersOf, AreServed, IsOpenedPool, OpensAccounts};
+ghost use Rattle.bng_desk.specs.Opening.{coa_of, line_of, shard_of, circuit_with, dns_of, lane_rules, billing_rules, AreOffersOf, AreServed, IsOpenedPool, OpensAccounts};
 ghost use Rattle.bng_desk.specs.Model.{keys_in};
 ghost use Rattle.bng_desk.specs.Taking.{HasFewSessions, HasRows};
 
 use crate::accounts::{Accounts, NO_STOPS};
 use crate::copying::{
-    all_copied, copied, kinds_copied, lacs_copied, pools_copied, ports_copied, profiles_copied,
-    rules_copied,
+    all_copied, copied, kinds_copied, lacs_copied, peers_copied, pools_copied, ports_copied,
+    profiles_copied, rules_copied,
 };
 use crate::desk::DeskError;
 use crate::line::Line;
@@ -27,8 +27,9 @@ use crate::sums::NO_TRAFFIC;
 use arrayvec::ArrayVec;
 use bng_access::NasRules;
 use bng_acct::AcctRules;
-use bng_base::{AccessPort, Ip4, Listed, NamedRange, Range, Static};
+use bng_base::{AccessPort, CoaPart, Ip4, Listed, NamedRange, Range, Static};
 use bng_billing::{Billing, BillingRules};
+use bng_coa::{CoaDesk, CoaRules};
 use bng_config::Config;
 use bng_discovery::PortRules;
 use bng_lane::{Lane, LaneRules};
@@ -45,13 +46,14 @@ fn dns(servers: &ArrayVec<Ip4, 2>) -> [Option<Ip4>; 2]
     [servers.get(0).copied(), servers.get(1).copied()]
 }
 
-/// By what all shards work.
+/// By what all shards work. `wall` is the second on the wall at which the run opened.
 pub(crate) fn rules(
     alloc: Global,
     config: &Config,
     offers: Vec<PortRules>,
+    wall: u64,
 ) -> Result<Rules, DeskError>
-    ensures { IfOk result (λ r. r ≡ record { shards = config.now.shards; core_peer = config.now.core_peer; access = config.now.access; offers = offers.items; pools = config.now.pools; profiles = config.now.profiles; lacs = config.now.lacs; serves_tunnels = is_some config.now.tunnel_local; link = record { name = config.now.name; address = config.now.address; dns = dns_of config.now.dns.items; auth = config.now.auth; echo = config.now.echo } }) }
+    ensures { IfOk result (λ r. r ≡ record { shards = config.now.shards; core_peer = config.now.core_peer; access = config.now.access; offers = offers.items; pools = config.now.pools; profiles = config.now.profiles; lacs = config.now.lacs; serves_tunnels = is_some config.now.tunnel_local; nas_ip = config.now.nas_ip; wall = wall; serves_changes = is_some config.now.coa; link = record { name = config.now.name; address = config.now.address; dns = dns_of config.now.dns.items; auth = config.now.auth; echo = config.now.echo } }) }
 {
     let access = ports_copied(alloc, config.access.as_slice())?;
     let pools = pools_copied(alloc, config.pools.as_slice())?;
@@ -66,6 +68,9 @@ pub(crate) fn rules(
         profiles: Listed::of(profiles),
         lacs: Listed::of(lacs),
         serves_tunnels: config.tunnel_local.is_some(),
+        nas_ip: config.nas_ip,
+        wall,
+        serves_changes: config.coa.is_some(),
         link: LinkRules {
             name: copied(&config.name),
             address: config.address,
@@ -118,6 +123,33 @@ pub(crate) fn lane(alloc: Global, config: &Config) -> Result<Lane, DeskError>
     };
     match Lane::open(alloc, rules) {
         Ok(lane) => Ok(lane),
+        Err(_) => Err(DeskError::OutOfMemory),
+    }
+}
+
+// Who may ask for changes, and the secret; nobody may where the configuration has no such part.
+fn coa_rules(part: &Option<CoaPart>) -> CoaRules
+    ensures { coa_of part.now ≡ record { peers = result.peers.items; secret = result.secret.items; requests = [] } }
+{
+    match part {
+        Some(part) => CoaRules {
+            peers: peers_copied(&part.peers),
+            secret: copied(&part.secret),
+        },
+        None => CoaRules {
+            peers: ArrayVec::new(),
+            secret: ArrayVec::new(),
+        },
+    }
+}
+
+/// The requests for changes, of which none is in hand.
+pub(crate) fn coa(alloc: Global, part: &Option<CoaPart>) -> Result<CoaDesk, DeskError>
+    ensures { IfOk result (λ c. c ≡ coa_of part.now) }
+{
+    let rules = coa_rules(part);
+    match CoaDesk::open(alloc, &rules) {
+        Ok(desk) => Ok(desk),
         Err(_) => Err(DeskError::OutOfMemory),
     }
 }
@@ -285,6 +317,7 @@ pub(crate) fn shards(
     circuits: Vec<Static>,
     now: u64,
 ) -> Result<Vec<Shard>, DeskError>
+    requires moment { now < 2 ^ 60 }
     requires few { rules.now.shards ≤ 64 }
     requires few_pools { length rules.now.pools ≤ 16 }
     requires some_profile { 0 < length rules.now.profiles }

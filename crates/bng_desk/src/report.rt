@@ -12,7 +12,7 @@ use bng_shard::{Shard, Traffic};
 use std::alloc::{AllocError, Global};
 
 /// The causes, by number.
-const CAUSES: [DropCause; 9] = [
+pub(crate) const CAUSES: [DropCause; 9] = [
     DropCause::Malformed,
     DropCause::NoSession,
     DropCause::NotOpen,
@@ -193,7 +193,8 @@ fn push_drop_line(text: &mut String, cause: DropCause, items: u64) -> Result<(),
     write!(text, "drop {name} {items}\n")
 }
 
-fn name_of(cause: DropCause) -> &'static str
+/// The name of a cause.
+pub(crate) fn name_of(cause: DropCause) -> &'static str
     ensures { result.now ≡ cause_name cause }
 {
     match cause {

@@ -1,5 +1,6 @@
 //! The settlement of a turn: its round, the requests to the RADIUS server, and what the trace is told.
 ghost use Rattle.std.specs.Prelude.{◌≡◌};
+ghost use Rattle.bng_desk.specs.Coa.{replies_in};
 ghost use Rattle.bng_desk.specs.Settlement.{IsReady, KeepsWorks, Settles};
 
 use crate::accounts::Accounts;
@@ -7,17 +8,20 @@ use crate::drops::Drops;
 use crate::holding::{Held, Named, hold, note};
 use crate::lists::Lists;
 use crate::random::Draws;
+use crate::replies::send_replies;
 use crate::requests::send_requests;
 use bng_base::{Batch, Book, Entry, Frame, Item};
+use bng_coa::CoaDesk;
 use bng_lane::Lane;
 use bng_plant::{Plant, Trace};
 use bng_pool::PlainPool;
 use bng_shard::{Handed, Rules, Shard};
 use std::alloc::Global;
+use std::mem;
 
 /// What the turns of a desk work on. The lists of its turns are kept from one to the next: `lists`, and in `spare` those of the shards'
 /// journals. `kept` has room for all that may stay of a round, so that a round that could not be opened for want of memory takes none.
-/// Into `frame` a turn receives; it is kept so that no turn blanks one.
+/// Into `frame` a turn receives, and in it the replies to requests for changes are formed; it is kept so that no turn blanks one.
 pub(crate) struct Works {
     pub(crate) shards: Vec<Shard>,
     pub(crate) pool: PlainPool,
@@ -27,6 +31,7 @@ pub(crate) struct Works {
     pub(crate) drops: Drops,
     pub(crate) lane: Lane,
     pub(crate) handed: Vec<Handed>,
+    pub(crate) coa: CoaDesk,
     pub(crate) kept: Vec<Item>,
     pub(crate) lists: Lists,
     pub(crate) spare: Vec<Batch<Entry>>,
@@ -44,6 +49,7 @@ impl Drop for Works {
             drops: _,
             lane: _,
             handed: _,
+            coa: _,
             kept: _,
             lists: _,
             spare: _,
@@ -59,8 +65,8 @@ pub(crate) struct Settled {
     pub(crate) is_opened: bool,
 }
 
-/// Holds a round of the items on the lists, sends the requests that are due again and those of the questions and of the records that
-/// wait, and tells the trace the round. The lists are kept for the next turn.
+/// Holds a round of the items on the lists, sends the replies to requests for changes, the requests that are due again and those of the
+/// questions and of the records that wait, and tells the trace the round. The lists are kept for the next turn.
 pub(crate) fn settle<P: Plant, T: Trace>(
     alloc: Global,
     rules: &Rules,
@@ -68,13 +74,23 @@ pub(crate) fn settle<P: Plant, T: Trace>(
     plant: &mut P,
     trace: &mut T,
     named: Named,
-    lists: Lists,
+    mut lists: Lists,
 ) -> Settled
     requires ready { IsReady rules.now named lists works.old }
-    ensures settles { Settles rules.now named lists.items.items works.old works.new (P.told plant.old) (P.told plant.new) (T.told trace.old) (T.told trace.new) result }
+    ensures settles { Settles rules.now named (replies_in lists.repeats.items) lists.items.items works.old works.new (P.told plant.old) (P.told plant.new) (T.told trace.old) (T.told trace.new) result }
     ensures keeps { KeepsWorks named.moment works.old works.new }
 {
+    let repeats = mem::replace(&mut lists.repeats, Vec::new(alloc));
     let Held { record, is_opened } = hold(alloc, rules, works, plant, named, lists);
+    send_replies(
+        plant,
+        rules,
+        repeats.as_slice(),
+        record.loose.as_slice(),
+        works.shards.as_mut_slice(),
+        &mut works.coa,
+        &mut works.frame,
+    );
     send_requests(
         plant,
         &mut works.lane,
@@ -85,6 +101,6 @@ pub(crate) fn settle<P: Plant, T: Trace>(
     );
     works.accounts.send(plant, named.moment);
     let noted = note(trace, &record);
-    works.lists = Lists::of_round(record, is_opened, &mut works.spare);
+    works.lists = Lists::of_round(record, is_opened, &mut works.spare, repeats);
     Settled { noted, is_opened }
 }

@@ -12,9 +12,10 @@ use crate::desk::{Desk, DeskState, GRACE_MOST, Turned};
 use crate::due::{deadline_of, earlier, wait_until};
 use crate::ends::to_end;
 use crate::flags::{both, either};
-use crate::gathering::gather;
+use crate::gathering::{begin, gather};
 use crate::holding::Named;
 use crate::settlement::{Settled, settle};
+use crate::stats::Counted;
 use crate::sums::sessions_in;
 use bng_plant::{Clock, Gate, Plant, Trace};
 use bng_shard::Shard;
@@ -103,14 +104,29 @@ impl Desk {
         };
         let now = clock.now();
         let wall = clock.wall();
-        let heeding = heed(plant, &mut self.works.frame);
+        let counted = Counted {
+            shards: self.works.shards.as_slice(),
+            accounts: &self.works.accounts,
+            tally: self.works.tally,
+            drops: &self.works.drops,
+            profiles: self.rules.profiles.as_slice(),
+        };
+        let heeding = heed(plant, &mut self.works.frame, &counted);
         let unacknowledged = self.works.accounts.hear(plant, &mut self.works.frame);
-        let quiet = gather(&self.rules, &mut self.works, plant, now, &mut lists.items);
         let named = Named {
             number: self.told + 1,
             moment: now,
             wall,
         };
+        let front = begin(&self.rules, &mut self.works, plant, named, &mut lists);
+        let quiet = gather(
+            &self.rules,
+            &mut self.works,
+            plant,
+            now,
+            front,
+            &mut lists.items,
+        );
         let Settled {
             noted,
             is_opened: _,
@@ -124,7 +140,8 @@ impl Desk {
             lists,
         );
         let asked = earlier(self.works.lane.deadline(), self.works.accounts.deadline());
-        let silent = both(both(heeding.idle, unacknowledged), quiet);
+        let unasked = both(both(heeding.idle, unacknowledged), front.quiet);
+        let silent = both(unasked, quiet);
         let idle = both(silent, noted);
         wait_for_work(plant, idle, self.works.shards.as_slice(), asked, now);
         self.told = told_after(noted, self.told);
@@ -211,14 +228,15 @@ impl Desk {
         Turned::Ok
     }
 
-    /// One turn. While the desk serves: it reads Control, then Acct, then Auth, then the end for tunnels, where there is one, then the
+    /// One turn. While the desk serves: it reads Control, then Acct, then Coa, then Auth, then the end for tunnels, where there is one, then the
     /// access ports and then the core, and answers each word from 127.0.0.0/8; each datagram of Acct that acknowledges a record ends it
-    /// (RFC 2866 section 2); each reply to a question is an item of a round, and so is each datagram for a tunnel, of a port and of the
+    /// (RFC 2866 section 2); each new request for a change (RFC 5176) is an item of a round, each reply to a question is an item of a round, and so is each datagram for a tunnel, of a port and of the
     /// core, each question that is given up, and a Tick of each shard that has a due deadline; it hands each item to its shard, sends what they have to send, charges each packet that was
     /// sent to its term, forms a Stop of each term that ended, a Start of each that began and an Interim of each live one of which one is
-    /// due, sends the requests that are due again and those of the questions (RFC 2865 section 2.5) and of the records that wait, and
+    /// due, sends the replies to requests for changes, those that are repeated first, sends the requests that are due again and those of the questions (RFC 2865 section 2.5) and of the records that wait, and
     /// tells the trace the round; where nothing was taken it waits. Where the
-    /// round could not be opened, its verdicts stand first in the next one, and Auth is not read until they were handled. While it ends:
+    /// round could not be opened, its requests for changes and verdicts stand first in the next one, and neither Coa nor Auth is read until
+    /// they were handled. While it ends:
     /// a round of what stays and of one End for each shard; once no session is left, Starts and Interims are forgotten. In its grace it
     /// reads Acct, sends the requests that are due again and those of the Stops that wait, and waits where nothing was taken. After each
     /// turn of the ending or of the grace fewer are left. When all is over it does nothing.

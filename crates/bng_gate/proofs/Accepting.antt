@@ -29,7 +29,7 @@ use Rattle.bng_shard.proofs.Values.{kept_from}
 use Rattle.bng_desk.specs.Model.{Desk}
 use Rattle.bng_gate.specs.Granted.{Held, HandledIn}
 use Rattle.bng_gate.proofs.HeldRuns.{HeldRun, HasCount}
-use Rattle.bng_gate.proofs.Reaching.{AreFresh, IsFresh, IsKept, at_first, mapped, reached}
+use Rattle.bng_gate.proofs.Reaching.{AreFresh, IsFresh, IsKept, at_first, mapped, reached, rested}
 
 -- an entry of this turn, or of one before it, is the yes to this question of this session
 pub record IsTold (held : List Held) (k session ask : ℕ) : Type 0 where
@@ -129,7 +129,7 @@ module _ (held : List Held) where
     told = λ n ask is. told_later k n ask (h.told n ask is);
   }
 
-  sure_settled : (k p : ℕ) (s : ShardState) → IsSure held k p s → IsSure held (suc k) p ((pppoe).settled s)
+  sure_settled : (k p : ℕ) (s : ShardState) → IsSure held k p s → IsSure held (suc k) p (rested s)
   sure_settled k p s h = record {
     sound = settled_sound s.slots h.sound;
     shard = h.shard;

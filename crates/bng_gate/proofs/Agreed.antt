@@ -59,7 +59,7 @@ closes_agrees false b b' closes is = absurd (false≢true is)
 
 late_agrees : (d d' : Desk) (t : Late) → LateStep d t d' → AgreesThen d → AgreesThen d'
 late_agrees d d' (Ends None) step agrees = subst AgreesThen (sym step) agrees
-late_agrees d d' (Ends (Some t)) step agrees = subst AgreesThen (sym step.4) (closes_agrees (has_ended (after_end d t)) step.3.settled t.billing step.3.closes)
+late_agrees d d' (Ends (Some t)) step agrees = subst AgreesThen (sym step.5) (closes_agrees (has_ended (after_end d t)) step.3.settled t.billing step.3.closes)
 late_agrees d d' (Waits t) step agrees =
     subst AgreesThen (sym step.after) (λ none_left. settles_agrees t.moment step.heard t.billing t.records step.settles
     (chain_keeps (λ b (a : Acknowledged) b'. Takes b a.arrival.from a.arrival.octets a.found b') Agrees (λ s s' a takes k. takes_agrees s s' a.arrival.from a.arrival.octets a.found takes k) d.billing step.heard t.acknowledged step.hears (agrees none_left)))
@@ -71,7 +71,7 @@ kept_closed d items (Some round) = refl
 
 step_closed : (d d' : Desk) (t : Option Turn) → Step d t d' → d'.closed ≡ d.closed
 step_closed d d' None step = ap (λ (u : Desk). u.closed) step
-step_closed d d' (Some t) step = ap (λ (u : Desk). u.closed) step.4 ∙ kept_closed d (items_of d t) t.round
+step_closed d d' (Some t) step = ap (λ (u : Desk). u.closed) step.5 ∙ kept_closed d (items_of d t) t.round
 
 run_closed : (d d' : Desk) (turns : List Made) → Run d turns d' → d'.closed ≡ d.closed
 run_closed d d' [] run = ap (λ (u : Desk). u.closed) run

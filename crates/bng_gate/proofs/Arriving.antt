@@ -11,8 +11,11 @@ use Rattle.bng_base.specs.declared.outside.Datagram.{Datagram}
 use Rattle.bng_base.specs.declared.outside.Role.{Role}
 use Rattle.bng_base.specs.declared.outside.Role.TheVariants.{Access, Core, Tunnel, Auth, Acct, Coa, Control}
 use Rattle.bng_base.specs.FateOf.{Arrival}
+use Rattle.bng_coa.specs.declared.rules.Admitted.{Admitted}
+use Rattle.bng_coa.specs.declared.rules.Admitted.TheVariants.{New, Repeat, InHand, Ignored}
 use Rattle.bng_shard.specs.Protocol.{ShardState, Handled}
 use Rattle.bng_verdict.specs.declared.question.QuestionNo.{QuestionNo}
+use Rattle.bng_desk.specs.Coa.{Requested, change_in, change_item, change_items}
 use Rattle.bng_desk.specs.Items.{DataReading, arrived, drawn_from, ends_of, kept_of, kind_of, stays, taken_items, ticks_of}
 use Rattle.bng_desk.specs.Logins.{Answered, reply_in, reply_items, silence, timeout_items, verdict_item}
 use Rattle.bng_desk.specs.Model.{Desk}
@@ -100,6 +103,16 @@ kept_else (i ∷ items) = by (stays i.kind) refl (kept_else items)
     by true is rest = (stays_else i is, rest)
     by false is rest = rest
 
+changes_else : (requested : List Requested) → All IsElse (change_items requested)
+changes_else [] = All-nil IsElse
+changes_else (q ∷ requested) = All-append IsElse (change_in q.arrival q.admitted q.target) (change_items requested) (one q.admitted) (changes_else requested)
+  where
+    one : (admitted : Admitted) → All IsElse (change_in q.arrival admitted q.target)
+    one (New number) = All-cons IsElse (change_item q.arrival number q.target) [] (λ port e. absurd cc) (All-nil IsElse)
+    one (Repeat frame) = All-nil IsElse
+    one InHand = All-nil IsElse
+    one (Ignored cause) = All-nil IsElse
+
 replies_else : (answers : List Answered) → All IsElse (reply_items answers)
 replies_else [] = All-nil IsElse
 replies_else (x ∷ answers) = All-append IsElse (reply_in x.arrival x.found) (reply_items answers) (one x.found) (replies_else answers)
@@ -124,11 +137,12 @@ items_among d t kept =
     let weaker = All-weaker IsElse P (else_among (taken_of t.readings)) in
     All-append P d.kept (drawn_from d.seed d.drawn (new_items d t)) (weaker d.kept kept)
     (drawn_all P (λ i octets h. h) d.seed d.drawn (new_items d t)
+    (All-append P (change_items t.requested) (reply_items t.answers ++ taken_items t.readings ++ timeout_items t.timed ++ ticks_of t.moment d.shards) (weaker (change_items t.requested) (changes_else t.requested))
     (All-append P (reply_items t.answers ++ taken_items t.readings ++ timeout_items t.timed) (ticks_of t.moment d.shards)
     (All-append P (reply_items t.answers ++ taken_items t.readings) (timeout_items t.timed)
     (All-append P (reply_items t.answers) (taken_items t.readings) (weaker (reply_items t.answers) (replies_else t.answers)) (taken_among t.readings))
     (weaker (timeout_items t.timed) (timeouts_else t.timed)))
-    (weaker (ticks_of t.moment d.shards) (ticks_else d t.moment))))
+    (weaker (ticks_of t.moment d.shards) (ticks_else d t.moment)))))
 
 -- and of one of the ending
 ending_else : (d : Desk) → All IsElse d.kept → All IsElse (ending_items d)
@@ -147,14 +161,14 @@ step_keeps : (d d' : Desk) (t : Option Turn) → Step d t d' → AreElse d → A
 step_keeps d d' None step kept = subst (All IsElse) (sym (ap (λ (x : Desk). x.kept) step)) kept
 step_keeps d d' (Some t) step kept =
     let items = items_of d t in
-    subst (All IsElse) (sym (ap (λ (x : Desk). x.kept) step.4)) (kept_after IsElse d items t.round (All-from_recursion IsElse (kept_of items) (kept_else items)))
+    subst (All IsElse) (sym (ap (λ (x : Desk). x.kept) step.5)) (kept_after IsElse d items t.round (All-from_recursion IsElse (kept_of items) (kept_else items)))
 
 end_keeps : (d d' : Desk) (t : Late) → LateStep d t d' → AreElse d → AreElse d'
 end_keeps d d' (Ends None) step kept = subst (All IsElse) (sym (ap (λ (x : Desk). x.kept) step)) kept
 end_keeps d d' (Waits t) step kept = subst (All IsElse) (sym (ap (λ (x : Desk). x.kept) step.after)) kept
 end_keeps d d' (Ends (Some t)) step kept =
     let items = ending_items d in
-    subst (All IsElse) (sym (ap (λ (x : Desk). x.kept) step.4)) (kept_after IsElse d items t.round (All-from_recursion IsElse (kept_of items) (kept_else items)))
+    subst (All IsElse) (sym (ap (λ (x : Desk). x.kept) step.5)) (kept_after IsElse d items t.round (All-from_recursion IsElse (kept_of items) (kept_else items)))
 
 -- the item of an entry that was handled is one of the round's
 handled_is : (P : Item → Type 0) (d : Desk) (moment : ℕ) (items : List Item) (round : Option Round) (r : Round) → round ≡ Some r → RoundOf d moment items round → All P items

@@ -4,7 +4,8 @@ use Rattle.std.proofs.lemmas.List.{length-append, take-append-le, take_all, take
 use Rattle.bng_base.specs.declared.address.Peer.{Peer}
 use Rattle.bng_base.specs.declared.outside.Bind.{Bind}
 use Rattle.bng_base.specs.declared.outside.ClockAnswer.TheVariants.{Now, Wall}
-use Rattle.bng_base.specs.declared.outside.Role.TheVariants.{Access, Auth, Acct, Core, Control, Tunnel}
+use Rattle.bng_base.specs.declared.outside.Role.{Role}
+use Rattle.bng_base.specs.declared.outside.Role.TheVariants.{Access, Auth, Acct, Core, Control, Tunnel, Coa}
 use Rattle.bng_base.specs.declared.settings.AccessPort.{AccessPort}
 use Rattle.bng_base.specs.Causes.{Rose}
 use Rattle.bng_base.specs.Told.{PlantTold, ClockTold, Grows, GrowsIfTold}
@@ -13,7 +14,7 @@ use Rattle.bng_config.specs.declared.config.Config.{Config}
 use Rattle.bng_plant.specs.declared.answers.Bound.{Bound}
 use Rattle.bng_plant.specs.declared.answers.Bound.TheVariants.{Ok, Failed}
 use Rattle.bng_plant.specs.Calls.{binds}
-use Rattle.bng_gate.specs.Run.{port_binds, tunnel_binds, binds_of, binds_most, BindsPorts, FailsAtPort, BindsTunnel, FailsAtTunnel, Binds, FailsToBind, FailsToBindPort, FailsToBindTunnel, IsBound}
+use Rattle.bng_gate.specs.Run.{port_binds, end_binds, coa_local, tunnel_binds, coa_binds, binds_of, binds_before_coa, binds_most, BindsPorts, FailsAtPort, BindsEnd, FailsAtEnd, Binds, FailsToBind, FailsToBindPort, FailsToBindTunnel, FailsToBindCoa, IsBound}
 
 same_number : (m n : ℕ) (port : AccessPort) (bs : List Bind) → m ≡ n → record { role = Access m; local = port.local } ∷ bs ≡ record { role = Access n; local = port.local } ∷ bs
 same_number m n port bs e = let make : ℕ → List Bind = λ k. record { role = Access k; local = port.local } ∷ bs in ap make e
@@ -53,8 +54,12 @@ auth_bind config = record { role = Auth; local = config.auth_local }
 abbrev acct_bind : Config → Bind
 acct_bind config = record { role = Acct; local = config.acct_local }
 
+-- those of the ends that the configuration may lack
+abbrev end_binds_of : Config → List Bind
+end_binds_of config = tunnel_binds config ++ coa_binds config
+
 abbrev server_binds : Config → List Bind
-server_binds config = auth_bind config ∷ acct_bind config ∷ tunnel_binds config.tunnel_local
+server_binds config = auth_bind config ∷ acct_bind config ∷ end_binds_of config
 
 -- the first of the ports' binds, which those after them do not touch
 ports_front : (config : Config) (k : ℕ) → k ≤ length config.access → take k (port_binds 1 config.access ++ server_binds config) ≡ take k (port_binds 1 config.access)
@@ -88,7 +93,7 @@ fails_after config number p₀ p₁ p₂ first f = record {
   };
 }
 
--- Auth and Acct come after them, and then the end for tunnels
+-- Auth and Acct come after them, and then the ends for tunnels and for changes
 abbrev data_binds : Config → List Bind
 data_binds config = record { role = Control; local = config.control_local } ∷ record { role = Core; local = config.core_local } ∷ port_binds 1 config.access
 
@@ -109,7 +114,7 @@ with_auth : (config : Config) → take (2 + length config.access) (binds_of conf
 with_auth config =
     let three : suc (length (data_binds config)) ≡ 3 + length config.access = omega (arith, data_count config) in
     ap (λ (n : ℕ). take n (binds_of config) ++ auth_bind config ∷ []) (sym (data_count config))
-    ∙ one_more (data_binds config) (auth_bind config) (acct_bind config) (tunnel_binds config.tunnel_local)
+    ∙ one_more (data_binds config) (auth_bind config) (acct_bind config) (end_binds_of config)
     ∙ ap (λ (n : ℕ). take n (binds_of config)) three
 
 with_acct : (config : Config) → take (3 + length config.access) (binds_of config) ++ acct_bind config ∷ [] ≡ take (4 + length config.access) (binds_of config)
@@ -117,19 +122,43 @@ with_acct config =
     let three : 3 + length config.access ≡ suc (length (data_binds config)) = omega (arith, data_count config) in
     let four : suc (suc (length (data_binds config))) ≡ 4 + length config.access = omega (arith, data_count config) in
     ap (λ (n : ℕ). take n (binds_of config) ++ acct_bind config ∷ []) three
-    ∙ two_more (data_binds config) (auth_bind config) (acct_bind config) (tunnel_binds config.tunnel_local)
+    ∙ two_more (data_binds config) (auth_bind config) (acct_bind config) (end_binds_of config)
     ∙ ap (λ (n : ℕ). take n (binds_of config)) four
 
-with_tunnel : (config : Config) → take (4 + length config.access) (binds_of config) ++ tunnel_binds config.tunnel_local ≡ take (binds_most config) (binds_of config)
-with_tunnel config =
-    let last = tunnel_binds config.tunnel_local in
+-- the front of a list, and then what comes after it
+front_more : (front middle last : List Bind) (n : ℕ) → length front ≡ n → take n (front ++ (middle ++ last)) ++ middle ≡ take (n + length middle) (front ++ (middle ++ last))
+front_more front middle last n count =
+    ap (λ (bs : List Bind). bs ++ middle) (take_at front (middle ++ last) n count)
+    ∙ sym (take_at (front ++ middle) last (n + length middle) (length-append front middle ∙ ap (λ (k : ℕ). k + length middle) count))
+    ∙ ap (λ (bs : List Bind). take (n + length middle) bs) (append_assoc front middle last)
+
+-- all before the end for tunnels
+abbrev front_binds : Config → List Bind
+front_binds config = data_binds config ++ auth_bind config ∷ acct_bind config ∷ []
+
+front_count : (config : Config) → length (front_binds config) ≡ 4 + length config.access
+front_count config =
     let servers : List Bind = auth_bind config ∷ acct_bind config ∷ [] in
-    let front = data_binds config ++ servers in
-    let split : front ++ last ≡ binds_of config = append_assoc (data_binds config) servers last in
-    let count : length front ≡ 4 + length config.access = omega (arith, length-append (data_binds config) servers, data_count config) in
-    let all : length (binds_of config) ≤ binds_most config = omega (arith, ap (λ (bs : List Bind). length bs) split, length-append front last, count) in
-    ap (λ (bs : List Bind). take (4 + length config.access) bs ++ last) (sym split)
-    ∙ ap (λ (bs : List Bind). bs ++ last) (take_at front last (4 + length config.access) count)
+    let two : length servers ≡ 2 = refl in
+    omega (arith, length-append (data_binds config) servers, data_count config, two)
+
+front_split : (config : Config) → front_binds config ++ end_binds_of config ≡ binds_of config
+front_split config = append_assoc (data_binds config) (auth_bind config ∷ acct_bind config ∷ []) (end_binds_of config)
+
+with_tunnel : (config : Config) → take (4 + length config.access) (binds_of config) ++ tunnel_binds config ≡ take (binds_before_coa config) (binds_of config)
+with_tunnel config =
+    ap (λ (bs : List Bind). take (4 + length config.access) bs ++ tunnel_binds config) (sym (front_split config))
+    ∙ front_more (front_binds config) (tunnel_binds config) (coa_binds config) (4 + length config.access) (front_count config)
+    ∙ ap (λ (bs : List Bind). take (binds_before_coa config) bs) (front_split config)
+
+with_coa : (config : Config) → take (binds_before_coa config) (binds_of config) ++ coa_binds config ≡ take (binds_most config) (binds_of config)
+with_coa config =
+    let front : List Bind = front_binds config ++ tunnel_binds config in
+    let split : front ++ coa_binds config ≡ binds_of config = append_assoc (front_binds config) (tunnel_binds config) (coa_binds config) ∙ front_split config in
+    let count : length front ≡ binds_before_coa config = length-append (front_binds config) (tunnel_binds config) ∙ ap (λ (k : ℕ). k + length (tunnel_binds config)) (front_count config) in
+    let all : length (binds_of config) ≤ binds_most config = omega (arith, ap (λ (bs : List Bind). length bs) split, length-append front (coa_binds config), count) in
+    ap (λ (bs : List Bind). take (binds_before_coa config) bs ++ coa_binds config) (sym split)
+    ∙ ap (λ (bs : List Bind). bs ++ coa_binds config) (take_at front (coa_binds config) (binds_before_coa config) count)
     ∙ split
     ∙ sym (take_all (binds_most config) (binds_of config) all)
 
@@ -151,15 +180,21 @@ pub acct_after : (config : Config) (p₀ p₁ p₂ : PlantTold) → Binds config
     → p₂.heard ≡ p₁.heard → p₂.taken ≡ p₁.taken → p₂.sent ≡ p₁.sent → p₁.faults ≤ p₂.faults → Binds config (4 + length config.access) p₀ p₂
 acct_after config p₀ p₁ p₂ first bound heard taken sent later = next_after config (3 + length config.access) (4 + length config.access) (acct_bind config) p₀ p₁ p₂ (with_acct config) first bound heard taken sent later
 
-pub tunnel_after : (config : Config) (p₀ p₁ p₂ : PlantTold) → Binds config (4 + length config.access) p₀ p₁ → BindsTunnel config.tunnel_local p₁ p₂ → Binds config (binds_most config) p₀ p₂
-tunnel_after config p₀ p₁ p₂ first then = record {
-  bound = subst (λ (bs : List Bind). Grows p₀.bound p₂.bound bs) (with_tunnel config)
-      (grows_more p₀.bound p₁.bound p₂.bound (take (4 + length config.access) (binds_of config)) (tunnel_binds config.tunnel_local) first.bound then.bound);
+end_after : (config : Config) (n m : ℕ) (role : Role) (local : Option Peer) (p₀ p₁ p₂ : PlantTold) → take n (binds_of config) ++ end_binds role local ≡ take m (binds_of config) → Binds config n p₀ p₁ → BindsEnd role local p₁ p₂ → Binds config m p₀ p₂
+end_after config n m role local p₀ p₁ p₂ next first then = record {
+  bound = subst (λ (bs : List Bind). Grows p₀.bound p₂.bound bs) next (grows_more p₀.bound p₁.bound p₂.bound (take n (binds_of config)) (end_binds role local) first.bound then.bound);
   heard = then.heard ∙ first.heard;
   taken = then.taken ∙ first.taken;
   sent = then.sent ∙ first.sent;
   later = omega (arith, first.later, then.later);
 }
+
+pub tunnel_after : (config : Config) (p₀ p₁ p₂ : PlantTold) → Binds config (4 + length config.access) p₀ p₁ → BindsEnd Tunnel config.tunnel_local p₁ p₂ → Binds config (binds_before_coa config) p₀ p₂
+tunnel_after config p₀ p₁ p₂ first then = end_after config (4 + length config.access) (binds_before_coa config) Tunnel config.tunnel_local p₀ p₁ p₂ (with_tunnel config) first then
+
+pub coa_after : (config : Config) (local : Option Peer) (p₀ p₁ p₂ : PlantTold) → local ≡ coa_local config.coa → Binds config (binds_before_coa config) p₀ p₁ → BindsEnd Coa local p₁ p₂ → Binds config (binds_most config) p₀ p₂
+coa_after config local p₀ p₁ p₂ is first then =
+    end_after config (binds_before_coa config) (binds_most config) Coa (coa_local config.coa) p₀ p₁ p₂ (with_coa config) first (subst (λ (l : Option Peer). BindsEnd Coa l p₁ p₂) is then)
 
 -- nothing more was bound, and the count rose
 pub next_fails : (config : Config) (n : ℕ) (p₀ p₁ p₂ : PlantTold) → Binds config n p₀ p₁ → Grows p₁.bound p₂.bound []
@@ -175,16 +210,22 @@ next_fails config n p₀ p₁ p₂ first bound heard taken sent later rose = rec
   rose = rose_after p₀.faults p₁.faults p₂.faults first.later rose;
 }
 
-pub tunnel_fails : (config : Config) (p₀ p₁ p₂ : PlantTold) → Binds config (4 + length config.access) p₀ p₁ → FailsAtTunnel config.tunnel_local p₁ p₂ → FailsToBindTunnel config p₀ p₂
+pub tunnel_fails : (config : Config) (p₀ p₁ p₂ : PlantTold) → Binds config (4 + length config.access) p₀ p₁ → FailsAtEnd Tunnel config.tunnel_local p₁ p₂ → FailsToBindTunnel config p₀ p₂
 tunnel_fails config p₀ p₁ p₂ first f = record {
   there = f.there;
   fails = next_fails config (4 + length config.access) p₀ p₁ p₂ first f.before.bound f.before.heard f.before.taken f.before.sent f.before.later f.rose;
 }
 
--- The end for tunnels by itself: where there is none, nothing is bound
-pub no_tunnel : (tunnel : Option Peer) (p : PlantTold) → tunnel ≡ None → BindsTunnel tunnel p p
-no_tunnel tunnel p is = record {
-  bound = subst (λ (t : Option Peer). Grows p.bound p.bound (tunnel_binds t)) (sym is) (grows_none p.bound);
+pub coa_fails : (config : Config) (local : Option Peer) (p₀ p₁ p₂ : PlantTold) → local ≡ coa_local config.coa → Binds config (binds_before_coa config) p₀ p₁ → FailsAtEnd Coa local p₁ p₂ → FailsToBindCoa config p₀ p₂
+coa_fails config local p₀ p₁ p₂ is first f = record {
+  there = subst IsSome is f.there;
+  fails = next_fails config (binds_before_coa config) p₀ p₁ p₂ first f.before.bound f.before.heard f.before.taken f.before.sent f.before.later f.rose;
+}
+
+-- Such an end by itself: where there is none, nothing is bound
+pub no_end : (role : Role) (end : Option Peer) (p : PlantTold) → end ≡ None → BindsEnd role end p p
+no_end role end p is = record {
+  bound = subst (λ (t : Option Peer). Grows p.bound p.bound (end_binds role t)) (sym is) (grows_none p.bound);
   heard = refl;
   taken = refl;
   sent = refl;
@@ -192,21 +233,21 @@ no_tunnel tunnel p is = record {
 }
 
 -- and where there is one, its bind is the only one
-pub one_tunnel : (tunnel : Option Peer) (local : Peer) (answer : Bound) (p p' : PlantTold) → tunnel ≡ Some local → answer ≡ Ok → Grows p.bound p'.bound (binds Tunnel local answer)
-    → p'.heard ≡ p.heard → p'.taken ≡ p.taken → p'.sent ≡ p.sent → p.faults ≤ p'.faults → BindsTunnel tunnel p p'
-one_tunnel tunnel local answer p p' is ok bound heard taken sent later = record {
-  bound = subst (λ (t : Option Peer). Grows p.bound p'.bound (tunnel_binds t)) (sym is) (subst (λ (b : Bound). Grows p.bound p'.bound (binds Tunnel local b)) ok bound);
+pub one_end : (role : Role) (end : Option Peer) (local : Peer) (answer : Bound) (p p' : PlantTold) → end ≡ Some local → answer ≡ Ok → Grows p.bound p'.bound (binds role local answer)
+    → p'.heard ≡ p.heard → p'.taken ≡ p.taken → p'.sent ≡ p.sent → p.faults ≤ p'.faults → BindsEnd role end p p'
+one_end role end local answer p p' is ok bound heard taken sent later = record {
+  bound = subst (λ (t : Option Peer). Grows p.bound p'.bound (end_binds role t)) (sym is) (subst (λ (b : Bound). Grows p.bound p'.bound (binds role local b)) ok bound);
   heard = heard;
   taken = taken;
   sent = sent;
   later = later;
 }
 
-pub none_bound : (tunnel : Option Peer) (local : Peer) (answer : Bound) (p p' : PlantTold) → tunnel ≡ Some local → answer ≡ Failed → Grows p.bound p'.bound (binds Tunnel local answer)
-    → p'.heard ≡ p.heard → p'.taken ≡ p.taken → p'.sent ≡ p.sent → p.faults ≤ p'.faults → Rose p.faults p'.faults → FailsAtTunnel tunnel p p'
-none_bound tunnel local answer p p' is failed bound heard taken sent later rose = record {
+pub none_bound : (role : Role) (end : Option Peer) (local : Peer) (answer : Bound) (p p' : PlantTold) → end ≡ Some local → answer ≡ Failed → Grows p.bound p'.bound (binds role local answer)
+    → p'.heard ≡ p.heard → p'.taken ≡ p.taken → p'.sent ≡ p.sent → p.faults ≤ p'.faults → Rose p.faults p'.faults → FailsAtEnd role end p p'
+none_bound role end local answer p p' is failed bound heard taken sent later rose = record {
   there = subst IsSome (sym is) refl;
-  before = record { bound = subst (λ (b : Bound). Grows p.bound p'.bound (binds Tunnel local b)) failed bound; heard = heard; taken = taken; sent = sent; later = later };
+  before = record { bound = subst (λ (b : Bound). Grows p.bound p'.bound (binds role local b)) failed bound; heard = heard; taken = taken; sent = sent; later = later };
   rose = rose;
 }
 

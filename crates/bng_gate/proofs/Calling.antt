@@ -61,11 +61,11 @@ grace_calls d d' t step =
 
 pub step_calls : (d d' : Desk) (t : Option Turn) → Step d t d' → Chain Does d.billing (calls_in t) d'.billing
 step_calls d d' None step = ap (λ (x : Desk). x.billing) step
-step_calls d d' (Some t) step = subst (λ (b : BillingState). Chain Does d.billing (calls_in (Some t)) b) (sym (ap (λ (x : Desk). x.billing) step.4)) (turn_calls d t step.3)
+step_calls d d' (Some t) step = subst (λ (b : BillingState). Chain Does d.billing (calls_in (Some t)) b) (sym (ap (λ (x : Desk). x.billing) step.5)) (turn_calls d t step.3)
 
 end_step_calls : (d d' : Desk) (t : Late) → LateStep d t d' → Chain Does d.billing (end_calls_in d t) d'.billing
 end_step_calls d d' (Ends None) step = ap (λ (x : Desk). x.billing) step
-end_step_calls d d' (Ends (Some t)) step = subst (λ (b : BillingState). Chain Does d.billing (end_calls_in d (Ends (Some t))) b) (sym (ap (λ (x : Desk). x.billing) step.4)) (end_calls d t step.3)
+end_step_calls d d' (Ends (Some t)) step = subst (λ (b : BillingState). Chain Does d.billing (end_calls_in d (Ends (Some t))) b) (sym (ap (λ (x : Desk). x.billing) step.5)) (end_calls d t step.3)
 end_step_calls d d' (Waits t) step = subst (λ (b : BillingState). Chain Does d.billing (end_calls_in d (Waits t)) b) (sym (ap (λ (x : Desk). x.billing) step.after)) (grace_calls d d' t step)
 
 -- with the desk as it was made of

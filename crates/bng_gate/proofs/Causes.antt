@@ -7,7 +7,7 @@ use Rattle.bng_base.specs.Told.{FilesTold, EntropyTold, TraceTold, Grows}
 use Rattle.bng_config.specs.declared.config.Config.{Config}
 use Rattle.bng_config.specs.declared.fault.Fault.{Fault}
 use Rattle.bng_gate.specs.declared.texts.Opening.{Opening}
-use Rattle.bng_gate.specs.declared.texts.Opening.TheVariants.{Configuration, Seed, Control, Core, Access, Auth, Acct, Tunnel}
+use Rattle.bng_gate.specs.declared.texts.Opening.TheVariants.{Configuration, Seed, Control, Core, Access, Auth, Acct, Tunnel, Coa}
 use Rattle.bng_config.proofs.Exclusive.{no_fault}
 use Rattle.bng_gate.specs.Words.{Serves}
 use Rattle.bng_config.specs.Configuration.{HasFault}
@@ -36,6 +36,7 @@ fails_serves words old new (Access number) f = (f.ready.prepares.opens.name, f.r
 fails_serves words old new Auth f = (f.ready.prepares.opens.name, f.ready.prepares.opens.command)
 fails_serves words old new Acct f = (f.ready.prepares.opens.name, f.ready.prepares.opens.command)
 fails_serves words old new Tunnel f = (f.ready.prepares.opens.name, f.ready.prepares.opens.command)
+fails_serves words old new Coa f = (f.ready.prepares.opens.name, f.ready.prepares.opens.command)
 
 wants_serves : (words : List (List ℕ)) (old new : World) → WantsConfiguration words old new ⊎ (WantsService words old new ⊎ IsRun words old new) → (name : List ℕ) × Serves words name
 wants_serves words old new (inl w) = (w.wants.name, w.wants.command)
@@ -85,6 +86,7 @@ fails_read words old new (Access number) text fault f some grew broken = read_we
 fails_read words old new Auth text fault f some grew broken = read_well words old.files new.files f.config text fault f.ready.prepares some grew broken
 fails_read words old new Acct text fault f some grew broken = read_well words old.files new.files f.config text fault f.ready.prepares some grew broken
 fails_read words old new Tunnel text fault f some grew broken = read_well words old.files new.files f.config text fault f.ready.prepares some grew broken
+fails_read words old new Coa text fault f some grew broken = read_well words old.files new.files f.config text fault f.ready.prepares some grew broken
 
 pub faulty : (words : List (List ℕ)) (old new : World) (status : ℕ) → RunEnds words old new status → IsSome old.files.contents → (text : List ℕ) (fault : Fault)
     → Grows old.files.contents new.files.contents (text ∷ []) → HasFault text fault → (status ≡ 2) ⊎ (status ≡ 4) ⊎ (status ≡ 5)
@@ -107,6 +109,7 @@ fails_rose words old new (Access number) f none = none.plant f.fails.fails.rose
 fails_rose words old new Auth f none = none.plant f.fails.rose
 fails_rose words old new Acct f none = none.plant f.fails.rose
 fails_rose words old new Tunnel f none = none.plant f.fails.fails.rose
+fails_rose words old new Coa f none = none.plant f.fails.fails.rose
 
 unwritten_rose : (words : List (List ℕ)) (old new : World) → IsUnwritten words old new → IsFaultless old new → ⊥
 unwritten_rose words old new (inl f) none = none.trace f.why.fails.rose

@@ -1,11 +1,11 @@
 -- No count of questions comes to its end: how many entries a round has, and how many questions its steps ask.
-use Rattle.std.proofs.Common.{◌≡◌, ℕ, zero, suc, ◌+◌, ◌*◌, ◌^◌, ◌/◌, ◌<◌, ◌≤◌, Bool, true, false, ◌||◌, ◌==◌, cond, List, [], ◌∷◌, ◌++◌, map, length, Option, Some, None, append-nil, refl, sym, ap, subst, ◌∙◌, arith}
+use Rattle.std.proofs.Common.{◌≡◌, inl, ℕ, zero, suc, ◌+◌, ◌*◌, ◌^◌, ◌/◌, ◌<◌, ◌≤◌, Bool, true, false, ◌&&◌, ◌||◌, ◌==◌, cond, List, [], ◌∷◌, ◌++◌, map, length, Option, Some, None, append-nil, append_assoc, refl, sym, ap, subst, ◌∙◌, arith}
 use Rattle.std.specs.Prelude.{slice_get, if◌then◌else◌}
-use Rattle.std.specs.List.{All, AllByRecursion, AllZip, range_with_len}
+use Rattle.std.specs.List.{All, AllByRecursion, AllZip, count_by, range_with_len}
 use Rattle.std.specs.Option.{option_map}
 use Rattle.std.proofs.lemmas.Bool.{false≢true}
 use Rattle.std.proofs.lemmas.List.{length-append, length-map}
-use Rattle.std.proofs.lemmas.List.Elements.{All-nil, length_all_zip, recursion_from_All}
+use Rattle.std.proofs.lemmas.List.Elements.{All-append, All-cons, All-nil, length_all_zip, recursion_from_All}
 use Rattle.std.proofs.lemmas.List.Folds.{list_any-append}
 use Rattle.std.proofs.lemmas.List.FromFn.{length-range_with_len}
 use Rattle.std.proofs.lemmas.List.Sums.{count_by-le-length, length-filter}
@@ -18,7 +18,10 @@ use Rattle.bng_base.specs.declared.item.ItemKind.TheVariants as kind
 use Rattle.bng_base.specs.declared.outside.Role.{Role}
 use Rattle.bng_base.specs.declared.outside.Role.TheVariants.{Access, Core, Tunnel, Auth, Acct, Coa, Control}
 use Rattle.bng_base.specs.Chain.{Chain}
+use Rattle.bng_base.specs.FateOf.{Arrival}
 use Rattle.bng_base.proofs.ChainLaws.{chain_append}
+use Rattle.bng_coa.specs.declared.rules.Admitted.{Admitted}
+use Rattle.bng_coa.specs.declared.rules.Admitted.TheVariants.{New, Repeat, InHand, Ignored}
 use Rattle.bng_config.specs.declared.config.Config.{Config}
 use Rattle.bng_engine.specs.Calls.{Moves}
 use Rattle.bng_engine.specs.Journals.{after as after_all, AreSteps}
@@ -29,17 +32,20 @@ use Rattle.bng_shard.specs.declared.whose.Whose.{Whose}
 use Rattle.bng_shard.specs.Protocol.{ShardState, Handled, pppoe, entry_of}
 use Rattle.bng_shard.specs.Room.{is_end}
 use Rattle.bng_shard.proofs.GrantLaws.{step_few}
-use Rattle.bng_desk.specs.Items.{DataReading, arrived, drawn_from, ends_of, entries_in, kept_of, stands_in, stays, taken_items, ticks_of, without_claim}
-use Rattle.bng_desk.specs.Kept.{is_verdict}
+use Rattle.bng_desk.specs.declared.reading.Ended.{Ended}
+use Rattle.bng_desk.specs.Coa.{Requested, change_in, change_item, change_items, has_places, requests_most}
+use Rattle.bng_desk.specs.Items.{DataReading, arrived, drawn_from, ends_of, entries_in, is_change_item, is_change_kind, is_verdict_item, is_verdict_kind, kept_of, stands_in, stays, taken_items, ticks_of, without_claim}
+use Rattle.bng_desk.specs.Kept.{AreFewAsked, IsAsked}
 use Rattle.bng_desk.specs.Logins.{reply_items, timeout_items}
 use Rattle.bng_desk.specs.Model.{Desk}
-use Rattle.bng_desk.specs.Reading.{EndsRight}
+use Rattle.bng_desk.specs.Reading.{EndsRight, is_empty}
 use Rattle.bng_desk.specs.Round.{Round, IsWhoseIn, AreParts, entries_of, left_by, of_seat, views_of}
-use Rattle.bng_desk.specs.Turn.{Turn, Step, RoundOf, after_round, data_roles, ending_items, has_end, items_of, most_of, new_items, ports_up_to, tunnel_roles}
-use Rattle.bng_desk.proofs.Drawing.{drawn_length, ends_length, ticks_length}
+use Rattle.bng_desk.specs.Turn.{Turn, Step, ReadsWhere, RoundOf, after_round, data_roles, ending_items, has_end, items_of, most_of, new_items, ports_up_to, tunnel_roles}
+use Rattle.bng_desk.proofs.CoaLaws.{changes_few}
+use Rattle.bng_desk.proofs.Drawing.{drawn_all, drawn_append, drawn_length, ends_length, ticks_length}
 use Rattle.bng_desk.proofs.GatherLaws.{auth_few}
 use Rattle.bng_desk.proofs.LoginLaws.{timeouts_length}
-use Rattle.bng_desk.proofs.Staying.{IsStaying, serving_stays}
+use Rattle.bng_desk.proofs.Staying.{IsStaying, counted as count_kind, counted_append, counted_drawn, counted_none, each_weaker, few_asked, serving_stays}
 use Rattle.bng_desk.proofs.TakeLaws.{taken_within}
 use Rattle.bng_gate.specs.Granted.{Held, HandledIn, held_of, round_of_end, round_of_turn}
 use Rattle.bng_gate.specs.Serving.{Made, MadeEnd, Late, Ends, Waits, LateStep, Run, EndRun, endings_most}
@@ -52,12 +58,12 @@ use Rattle.bng_gate.proofs.OpeningFacts.{OpeningFacts}
 -- a step asks one question at most
 steps_ask : (s : ShardState) (es : List Handled) → AreSteps pppoe s es → (after_all pppoe s es).slots.asked ≤ s.slots.asked + length es
 steps_ask s [] steps = omega arith
-steps_ask s (e ∷ es) steps = omega (arith, step_few s.rules s.slots e.limited e.deed steps.0.step, steps_ask (record s { slots = e.deed.next }) es steps.1)
+steps_ask s (e ∷ es) steps = omega (arith, step_few s.rules s.slots e.limited e.deed steps.0.step, steps_ask (pppoe.next s e) es steps.1)
 
 -- and so does each in it
 one_asks : (s : ShardState) (earlier : List Handled) (h : Handled) (later : List Handled) → AreSteps pppoe s (earlier ++ h ∷ later) → h.deed.next.asked ≤ s.slots.asked + length (earlier ++ h ∷ later)
 one_asks s [] h later steps = omega (arith, step_few s.rules s.slots h.limited h.deed steps.0.step)
-one_asks s (e ∷ earlier) h later steps = omega (arith, step_few s.rules s.slots e.limited e.deed steps.0.step, one_asks (record s { slots = e.deed.next }) earlier h later steps.1)
+one_asks s (e ∷ earlier) h later steps = omega (arith, step_few s.rules s.slots e.limited e.deed steps.0.step, one_asks (pppoe.next s e) earlier h later steps.1)
 
 -- What a round has ------------------------------------------------------------------------------------------------------
 
@@ -185,13 +191,13 @@ counted n d last (t ∷ held) run low (suc k) s h x =
 
 -- The items of a turn of serving ------------------------------------------------------------------------------------------
 
--- a desk with few shards and ports, and few verdicts that stay
+-- a desk with few shards and ports, and few requests and verdicts that stay
 record IsServed (d : Desk) : Type 0 where
   few_shards : length d.shards ≤ 64
   some_port : 1 ≤ length d.rules.access
   few_ports : length d.rules.access ≤ 16
-  few_kept : length d.kept ≤ 128
-  verdicts : All is_verdict d.kept
+  few_kept : AreFewAsked d.kept
+  asked : All IsAsked d.kept
 
 most_low : (r : Rules) (role : Role) → 1 ≤ length r.access → most_of r role ≤ 224
 most_low r (Access number) some =
@@ -234,6 +240,35 @@ roles_few r =
       length-range_with_len 1 (length r.access),
     )
 
+-- each request is one
+abbrev IsChange : Item → Type 0
+IsChange i = i.kind ≡ kind.Change
+
+one_change : (a : Arrival) (admitted : Admitted) (target : ℕ) → All IsChange (change_in a admitted target)
+one_change a (New number) target = All-cons IsChange (change_item a number target) [] refl (All-nil IsChange)
+one_change a (Repeat frame) target = All-nil IsChange
+one_change a InHand target = All-nil IsChange
+one_change a (Ignored cause) target = All-nil IsChange
+
+all_change : (qs : List Requested) → All IsChange (change_items qs)
+all_change [] = All-nil IsChange
+all_change (q ∷ qs) = All-append IsChange (change_in q.arrival q.admitted q.target) (change_items qs) (one_change q.arrival q.admitted q.target) (all_change qs)
+
+none_kept : (is : List Item) → is_empty is ≡ true → is ≡ []
+none_kept [] e = refl
+none_kept (i ∷ is) e = absurd (false≢true e)
+
+no_requests : (qs : List Requested) → qs ≡ [] → length (change_items qs) ≡ 0
+no_requests qs e = ap (λ (xs : List Requested). length (change_items xs)) e
+
+-- where Coa is read, no request stays
+changes_within : (serves empty places : Bool) (is : List Item) (qs : List Requested) (last : Option Ended) → (empty ≡ true → is ≡ []) → ReadsWhere requests_most (serves && (empty && places)) qs last
+    → count_by is_change_item is ≤ 32 → count_by is_change_item is + length (change_items qs) ≤ 32
+changes_within true true true is qs last none (ended, e, ends) few = omega (arith, ap (λ (xs : List Item). count_by is_change_item xs) (none refl), changes_few qs, taken_within 32 (length qs) ended ends)
+changes_within true true false is qs last none (e, empty) few = omega (arith, few, no_requests qs empty)
+changes_within true false places is qs last none (e, empty) few = omega (arith, few, no_requests qs empty)
+changes_within false empty places is qs last none (e, nothing) few = omega (arith, few, no_requests qs nothing)
+
 module _ (d : Desk) (t : Turn) (low : IsServed d) (d' : Desk) (step : Step d (Some t) d') where
   readings_few : length (taken_items t.readings) ≤ 4032
   readings_few =
@@ -247,17 +282,29 @@ module _ (d : Desk) (t : Turn) (low : IsServed d) (d' : Desk) (step : Step d (So
         low.few_ports,
       )
 
-  -- at most 128 verdicts in all
-  verdicts_few : length d.kept + length (reply_items t.answers) + length t.timed ≤ 128
-  verdicts_few = omega (arith, auth_few d.kept t.answers t.auth_end step.0.auth low.few_kept, step.2.times_out.few)
+  abbrev cs : List Item
+  cs = change_items t.requested
 
-  new_length : length (new_items d t) ≡ length (reply_items t.answers) + length (taken_items t.readings) + length t.timed + length (ticks_of t.moment d.shards)
+  abbrev others : List Item
+  others = reply_items t.answers ++ taken_items t.readings ++ timeout_items t.timed ++ ticks_of t.moment d.shards
+
+  -- at most 128 verdicts in all
+  verdicts_few : count_by is_verdict_item d.kept + length (reply_items t.answers) + length t.timed ≤ 128
+  verdicts_few =
+      let replies = auth_few (is_empty d.kept) (count_by is_verdict_item d.kept) t.answers t.auth_end step.0.auth low.few_kept.verdicts (λ e. ap (λ (is : List Item). count_by is_verdict_item is) (none_kept d.kept e)) in
+      omega (arith, replies, step.2.times_out.few)
+
+  -- and at most 32 requests
+  requests_few : count_by is_change_item d.kept + length cs ≤ 32
+  requests_few = changes_within d.rules.serves_changes (is_empty d.kept) (has_places d.coa) d.kept t.requested t.coa_end (none_kept d.kept) step.0.coa low.few_kept.changes
+
+  new_length : length (new_items d t) ≡ length cs + (length (reply_items t.answers) + length (taken_items t.readings) + length t.timed + length (ticks_of t.moment d.shards))
   new_length =
       let rs = reply_items t.answers in
       let ts = taken_items t.readings in
       let qs = timeout_items t.timed in
       let ds = ticks_of t.moment d.shards in
-      omega (arith, length-append (rs ++ ts ++ qs) ds, length-append (rs ++ ts) qs, length-append rs ts, timeouts_length t.timed)
+      omega (arith, length-append cs others, length-append (rs ++ ts ++ qs) ds, length-append (rs ++ ts) qs, length-append rs ts, timeouts_length t.timed)
 
   items_few : length (items_of d t) ≤ entries_most
   items_few =
@@ -267,13 +314,34 @@ module _ (d : Desk) (t : Turn) (low : IsServed d) (d' : Desk) (step : Step d (So
         drawn_length d.seed d.drawn (new_items d t),
         new_length,
         readings_few,
+        few_asked d.kept low.asked low.few_kept,
+        requests_few,
         verdicts_few,
         ticks_length t.moment d.shards,
         low.few_shards,
       )
 
-  staying : IsStaying (items_of d t) (length d.kept + length (reply_items t.answers) + length t.timed)
-  staying = serving_stays d.rules d.seed d.drawn t.moment d.kept t.answers t.readings t.timed d.shards low.verdicts step.0.roles
+  abbrev first : List Item
+  first = d.kept ++ drawn_from d.seed d.drawn cs
+
+  parted : first ++ drawn_from d.seed (d.drawn + length cs) others ≡ items_of d t
+  parted =
+      append_assoc d.kept (drawn_from d.seed d.drawn cs) (drawn_from d.seed (d.drawn + length cs) others)
+      ∙ ap (λ (is : List Item). d.kept ++ is) (sym (drawn_append d.seed d.drawn cs others))
+
+  first_counted : (q : ItemKind → Bool) → count_kind q first ≡ count_kind q d.kept + count_kind q cs
+  first_counted q = counted_append q d.kept (drawn_from d.seed d.drawn cs) ∙ ap (λ (n : ℕ). count_kind q d.kept + n) (counted_drawn q d.seed d.drawn cs)
+
+  staying : IsStaying (items_of d t)
+  staying =
+      let changes = all_change t.requested in
+      let no_verdicts = counted_none is_verdict_kind cs (each_weaker IsChange (λ (i : Item). is_verdict_kind i.kind ≡ false) (λ i e. ap is_verdict_kind e) cs changes) in
+      let asked : All IsAsked first =
+      All-append IsAsked d.kept (drawn_from d.seed d.drawn cs) low.asked (drawn_all IsAsked (λ i octets h. h) d.seed d.drawn cs (each_weaker IsChange IsAsked (λ i e. inl e) cs changes)) in
+      subst IsStaying parted
+      (serving_stays d.rules d.seed (d.drawn + length cs) t.moment first t.answers t.readings t.timed d.shards step.0.roles asked
+      (omega (arith, first_counted is_change_kind, count_by-le-length is_change_item cs, requests_few))
+      (omega (arith, first_counted is_verdict_kind, no_verdicts, verdicts_few)))
 
 -- what stays is none, or of the items
 kept_after : (P : List Item → Type 0) (d : Desk) (items : List Item) (round : Option Round) → P [] → P (kept_of items) → P (after_round d items round).kept
@@ -301,20 +369,20 @@ turn_left d d' (Some t) step = (step_follows d d' (Some t) step).shards
 turn_rules : (d d' : Desk) (t : Option Turn) → Step d t d' → d'.rules ≡ d.rules
 turn_rules d d' t step = (step_follows d d' t step).rules
 
--- verdicts alone stay, and few
+-- requests and verdicts alone stay, and few
 record IsKeptFew (is : List Item) : Type 0 where
-  few : length is ≤ 128
-  verdicts : All is_verdict is
+  few : AreFewAsked is
+  asked : All IsAsked is
 
 turn_kept : (d d' : Desk) (t : Option Turn) → Step d t d' → IsServed d → IsKeptFew d'.kept
-turn_kept d d' None step low = subst IsKeptFew (sym (ap (λ (u : Desk). u.kept) step)) (record { few = low.few_kept; verdicts = low.verdicts })
+turn_kept d d' None step low = subst IsKeptFew (sym (ap (λ (u : Desk). u.kept) step)) (record { few = low.few_kept; asked = low.asked })
 turn_kept d d' (Some t) step low =
     let items = items_of d t in
     let stay = staying d t low d' step in
-    subst IsKeptFew (sym (ap (λ (u : Desk). u.kept) step.4))
+    subst IsKeptFew (sym (ap (λ (u : Desk). u.kept) step.5))
     (kept_after IsKeptFew d items t.round
-    (record { few = omega arith; verdicts = All-nil is_verdict })
-    (record { few = omega (arith, stay.few, verdicts_few d t low d' step); verdicts = stay.verdicts }))
+    (record { few = record { verdicts = omega arith; changes = omega arith }; asked = All-nil IsAsked })
+    (record { few = stay.few; asked = stay.asked }))
 
 turn_served : (d d' : Desk) (t : Option Turn) → Step d t d' → IsServed d → IsServed d'
 turn_served d d' t step low =
@@ -325,7 +393,7 @@ turn_served d d' t step low =
       some_port = omega (arith, low.some_port, ports);
       few_ports = omega (arith, low.few_ports, ports);
       few_kept = kept.few;
-      verdicts = kept.verdicts;
+      asked = kept.asked;
     }
 
 abbrev held_in : Made → Held
@@ -345,9 +413,9 @@ run_served d over (m ∷ turns) run low = run_served run.0 over turns run.2 (tur
 
 -- The items of a turn of the ending ----------------------------------------------------------------------------------------
 
--- at most 128 items, and an End for each shard where there are any
+-- at most 160 items, and an End for each shard where there are any
 abbrev IsEnding : ℕ → List Item → Type 0
-IsEnding n is = length is ≤ 128 + cond (has_end is) n 0
+IsEnding n is = length is ≤ 160 + cond (has_end is) n 0
 
 end_stays : (k : ItemKind) → is_end k ≡ true → stays k ≡ true
 end_stays (kind.Access number) e = absurd (false≢true e)
@@ -431,7 +499,7 @@ ended_kept d d' (Ends None) step low = subst (IsEnding (length d.shards)) (sym (
 ended_kept d d' (Waits t) step low = subst (IsEnding (length d.shards)) (sym (ap (λ (u : Desk). u.kept) step.after)) low.kept
 ended_kept d d' (Ends (Some t)) step low =
     let items = ending_items d in
-    subst (IsEnding (length d.shards)) (sym (ap (λ (u : Desk). u.kept) step.4))
+    subst (IsEnding (length d.shards)) (sym (ap (λ (u : Desk). u.kept) step.5))
     (kept_after (IsEnding (length d.shards)) d items t.round (none_ending (length d.shards)) (kept_ending (length d.shards) items (closing_items d low)))
 
 end_closing : (d d' : Desk) (t : Late) → LateStep d t d' → IsClosing d → IsClosing d'
@@ -455,7 +523,7 @@ ending_counts d last (m ∷ endings) run low = (
 
 -- serving leaves a desk that may end
 served_closes : (d : Desk) → IsServed d → IsClosing d
-served_closes d low = record { few_shards = low.few_shards; kept = omega (arith, low.few_kept) }
+served_closes d low = record { few_shards = low.few_shards; kept = omega (arith, few_asked d.kept low.asked low.few_kept) }
 
 -- All turns ------------------------------------------------------------------------------------------------------------------
 
@@ -464,8 +532,8 @@ opening_served config d facts = record {
   few_shards = facts.few_shards;
   some_port = facts.some_port;
   few_ports = facts.few_ports;
-  few_kept = omega (arith, ap (λ (is : List Item). length is) facts.kept);
-  verdicts = subst (All is_verdict) (sym facts.kept) (All-nil is_verdict);
+  few_kept = subst AreFewAsked (sym facts.kept) (record { verdicts = omega arith; changes = omega arith });
+  asked = subst (All IsAsked) (sym facts.kept) (All-nil IsAsked);
 }
 
 -- Of so many turns no count of questions comes to its end.

@@ -22,7 +22,7 @@ seed_after d items (Some round) = refl
 
 step_seed : (d d' : Desk) (t : Option Turn) → Step d t d' → d'.seed ≡ d.seed
 step_seed d d' None step = ap (λ (x : Desk). x.seed) step
-step_seed d d' (Some t) step = ap (λ (x : Desk). x.seed) step.4 ∙ seed_after d (items_of d t) t.round
+step_seed d d' (Some t) step = ap (λ (x : Desk). x.seed) step.5 ∙ seed_after d (items_of d t) t.round
 
 pub seed_stays : (d d' : Desk) (turns : List Made) → Run d turns d' → (k : ℕ) (m : Made) → slice_get turns k ≡ Some m → m.desk.seed ≡ d.seed
 seed_stays d d' [] run k m at = absurd (none-some m at)
@@ -37,7 +37,7 @@ asks_in d t = (stage_in d t).asked
 -- a turn draws for its items and then for its questions
 step_drawn : (d d' : Desk) (t : Option Turn) → Step d t d' → d'.drawn ≡ drawn_before d t + length (asks_in d t)
 step_drawn d d' None step = let none : d.drawn ≡ d.drawn + 0 = omega arith in ap (λ (x : Desk). x.drawn) step ∙ none
-step_drawn d d' (Some t) step = ap (λ (x : Desk). x.drawn) step.4
+step_drawn d d' (Some t) step = ap (λ (x : Desk). x.drawn) step.5
 
 more : (a b : ℕ) → a ≤ a + b
 more a b = omega arith

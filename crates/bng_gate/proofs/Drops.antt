@@ -30,12 +30,12 @@ drops_after d items (Some round) = refl
 
 step_drops : (d d' : Desk) (t : Option Turn) → Step d t d' → d'.drops ≡ plus d.drops (drops_made d t)
 step_drops d d' None step = ap (λ (x : Desk). x.drops) step ∙ sym (plus_none d.drops)
-step_drops d d' (Some t) step = ap (λ (x : Desk). x.drops) step.4 ∙ drops_after d (items_of d t) t.round
+step_drops d d' (Some t) step = ap (λ (x : Desk). x.drops) step.5 ∙ drops_after d (items_of d t) t.round
 
 end_drops : (d d' : Desk) (t : Late) → LateStep d t d' → d'.drops ≡ plus d.drops (drops_ended d t)
 end_drops d d' (Ends None) step = ap (λ (x : Desk). x.drops) step ∙ sym (plus_none d.drops)
 end_drops d d' (Waits t) step = ap (λ (x : Desk). x.drops) step.after ∙ sym (plus_none d.drops)
-end_drops d d' (Ends (Some t)) step = ap (λ (x : Desk). x.drops) step.4 ∙ drops_after d (ending_items d) t.round
+end_drops d d' (Ends (Some t)) step = ap (λ (x : Desk). x.drops) step.5 ∙ drops_after d (ending_items d) t.round
 
 run_drops : (d d' : Desk) (turns : List Made) → Run d turns d' → d'.drops ≡ plus d.drops (all_drops (map (λ m. drops_made m.desk m.turn) turns))
 run_drops d d' [] run = ap (λ (x : Desk). x.drops) run ∙ sym (plus_none d.drops)

@@ -5,7 +5,7 @@ use Rattle.bng_config.specs.declared.config.Config.{Config}
 use Rattle.bng_config.specs.declared.fault.Fault.{Fault}
 use Rattle.bng_desk.specs.Model.{Desk}
 use Rattle.bng_gate.specs.declared.texts.Opening.{Opening}
-use Rattle.bng_gate.specs.declared.texts.Opening.TheVariants.{Configuration, Seed, Control, Core, Access, Auth, Acct, Tunnel}
+use Rattle.bng_gate.specs.declared.texts.Opening.TheVariants.{Configuration, Seed, Control, Core, Access, Auth, Acct, Tunnel, Coa}
 use Rattle.bng_gate.specs.declared.texts.Refusal.{Refusal}
 use Rattle.bng_gate.specs.declared.texts.Refusal.TheVariants.{Usage, Refused, CannotOpen, OutOfMemory, TraceFailed, OutputFailed}
 use Rattle.bng_gate.specs.Texts.{refusal_text, status_of}
@@ -69,6 +69,7 @@ module _ (words : List (List ℕ)) (f f' : FilesTold) (p : PlantTold) (k : Clock
   why_unprepared (CannotOpen Auth) w = absurd w
   why_unprepared (CannotOpen Acct) w = absurd w
   why_unprepared (CannotOpen Tunnel) w = absurd w
+  why_unprepared (CannotOpen Coa) w = absurd w
   why_unprepared OutOfMemory w = inl (record { wants = w; untouched = record { plant = refl; clock = refl; trace = refl; out = refl }; unseeded = refl })
   why_unprepared TraceFailed w = absurd w
   why_unprepared OutputFailed w = absurd w
@@ -155,6 +156,14 @@ module _ (words : List (List ℕ)) (config : Config) (seed : List ℕ) (f f' : F
   why_unserved ready (CannotOpen Acct) w =
       record { fails = record { config = config; seed = seed; ready = ready; fails = w.0; clock = w.1; trace = w.2; out = w.3 }; heard = w.0.before.heard; taken = w.0.before.taken; sent = w.0.before.sent; out = w.3 }
   why_unserved ready (CannotOpen Tunnel) w =
+      record {
+        fails = record { config = config; seed = seed; ready = ready; fails = w.0; clock = w.1; trace = w.2; out = w.3 };
+        heard = w.0.fails.before.heard;
+        taken = w.0.fails.before.taken;
+        sent = w.0.fails.before.sent;
+        out = w.3;
+      }
+  why_unserved ready (CannotOpen Coa) w =
       record {
         fails = record { config = config; seed = seed; ready = ready; fails = w.0; clock = w.1; trace = w.2; out = w.3 };
         heard = w.0.fails.before.heard;

@@ -96,12 +96,12 @@ step_follows d d' None step = record {
 }
 step_follows d d' (Some t) step = record {
   is_round = is_of d t.moment (items_of d t) t.round step.1;
-  shards = ap (λ (x : Desk). x.shards) step.4 ∙ shards_after d (items_of d t) t.round;
-  tallies = ap (λ (x : Desk). x.tallies) step.4 ∙ tallies_left d (items_of d t) t.round;
-  pool = ap (λ (x : Desk). x.pool) step.4 ∙ pool_left d (items_of d t) t.round;
-  rules = ap (λ (x : Desk). x.rules) step.4 ∙ rules_after d (items_of d t) t.round;
-  lines = ap (λ (x : Desk). x.lines) step.4 ∙ lines_there d (items_of d t) t.round;
-  stopped = ap (λ (x : Desk). x.stopped_book) step.4 ∙ stopped_there d (items_of d t) t.round;
+  shards = ap (λ (x : Desk). x.shards) step.5 ∙ shards_after d (items_of d t) t.round;
+  tallies = ap (λ (x : Desk). x.tallies) step.5 ∙ tallies_left d (items_of d t) t.round;
+  pool = ap (λ (x : Desk). x.pool) step.5 ∙ pool_left d (items_of d t) t.round;
+  rules = ap (λ (x : Desk). x.rules) step.5 ∙ rules_after d (items_of d t) t.round;
+  lines = ap (λ (x : Desk). x.lines) step.5 ∙ lines_there d (items_of d t) t.round;
+  stopped = ap (λ (x : Desk). x.stopped_book) step.5 ∙ stopped_there d (items_of d t) t.round;
 }
 
 pub end_follows : (d d' : Desk) (t : Late) → LateStep d t d' → Follows d (end_round_in t) d'
@@ -116,12 +116,12 @@ end_follows d d' (Ends None) step = record {
 }
 end_follows d d' (Ends (Some t)) step = record {
   is_round = is_of d t.moment (ending_items d) t.round step.1;
-  shards = ap (λ (x : Desk). x.shards) step.4 ∙ shards_after d (ending_items d) t.round;
-  tallies = ap (λ (x : Desk). x.tallies) step.4 ∙ tallies_left d (ending_items d) t.round;
-  pool = ap (λ (x : Desk). x.pool) step.4 ∙ pool_left d (ending_items d) t.round;
-  rules = ap (λ (x : Desk). x.rules) step.4 ∙ rules_after d (ending_items d) t.round;
-  lines = ap (λ (x : Desk). x.lines) step.4 ∙ lines_there d (ending_items d) t.round;
-  stopped = ap (λ (x : Desk). x.stopped_book) step.4 ∙ stopped_there d (ending_items d) t.round;
+  shards = ap (λ (x : Desk). x.shards) step.5 ∙ shards_after d (ending_items d) t.round;
+  tallies = ap (λ (x : Desk). x.tallies) step.5 ∙ tallies_left d (ending_items d) t.round;
+  pool = ap (λ (x : Desk). x.pool) step.5 ∙ pool_left d (ending_items d) t.round;
+  rules = ap (λ (x : Desk). x.rules) step.5 ∙ rules_after d (ending_items d) t.round;
+  lines = ap (λ (x : Desk). x.lines) step.5 ∙ lines_there d (ending_items d) t.round;
+  stopped = ap (λ (x : Desk). x.stopped_book) step.5 ∙ stopped_there d (ending_items d) t.round;
 }
 end_follows d d' (Waits t) step = record {
   is_round = tt;

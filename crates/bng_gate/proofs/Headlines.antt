@@ -14,7 +14,7 @@ use Rattle.bng_config.specs.declared.config.Config.{Config}
 use Rattle.bng_config.specs.Configuration.{IsRead}
 use Rattle.bng_config.specs.Rules.{KeepsRules}
 use Rattle.bng_config.proofs.Kept.{read_keeps}
-use Rattle.bng_engine.specs.Accounted.{Accounted, nothing_yet as new_history, opening as nothing_yet}
+use Rattle.bng_engine.specs.Accounted.{Accounted, Balanced, nothing_yet as new_history, opening as nothing_yet}
 use Rattle.bng_engine.specs.Histories.{ShardTurn}
 use Rattle.bng_engine.specs.Laws.{BooksAccount, Opens, RightRound, RunFrom, RowsAccountOnWire, sends_of, stops_of}
 use Rattle.bng_engine.specs.Quantities.{Quantity, empty_book}
@@ -22,7 +22,7 @@ use Rattle.bng_engine.specs.Sums.{is_any}
 use Rattle.bng_engine.specs.Terms.{Key}
 use Rattle.bng_engine.specs.Views.{DeskView, ShardView, rows_where}
 use Rattle.bng_engine.specs.Wire.{went}
-use Rattle.bng_engine.proofs.Openings.{refused_keeps, opening_accounted}
+use Rattle.bng_engine.proofs.Openings.{opening_accounted}
 use Rattle.bng_engine.proofs.Runs.{books_account, rounds_are_right, run_conserves_at, rows_account, rows_account_on_wire}
 use Rattle.bng_engine.proofs.Turns.{balanced}
 use Rattle.bng_shard.specs.declared.rules.Rules.{Rules}
@@ -52,9 +52,10 @@ use Rattle.bng_gate.specs.Run.{World, turns_most, outside, Prepares, Course, Run
 use Rattle.bng_gate.proofs.AddressedLive.{live_addressed}
 use Rattle.bng_gate.proofs.Addressing.{all_addressed}
 use Rattle.bng_gate.proofs.Agreed.{agreed}
+use Rattle.bng_gate.proofs.Changing.{changed_of}
 use Rattle.bng_gate.proofs.Drops.{all_dropped}
 use Rattle.bng_gate.proofs.Follows.{Follows, run_follows}
-use Rattle.bng_gate.proofs.Going.{stands_itself}
+use Rattle.bng_gate.proofs.Going.{Shows, balanced_left, books_left, rows_left, shows, stands_itself, wire_left}
 use Rattle.bng_gate.proofs.Invented.{HaveRules, nothing_invented, opened_rules, stages_invent_nothing}
 use Rattle.bng_gate.proofs.Keys.{IsOurs}
 use Rattle.bng_gate.proofs.Leaving.{HasNoRows, HasNoTerms, IsEmpty, all_stopped, ended_empty, rows_gone, rows_say_none, shards_say_none, terms_gone}
@@ -66,7 +67,8 @@ use Rattle.bng_gate.proofs.Recording.{Said, all_said, recorded_of}
 use Rattle.bng_gate.proofs.Reporting.{GoesLive, reports_go_on}
 use Rattle.bng_gate.proofs.Replying.{replies_of}
 use Rattle.bng_gate.proofs.OnAcct.{all_else}
-use Rattle.bng_gate.proofs.Staging.{stages_acknowledged, stages_heard, stages_taken, stages_sent}
+use Rattle.bng_gate.proofs.OnCoa.{all_beside_coa}
+use Rattle.bng_gate.proofs.Staging.{stages_acknowledged, stages_heard, stages_requested, stages_taken, stages_sent}
 use Rattle.bng_gate.proofs.Stopping.{run_causes, run_causes_known, run_stays, run_terms}
 use Rattle.bng_gate.proofs.Telling.{sent_are, taken_are, unsent_failed}
 use Rattle.bng_gate.proofs.Traffic.{live_none, plus_none, stopped_same, stops_account, total_same, traffic_same}
@@ -113,14 +115,21 @@ module _ (text : List ℕ) (config : Config) (read : IsRead text config) (seed :
   run_from : RunFrom pppoe start rounds goes.history
   run_from = record { opens = start_opens; run = goes.run }
 
-  accounted : Accounted pppoe end goes.history
-  accounted = refused_keeps pppoe said.view end goes.history said.stands.shards said.stands.held said.stands.tallies goes.accounted
+  accounted : Accounted pppoe said.view goes.history
+  accounted = goes.accounted
 
+  -- what the sums say, as the engine sees the desk, and so of the desk that is left
   on_wire : RowsAccountOnWire pppoe rounds end
-  on_wire = rows_account_on_wire pppoe pppoe_laws start end goes.history rounds goes.run accounted
+  on_wire = wire_left said.view course.last said.stands rounds (rows_account_on_wire pppoe pppoe_laws start said.view goes.history rounds goes.run accounted)
 
   books : BooksAccount pppoe start rounds end
-  books = books_account pppoe pppoe_laws start end goes.history rounds goes.run accounted
+  books = books_left said.view course.last said.stands start rounds (books_account pppoe pppoe_laws start said.view goes.history rounds goes.run accounted)
+
+  balance : Balanced end goes.history
+  balance = balanced_left said.view course.last said.stands goes.history (balanced pppoe said.view goes.history accounted)
+
+  shown : AllZip Shows end.shards goes.history.shards
+  shown = shows said.view.shards end.shards goes.history.shards said.stands.shards accounted.tells.shards
 
   -- each term is live or has its Stop, and what was sent is theirs
   terms : AllZip HaveTerms goes.history.shards (terms_of_run config rounds)
@@ -203,18 +212,21 @@ module _ (text : List ℕ) (config : Config) (read : IsRead text config) (seed :
     causes = run_causes config rules r now start shards_are goes.history rounds goes.run;
     causes_known = run_causes_known config rules r now start shards_are goes.history rounds goes.run;
     conserved = run_conserves_at pppoe pppoe_laws start rounds goes.history run_from;
-    balanced = balanced pppoe end goes.history accounted;
+    balanced = balance;
     addressed = all_addressed (all_terms_of config rounds) sent (sends_of rounds) sends ours;
     addressed_live = live_addressed start goes.history rounds start_opens.new goes.run;
     invented_nothing = invented;
     stages_invented_nothing = invented_in_stages;
     stages_heard = stages_heard course.opening course.over course.turns course.endings course.run;
     stages_acknowledged = stages_acknowledged course.opening course.over course.turns course.endings course.run;
+    stages_requested = stages_requested course.opening course.over course.turns course.endings course.run;
     stages_taken = stages_taken course.opening course.over course.turns course.endings course.run;
     stages_sent = stages_sent course.turns course.endings;
     replied = replied;
     granted = granted;
     recorded = recorded.0;
+    changed = changed_of config turns_most seed course.begins.bound.now course.begins.bound.wall course.opening course.over course.last course.turns course.endings course.begins.is_opened course.run course.ending
+        (all_beside_coa (Contains (all_terms_of config rounds)) (sends_of rounds) ours);
     interims = subst (λ (is : List (List FormedRecord)). Chain ReportsLive (nothing_yet start) (zip rounds is) goes.history) (sym recorded.1) goes.live;
     unsent = record {
       later = omega (arith, course.begins.bound.unfailed, course.told.plant.causes.later);
@@ -228,10 +240,10 @@ module _ (text : List ℕ) (config : Config) (read : IsRead text config) (seed :
     empty = ended_empty course.last ended
 
     none_left : AllByRecursion HasNoTerms goes.history.shards
-    none_left = terms_gone course.last.shards goes.history.shards empty accounted.tells.shards (run_stays config rules r now start shards_are goes.history rounds goes.run)
+    none_left = terms_gone course.last.shards goes.history.shards empty shown (run_stays config rules r now start shards_are goes.history rounds goes.run)
 
     no_rows : AllByRecursion HasNoRows course.last.shards
-    no_rows = rows_gone course.last.shards goes.history.shards accounted.tells.shards none_left
+    no_rows = rows_gone course.last.shards goes.history.shards shown none_left
 
     rows_none : (q : Quantity) (pick : Key → Bool) (input : Bool) → sum_by (λ x. rows_where q pick input x.rows) end.shards ≡ 0
     rows_none q pick input = rows_say_none q pick input course.last.shards no_rows
@@ -243,14 +255,14 @@ module _ (text : List ℕ) (config : Config) (read : IsRead text config) (seed :
     exact = stops_account sent rounds sends end rows_none on_wire
 
     total : total_of course.last.tallies ≡ total_in sent
-    total = total_same sent rounds exact start end goes.history goes.run (balanced pppoe end goes.history accounted) rows_none
+    total = total_same sent rounds exact start end goes.history goes.run balance rows_none
 
     stopped_all_say : course.last.stopped_book ≡ total_in sent
     stopped_all_say =
         stopped_gone course.opening course.last (rounds_in course.turns course.endings) follows ∙ ap (λ (d : Desk). plus_book d.stopped_book (all_say (stops_of rounds))) course.begins.is_opened.desk ∙ stopped_same sent (stops_of rounds) exact
 
     add_up : AddsUpTo (total_in sent) (all_profile_traffic config rounds)
-    add_up = all_add_up config r now start end rounds books shards_are course.begins.is_opened.are_rules.profiles sent exact (rows_account pppoe pppoe_laws start end goes.history rounds goes.run accounted) rows_none
+    add_up = all_add_up config r now start end rounds books shards_are course.begins.is_opened.are_rules.profiles sent exact (rows_left said.view course.last said.stands rounds (rows_account pppoe pppoe_laws start said.view goes.history rounds goes.run accounted)) rows_none
 
     none_live : live_of course.last.shards ≡ empty_book
     none_live = live_none course.last.shards (λ q input. shards_say_none q is_any input course.last.shards no_rows)

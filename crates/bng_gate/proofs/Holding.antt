@@ -11,11 +11,11 @@ use Rattle.bng_gate.proofs.Verdicts.{of_made, of_end}
 
 step_holds : (d d' e : Desk) (t : Option Turn) → e ≡ d → Step d t d' → Holds d (record { desk = e; round = round_of_turn t }) d'
 step_holds d d' e None is step = record { desk = is; moment = 0; items = []; round = tt; shards = ap (λ (x : Desk). x.shards) step }
-step_holds d d' e (Some t) is step = record { desk = is; moment = t.moment; items = items_of d t; round = step.1; shards = ap (λ (x : Desk). x.shards) step.4 }
+step_holds d d' e (Some t) is step = record { desk = is; moment = t.moment; items = items_of d t; round = step.1; shards = ap (λ (x : Desk). x.shards) step.5 }
 
 end_holds : (d d' e : Desk) (t : Late) → e ≡ d → LateStep d t d' → Holds d (record { desk = e; round = round_of_end t }) d'
 end_holds d d' e (Ends None) is step = record { desk = is; moment = 0; items = []; round = tt; shards = ap (λ (x : Desk). x.shards) step }
-end_holds d d' e (Ends (Some t)) is step = record { desk = is; moment = t.moment; items = ending_items d; round = step.1; shards = ap (λ (x : Desk). x.shards) step.4 }
+end_holds d d' e (Ends (Some t)) is step = record { desk = is; moment = t.moment; items = ending_items d; round = step.1; shards = ap (λ (x : Desk). x.shards) step.5 }
 end_holds d d' e (Waits t) is step = record { desk = is; moment = 0; items = []; round = tt; shards = ap (λ (x : Desk). x.shards) step.after }
 
 pub held_run : (opening over last : Desk) (turns : List Made) (endings : List MadeEnd) → Run opening turns over → EndRun over endings last → HeldRun opening (held_of turns endings) last

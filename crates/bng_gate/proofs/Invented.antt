@@ -18,6 +18,8 @@ use Rattle.bng_base.specs.declared.outside.Role.TheVariants.{Access, Core, Tunne
 use Rattle.bng_base.specs.declared.settings.AccessPort.{AccessPort}
 use Rattle.bng_base.specs.Chain.{Chain}
 use Rattle.bng_base.specs.FateOf.{Arrival}
+use Rattle.bng_coa.specs.declared.rules.Admitted.{Admitted}
+use Rattle.bng_coa.specs.declared.rules.Admitted.TheVariants.{New, Repeat, InHand, Ignored}
 use Rattle.bng_config.specs.declared.config.Config.{Config}
 use Rattle.bng_engine.specs.Accounted.{nothing_yet}
 use Rattle.bng_engine.specs.Histories.{History, NextInShard, ShardHistory, ShardTurn, sends_in}
@@ -34,6 +36,7 @@ use Rattle.bng_shard.specs.Reader.{pppoe_reader}
 use Rattle.bng_shard.specs.State.{State}
 use Rattle.bng_shard.specs.Step.{Step as ShardStep}
 use Rattle.bng_verdict.specs.declared.question.QuestionNo.{QuestionNo}
+use Rattle.bng_desk.specs.Coa.{Requested, change_in, change_items}
 use Rattle.bng_desk.specs.Items.{DataReading, arrived, drawn_from, ends_of, kept_of, kind_of, stays, taken_items, ticks_of}
 use Rattle.bng_desk.specs.Logins.{Answered, reply_in, reply_items, silence, timeout_items, verdict_item}
 use Rattle.bng_desk.specs.Model.{Desk}
@@ -86,6 +89,19 @@ kept_silent (i ∷ items) = by (stays i.kind) refl (kept_silent items)
 
 all_kept_silent : (items : List Item) → All IsSilent (kept_of items)
 all_kept_silent items = All-from_recursion IsSilent (kept_of items) (kept_silent items)
+
+changes_silent : (requested : List Requested) → flat_map datagrams_in (change_items requested) ≡ []
+changes_silent [] = refl
+changes_silent (q ∷ requested) =
+    flat_map-append datagrams_in (change_in q.arrival q.admitted q.target) (change_items requested)
+    ∙ ap (λ (ds : List Datagram). ds ++ flat_map datagrams_in (change_items requested)) (one q.admitted)
+    ∙ changes_silent requested
+  where
+    one : (admitted : Admitted) → flat_map datagrams_in (change_in q.arrival admitted q.target) ≡ []
+    one (New number) = refl
+    one (Repeat frame) = refl
+    one InHand = refl
+    one (Ignored cause) = refl
 
 replies_silent : (answers : List Answered) → flat_map datagrams_in (reply_items answers) ≡ []
 replies_silent [] = refl
@@ -143,6 +159,8 @@ items_told d t kept roles =
     flat_map-append datagrams_in d.kept (drawn_from d.seed d.drawn (new_items d t))
     ∙ ap (λ (ds : List Datagram). ds ++ flat_map datagrams_in (drawn_from d.seed d.drawn (new_items d t))) (none_in d.kept kept)
     ∙ drawn_same d.seed d.drawn (new_items d t)
+    ∙ flat_map-append datagrams_in (change_items t.requested) (replies ++ taken ++ timed ++ ticks)
+    ∙ ap (λ (ds : List Datagram). ds ++ flat_map datagrams_in (replies ++ taken ++ timed ++ ticks)) (changes_silent t.requested)
     ∙ flat_map-append datagrams_in (replies ++ taken ++ timed) ticks
     ∙ ap (λ (ds : List Datagram). flat_map datagrams_in (replies ++ taken ++ timed) ++ ds) (ticks_silent d t.moment)
     ∙ append-nil (flat_map datagrams_in (replies ++ taken ++ timed))
@@ -168,13 +186,13 @@ ending_told d kept = by (has_end d.kept)
 step_keeps : (d d' : Desk) (t : Option Turn) → Step d t d' → All IsSilent d.kept → All IsSilent d'.kept
 step_keeps d d' None step kept = subst (All IsSilent) (sym (ap (λ (x : Desk). x.kept) step)) kept
 step_keeps d d' (Some t) step kept =
-    subst (All IsSilent) (sym (ap (λ (x : Desk). x.kept) step.4)) (kept_after IsSilent d (items_of d t) t.round (all_kept_silent (items_of d t)))
+    subst (All IsSilent) (sym (ap (λ (x : Desk). x.kept) step.5)) (kept_after IsSilent d (items_of d t) t.round (all_kept_silent (items_of d t)))
 
 end_keeps : (d d' : Desk) (t : Late) → LateStep d t d' → All IsSilent d.kept → All IsSilent d'.kept
 end_keeps d d' (Ends None) step kept = subst (All IsSilent) (sym (ap (λ (x : Desk). x.kept) step)) kept
 end_keeps d d' (Waits t) step kept = subst (All IsSilent) (sym (ap (λ (x : Desk). x.kept) step.after)) kept
 end_keeps d d' (Ends (Some t)) step kept =
-    subst (All IsSilent) (sym (ap (λ (x : Desk). x.kept) step.4)) (kept_after IsSilent d (ending_items d) t.round (all_kept_silent (ending_items d)))
+    subst (All IsSilent) (sym (ap (λ (x : Desk). x.kept) step.5)) (kept_after IsSilent d (ending_items d) t.round (all_kept_silent (ending_items d)))
 
 -- Rounds -------------------------------------------------------------------------------------------------------------------------------
 

@@ -8,13 +8,14 @@ use Rattle.bng_engine.specs.Histories.{ShardHistory}
 use Rattle.bng_engine.specs.Quantities.{Quantity}
 use Rattle.bng_engine.specs.Showing.{with_journal}
 use Rattle.bng_engine.specs.Terms.{Key, Term, keys, stopped_keys}
-use Rattle.bng_engine.specs.Turns.{Tells}
 use Rattle.bng_engine.specs.Views.{ShardView, Row, row_keys, rows_where}
-use Rattle.bng_shard.specs.Protocol.{ShardState, Handled, pppoe, sessions_of, terms_of}
+use Rattle.bng_shard.specs.Protocol.{ShardState, Handled, sessions_of, terms_of}
+use Rattle.bng_shard.specs.State.{State, count_in}
 use Rattle.bng_desk.specs.declared.desk.DeskState.TheVariants.{Ended}
 use Rattle.bng_desk.specs.Model.{Desk, grace_is_over, has_ended, has_starved, is_over, sessions_in, state_of}
 use Rattle.bng_desk.specs.Round.{views_of}
 use Rattle.bng_gate.specs.Headline.{AreStopped, HaveTerms}
+use Rattle.bng_gate.proofs.Going.{Shows}
 use Rattle.bng_gate.proofs.Living.{none_there}
 use Rattle.bng_gate.proofs.States.{ended_by}
 use Rattle.bng_gate.proofs.Stopping.{IsHoused}
@@ -39,13 +40,13 @@ abbrev pub HasNoTerms : ShardHistory ShardState → Type 0
 HasNoTerms h = terms_of h.state ≡ []
 
 -- where no session is left, no term is there, as each is that of a session
-pub terms_gone : (vs : List (ShardView ShardState Entry)) (hs : List (ShardHistory ShardState)) → AllByRecursion IsEmpty vs → AllZip (Tells pppoe) (views_of vs) hs → AllByRecursion IsHoused hs → AllByRecursion HasNoTerms hs
-terms_gone [] [] empty tells housed = tt
-terms_gone [] (h ∷ hs) empty tells housed = absurd tells
-terms_gone (v ∷ vs) [] empty tells housed = absurd tells
-terms_gone (v ∷ vs) (h ∷ hs) empty tells housed = (
-  none_there h.state (ap (λ (s : ShardState). sessions_of s) (sym tells.0.state) ∙ empty.0) housed.0.housed housed.0.live,
-  terms_gone vs hs empty.1 tells.1 housed.1,
+pub terms_gone : (vs : List (ShardView ShardState Entry)) (hs : List (ShardHistory ShardState)) → AllByRecursion IsEmpty vs → AllZip Shows (views_of vs) hs → AllByRecursion IsHoused hs → AllByRecursion HasNoTerms hs
+terms_gone [] [] empty shows housed = tt
+terms_gone [] (h ∷ hs) empty shows housed = absurd shows
+terms_gone (v ∷ vs) [] empty shows housed = absurd shows
+terms_gone (v ∷ vs) (h ∷ hs) empty shows housed = (
+  none_there h.state (ap (λ (s : State). count_in s) (sym shows.0.slots) ∙ empty.0) housed.0.housed housed.0.live,
+  terms_gone vs hs empty.1 shows.1 housed.1,
 )
 
 no_rows : (rows : List Row) → sum_by (λ _. 1) (row_keys rows) ≡ 0 → rows ≡ []
@@ -66,10 +67,10 @@ all_stopped (h ∷ hs) (ks ∷ kss) none have =
     (here, all_stopped hs kss none.1 have.1)
 
 -- and none has a row
-pub rows_gone : (vs : List (ShardView ShardState Entry)) (hs : List (ShardHistory ShardState)) → AllZip (Tells pppoe) (views_of vs) hs → AllByRecursion HasNoTerms hs → AllByRecursion HasNoRows vs
-rows_gone [] hs tells none = tt
-rows_gone (v ∷ vs) [] tells none = absurd tells
-rows_gone (v ∷ vs) (h ∷ hs) tells none = (no_rows v.rows (tells.0.fit (λ _. 1) ∙ ap (λ (ts : List Term). sum_by (λ (_ : Key). 1) (keys ts)) none.0), rows_gone vs hs tells.1 none.1)
+pub rows_gone : (vs : List (ShardView ShardState Entry)) (hs : List (ShardHistory ShardState)) → AllZip Shows (views_of vs) hs → AllByRecursion HasNoTerms hs → AllByRecursion HasNoRows vs
+rows_gone [] hs shows none = tt
+rows_gone (v ∷ vs) [] shows none = absurd shows
+rows_gone (v ∷ vs) (h ∷ hs) shows none = (no_rows v.rows (shows.0.fit (λ _. 1) ∙ ap (λ (ts : List Term). sum_by (λ (_ : Key). 1) (keys ts)) none.0), rows_gone vs hs shows.1 none.1)
 
 pub shards_say_none : (q : Quantity) (pick : Key → Bool) (input : Bool) (vs : List (ShardView ShardState Entry)) → AllByRecursion HasNoRows vs → sum_by (λ x. rows_where q pick input x.rows) vs ≡ 0
 shards_say_none q pick input [] none = refl

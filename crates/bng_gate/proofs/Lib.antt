@@ -31,6 +31,7 @@ pub mod Ends
 pub mod Causes
 pub mod Lists
 pub mod Follows
+pub mod Beside
 pub mod Going
 pub mod Columns
 pub mod Living
@@ -44,6 +45,10 @@ pub mod Lines
 pub mod Telling
 pub mod Staging
 pub mod OnAcct
+pub mod OnCoa
+pub mod AskedBy
+pub mod AskedIn
+pub mod Changing
 pub mod Calling
 pub mod Agreed
 pub mod Reporting

@@ -1,6 +1,6 @@
 -- What lasts in each shard of a run: no term outlasts its session, each is of one of the shard's sessions and ends by one of the causes that
 -- there are, and those of circuits end by the gateway's own stop.
-use Rattle.std.proofs.Common.{◌≡◌, ◌≢◌, ◌⊎◌, inl, inr, ℕ, ◌+◌, ◌/◌, ◌<◌, ◌≤◌, Bool, true, false, not, cond, List, [], ◌∷◌, ◌++◌, map, filter, length, Option, Some, None, IfSome, is_some, refl, sym, ap, subst, ◌∙◌, arith}
+use Rattle.std.proofs.Common.{◌≡◌, ◌≢◌, inl, inr, ℕ, ◌+◌, ◌/◌, ◌<◌, ◌≤◌, Bool, true, false, not, cond, List, [], ◌∷◌, ◌++◌, map, filter, length, Option, Some, None, IfSome, is_some, refl, sym, ap, subst, ◌∙◌, arith}
 use Rattle.std.specs.List.{All, AllByRecursion, AllPairs, AllZip}
 use Rattle.std.proofs.lemmas.Bool.{false≢true}
 use Rattle.std.proofs.lemmas.List.Elements.{recursion_from_All}
@@ -15,8 +15,7 @@ use Rattle.bng_shard.specs.declared.rules.Rules.{Rules}
 use Rattle.bng_shard.specs.declared.session.Session.{Session}
 use Rattle.bng_shard.specs.Deed.{Deed}
 use Rattle.bng_shard.specs.Granting.{IsSound}
-use Rattle.bng_shard.specs.Lasting.{AreHoused, CircuitsLast, IsCause, IsHousedIn}
-use Rattle.bng_shard.specs.Link.{nas_request}
+use Rattle.bng_shard.specs.Lasting.{AreHoused, CircuitsLast, IsCause, IsCircuitCause, IsHousedIn}
 use Rattle.bng_shard.specs.Opening.{in_order, opened_slots, tenures_after}
 use Rattle.bng_shard.specs.Protocol.{ShardState, Handled, cause_in, pppoe, sessions_of, term_in, terms_of}
 use Rattle.bng_shard.specs.State.{State, count_in, settled}
@@ -58,7 +57,7 @@ module _ (n : ℕ) where
     where
       still : (t u : Tenure) → Lasts AnyCause t u → IsOfShard n t → IsOfShard n u
       still t u (inl e) h = subst (IsOfShard n) (sym e) h
-      still t u (inr (live, cause, is, e)) h = subst (IsOfShard n) (sym e) h
+      still t u (inr (live, profile, cause, is, e)) h = subst (IsOfShard n) (sym e) h
 
   -- a term that has a session there is of the shard
   housed_own : (s : State) (t : Tenure) → IsSound s → s.sessions.shard ≡ n → IsHousedIn s t → IsOfShard n t
@@ -109,7 +108,7 @@ each_own n now k (c ∷ cs) own = (of_shard n c.session.0 own.0, each_own n now 
 
 pub opened_keeps : (n : ℕ) (profiles : List Profile) (cs : List Static) (now : ℕ) → n < 64 → All (λ c. IsNumberOf n c.session.0) cs → AllPairs (λ a b. a.session ≢ b.session) cs → Keeps n (length cs) (opened_slots n profiles cs now)
 opened_keeps n profiles cs now low own apart = record {
-  sound = opened_sound n cs apart profiles now low own;
+  sound = opened_sound now n cs apart profiles low own;
   housed = housed_opened n profiles cs now apart;
   lasting = circuits_opened n profiles cs now apart;
   shard = refl;
@@ -118,15 +117,15 @@ opened_keeps n profiles cs now low own apart = record {
 
 -- Terms that have ended ------------------------------------------------------------------------------------------------------
 
--- it is of the shard, one of the causes that there are ended it, and if it is a circuit's, the gateway's own stop did
+-- it is of the shard, one of the causes that there are ended it, and if it is a circuit's, one that no subscriber gives
 pub record EndsWell (n circuits : ℕ) (t : Term) : Type 0 where
   pub session : t.key.term.session.0 / 1024 ≡ n
   pub known : IsCause t.cause
-  pub cause : t.key.term.serial ≤ circuits → t.cause ≡ nas_request
+  pub cause : t.key.term.serial ≤ circuits → IsCircuitCause t.cause
 
-its_cause : (o : Option ℕ) → is_some o ≡ true → (o ≡ None) ⊎ (o ≡ Some nas_request) → cause_in o ≡ nas_request
-its_cause o over (inl e) = absurd (false≢true (sym (ap (λ (x : Option ℕ). is_some x) e) ∙ over))
-its_cause o over (inr e) = ap cause_in e
+its_cause : (o : Option ℕ) → is_some o ≡ true → IfSome o IsCircuitCause → IsCircuitCause (cause_in o)
+its_cause None over known = absurd (false≢true over)
+its_cause (Some cause) over known = known
 
 its_known : (o : Option ℕ) → is_some o ≡ true → IfSome o IsCause → IsCause (cause_in o)
 its_known None over known = absurd (false≢true over)
@@ -137,7 +136,7 @@ IsKnown t = IfSome t.cause IsCause
 
 module _ (n circuits : ℕ) where
   abbrev IsCircuitLasting : Tenure → Type 0
-  IsCircuitLasting t = t.term.serial ≤ circuits → (t.cause ≡ None) ⊎ (t.cause ≡ Some nas_request)
+  IsCircuitLasting t = t.term.serial ≤ circuits → IfSome t.cause IsCircuitCause
 
   over_well : (t : Tenure) (b : Bool) (us : List Term) → is_over t ≡ b → IsOfShard n t → IsKnown t → IsCircuitLasting t → AllByRecursion (EndsWell n circuits) us → AllByRecursion (EndsWell n circuits) (cond b (term_in t ∷ us) us)
   over_well t true us over own known lasting rest = (record { session = own; known = its_known t.cause over known; cause = λ few. its_cause t.cause over (lasting few) }, rest)

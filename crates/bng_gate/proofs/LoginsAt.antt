@@ -97,7 +97,7 @@ before_it (y ∷ xs) (suc j) (suc k) x le at = before_it xs j k x (omega (arith,
 
 left_is : (d d' : Desk) (t : Option Turn) → Step d t d' → d'.shards ≡ shards_left d t
 left_is d d' None step = ap (λ (x : Desk). x.shards) step
-left_is d d' (Some t) step = ap (λ (x : Desk). x.shards) step.4
+left_is d d' (Some t) step = ap (λ (x : Desk). x.shards) step.5
 
 -- The login ------------------------------------------------------------------------------------------------------------------
 

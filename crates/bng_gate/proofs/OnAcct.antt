@@ -19,9 +19,11 @@ use Rattle.bng_engine.proofs.Everywhere.{all_weaker}
 use Rattle.bng_lane.specs.Sends.{LaneSend}
 use Rattle.bng_shard.specs.Reader.{is_tunnel, IsInDirection, IsNoPacket}
 use Rattle.bng_desk.specs.Accounting.{record_datagram, record_sends}
+use Rattle.bng_desk.specs.Coa.{CoaReplies, CoaSend, coa_datagram, coa_sends}
 use Rattle.bng_desk.specs.Control.{Heeded, reply, is_answered}
 use Rattle.bng_desk.specs.Logins.{lane_datagram, lane_sends}
 use Rattle.bng_desk.specs.Model.{Desk}
+use Rattle.bng_desk.specs.Report.{stats_text}
 use Rattle.bng_desk.specs.Round.{Round}
 use Rattle.bng_desk.specs.Turn.{Turn, stretch_of}
 use Rattle.bng_gate.specs.Granted.{Stage, stage_in, end_stage_in, stages_of}
@@ -70,9 +72,17 @@ went_else (o ∷ os) h = by_sent o.sent (went_else os h.1)
 acct_append : (a b : List Datagram) → on_acct (a ++ b) ≡ on_acct a ++ on_acct b
 acct_append a b = filter-append (λ (d : Datagram). is_acct d.role) a b
 
-no_answers : (hs : List Heeded) → on_acct (map reply hs) ≡ []
-no_answers [] = refl
-no_answers (h ∷ hs) = no_answers hs
+no_answers : (stats : List ℕ) (hs : List Heeded) → on_acct (map (reply stats) hs) ≡ []
+no_answers stats [] = refl
+no_answers stats (h ∷ hs) = no_answers stats hs
+
+one_reply : (to : Peer) (octets : List ℕ) (b : Bool) (ds : List Datagram) → on_acct ((if b then record { role = Coa; peer = to; octets = octets } ∷ [] else []) ++ ds) ≡ on_acct ds
+one_reply to octets true ds = refl
+one_reply to octets false ds = refl
+
+none_replied : (ss : List CoaSend) → on_acct (flat_map coa_datagram ss) ≡ []
+none_replied [] = refl
+none_replied (s ∷ ss) = one_reply s.reply.to s.reply.octets s.sent (flat_map coa_datagram ss) ∙ none_replied ss
 
 one_asked : (server : Peer) (octets : List ℕ) (b : Bool) (ds : List Datagram) → on_acct ((if b then record { role = Auth; peer = server; octets = octets } ∷ [] else []) ++ ds) ≡ on_acct ds
 one_asked server octets true ds = refl
@@ -93,13 +103,17 @@ all_recorded server (s ∷ ss) =
     one_recorded server s.octets s.sent (flat_map (record_datagram server) ss)
     ∙ ap (λ (ds : List Datagram). record_datagram server s ++ ds) (all_recorded server ss)
 
-settled_sent : (d : Desk) (round : Option Round) (asked records : List LaneSend) → AllByRecursion IsElse (sends_in round)
-    → on_acct (went (sends_in round) ++ (flat_map (lane_datagram d.lane.client.auth_server) asked ++ flat_map (record_datagram d.billing.client.acct_server) records)) ≡ flat_map (record_datagram d.billing.client.acct_server) records
-settled_sent d round asked records elsewhere =
+settled_sent : (d : Desk) (round : Option Round) (replies : CoaReplies) (asked records : List LaneSend) → AllByRecursion IsElse (sends_in round)
+    → on_acct (went (sends_in round) ++ (flat_map coa_datagram (coa_sends replies) ++ (flat_map (lane_datagram d.lane.client.auth_server) asked ++ flat_map (record_datagram d.billing.client.acct_server) records)))
+    ≡ flat_map (record_datagram d.billing.client.acct_server) records
+settled_sent d round replies asked records elsewhere =
+    let replied = flat_map coa_datagram (coa_sends replies) in
     let first = flat_map (lane_datagram d.lane.client.auth_server) asked in
     let last = flat_map (record_datagram d.billing.client.acct_server) records in
-    acct_append (went (sends_in round)) (first ++ last)
-    ∙ ap (λ (ds : List Datagram). ds ++ on_acct (first ++ last)) (went_else (sends_in round) elsewhere)
+    acct_append (went (sends_in round)) (replied ++ (first ++ last))
+    ∙ ap (λ (ds : List Datagram). ds ++ on_acct (replied ++ (first ++ last))) (went_else (sends_in round) elsewhere)
+    ∙ acct_append replied (first ++ last)
+    ∙ ap (λ (ds : List Datagram). ds ++ on_acct (first ++ last)) (none_replied (coa_sends replies))
     ∙ acct_append first last
     ∙ ap (λ (ds : List Datagram). ds ++ on_acct last) (none_asked d.lane.client.auth_server asked)
     ∙ all_recorded d.billing.client.acct_server records
@@ -107,16 +121,16 @@ settled_sent d round asked records elsewhere =
 turn_sent : (d : Desk) (t : Option Turn) → AllByRecursion IsElse (sends_in (round_in t)) → on_acct (stretch_of d t).plant.sent ≡ (stage_in d t).records
 turn_sent d None elsewhere = refl
 turn_sent d (Some t) elsewhere =
-    let rest = went (sends_in t.round) ++ requested d t.requests t.records in
+    let rest = went (sends_in t.round) ++ requested d t.replies t.requests t.records in
     ap on_acct (turn_out d t)
-    ∙ acct_append (map reply (filter is_answered t.control)) rest
-    ∙ ap (λ (ds : List Datagram). ds ++ on_acct rest) (no_answers (filter is_answered t.control))
-    ∙ settled_sent d t.round (lane_sends t.requests) (record_sends t.records) elsewhere
+    ∙ acct_append (map (reply (stats_text d)) (filter is_answered t.control)) rest
+    ∙ ap (λ (ds : List Datagram). ds ++ on_acct rest) (no_answers (stats_text d) (filter is_answered t.control))
+    ∙ settled_sent d t.round t.replies (lane_sends t.requests) (record_sends t.records) elsewhere
 
 end_sent : (d : Desk) (t : Late) → AllByRecursion IsElse (sends_in (end_round_in t)) → on_acct (late_stretch d t).plant.sent ≡ (end_stage_in d t).records
 end_sent d (Ends None) elsewhere = refl
 end_sent d (Waits t) elsewhere = ap on_acct (grace_out d t) ∙ all_recorded d.billing.client.acct_server (record_sends t.records)
-end_sent d (Ends (Some t)) elsewhere = ap on_acct (end_out d t) ∙ settled_sent d t.round (lane_sends t.requests) (record_sends t.records) elsewhere
+end_sent d (Ends (Some t)) elsewhere = ap on_acct (end_out d t) ∙ settled_sent d t.round t.replies (lane_sends t.requests) (record_sends t.records) elsewhere
 
 -- What the turns send ------------------------------------------------------------------------------------------------------------------
 

@@ -77,9 +77,9 @@ record HasNone (x : Session) : Type 0 where
   accepted : accepted_in x.service ≡ None
   asks : asked_in x (open_of x) ≡ []
 
-provisioned_none : (k : ℕ) (cs : List Static) → AllByRecursion HasNone (map (λ e. e.1) (numbered_after k cs))
-provisioned_none k [] = tt
-provisioned_none k (c ∷ cs) = (record { last = refl; accepted = refl; asks = refl }, provisioned_none (k + 1) cs)
+provisioned_none : (now k : ℕ) (cs : List Static) → AllByRecursion HasNone (map (λ e. e.1) (numbered_after now k cs))
+provisioned_none now k [] = tt
+provisioned_none now k (c ∷ cs) = (record { last = refl; accepted = refl; asks = refl }, provisioned_none now (k + 1) cs)
 
 none_asked : (xs : List Session) → AllByRecursion HasNone xs → flat_map (λ (x : Session). asked_in x (open_of x)) xs ≡ []
 none_asked [] h = refl
@@ -94,7 +94,7 @@ module _ (number : ℕ) (cs : List Static) (now : ℕ) (apart : ordered.Apart cs
   slots = opened_slots number [] cs now
 
   all_none : AllByRecursion HasNone (values slots.sessions)
-  all_none = subst (AllByRecursion HasNone) (sym (ap (λ (es : List (ℕ × Session)). map (λ e. e.1) es) (ordered.opened_entries number cs now apart))) (provisioned_none 0 (in_order number cs))
+  all_none = subst (AllByRecursion HasNone) (sym (ap (λ (es : List (ℕ × Session)). map (λ e. e.1) es) (ordered.opened_entries number cs now apart))) (provisioned_none now 0 (in_order number cs))
 
   none_at : (n : ℕ) (x : Session) → value_at slots.sessions n ≡ Some x → HasNone x
   none_at n x at = All-contains HasNone (values slots.sessions) x (All-from_recursion HasNone (values slots.sessions) all_none) (stands slots.sessions n x at)
@@ -122,7 +122,7 @@ module _ (config : Config) (kept : KeepsRules config) (r : Rules) (now : ℕ) wh
         number = refl;
         rules = refl;
         shard = refl;
-        sound = opened_sound n cs apart r.profiles now (omega (arith, low, kept.few_shards)) (All-from_recursion (λ c. IsNumberOf n c.session.0) cs (shard_own config kept n));
+        sound = opened_sound now n cs apart r.profiles (omega (arith, low, kept.few_shards)) (All-from_recursion (λ c. IsNumberOf n c.session.0) cs (shard_own config kept n));
         unasked = refl;
         none_last = no_last n cs now (shard_apart config kept n);
         none_accepted = no_accepted n cs now (shard_apart config kept n);

@@ -137,7 +137,7 @@ as_many n cs own = omega (arith, ones cs, ones (in_order n cs), ordered.sum_in_o
 
 module _ (r : Rules) (now : ℕ) where
   abbrev fresh : ℕ → List Static → ShardState
-  fresh number cs = record { rules = r; slots = opened_slots number r.profiles cs now }
+  fresh number cs = record { rules = r; slots = opened_slots number r.profiles cs now; changed = [] }
 
   new_shard : (number : ℕ) (cs : List Static) → AllByRecursion (λ c. IsNumberOf number c.session.0) cs → AllByRecursion (HasOneOf (length r.profiles)) cs → IsNew pppoe (with_journal {E = Handled} (opened number r cs now) [])
   new_shard number cs own profiles =

@@ -30,11 +30,13 @@ use Rattle.bng_forward.specs.Packets.{IsPassedOn}
 use Rattle.bng_l2tp_wire.specs.Messages.{ControlMessage}
 use Rattle.bng_lns.specs.Tunnels.{Answer as TunnelAnswer, NoTunnel, NoRequest, Steps, TunnelsState}
 use Rattle.bng_pppoe_wire.proofs.Spelled.{six}
+use Rattle.bng_radius_wire.specs.Grammar.{Packet as Request}
 use Rattle.bng_shard.specs.Made.{Made}
 use Rattle.bng_shard.specs.declared.rules.Rules.{Rules}
 use Rattle.bng_shard.specs.declared.session.Service.{Service}
 use Rattle.bng_shard.specs.declared.session.Service.TheVariants.{Provisioned, Discovered}
 use Rattle.bng_shard.specs.declared.session.Session.{Session}
+use Rattle.bng_shard.specs.Changes.{Applies, Found as FoundTerm, HearsChange, Obeys, found_by, refusal_of}
 use Rattle.bng_shard.specs.Deed.{Deed, arrival_in}
 use Rattle.bng_shard.specs.Discovery.{Answers, Discovers}
 use Rattle.bng_shard.specs.Frames.{GoesDown, GoesUp, HearsAccess, HearsControl, HearsCore, HearsData, HearsFrame, HearsIn, HearsPpp, charge_of, found_down, found_up}
@@ -284,12 +286,25 @@ module _ (r : Rules) (s : State) (e : Entry) (d : Deed) (on : d.fate ≡ Forward
   ends : HearsEnd r s e d → Goes
   ends (first, next, all, rest, t, stops, h) = other _ h (λ f. absurd cc)
 
+  applied : (p : Request) (f : FoundTerm) → Applies r s e p f d → Goes
+  applied p f (inl (code, h)) = other _ h (λ g. absurd cc)
+  applied p f (inr (code, outs, s', loses, h)) = other _ h (λ g. absurd cc)
+
+  obeyed : (refusal : Option ℕ) (found : Option FoundTerm) (p : Request) → Obeys refusal found r s e p d → Goes
+  obeyed (Some cause) found p h = other _ h (λ f. absurd cc)
+  obeyed None None p h = other _ h (λ f. absurd cc)
+  obeyed None (Some f) p h = applied p f h
+
+  change : HearsChange r s e d → Goes
+  change (inl (no_request, h)) = other _ h (λ f. absurd cc)
+  change (inr (p, is, h)) = obeyed (refusal_of r p) (found_by r s p.attributes) p h
+
   hears_goes : (k : ItemKind) (limited : Bool) → e.item.kind ≡ k → Hears k r s limited e d → Goes
   hears_goes (kind.Access number) limited is_kind h = access number is_kind h
   hears_goes kind.Core limited is_kind h = core is_kind h
   hears_goes kind.Tunnel limited is_kind h = tunnel h
   hears_goes kind.Verdict limited is_kind h = judged limited h
-  hears_goes kind.Change limited is_kind h = other _ h (λ f. absurd cc)
+  hears_goes kind.Change limited is_kind h = change h
   hears_goes kind.Tick limited is_kind h = tick h
   hears_goes kind.End limited is_kind h = ends h
 

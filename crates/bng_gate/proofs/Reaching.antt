@@ -102,7 +102,7 @@ turn_next d last (h ∷ held) (suc k) t u run e f = turn_next run.0 last held k 
 pub record IsBegun (t : Held) (p : ℕ) (w : ShardView ShardState Handled) : Type 0 where
   pub view : ShardView ShardState Entry
   pub at : slice_get t.desk.shards p ≡ Some view
-  steps : AreSteps pppoe view.state w.journal
+  pub steps : AreSteps pppoe view.state w.journal
   state : w.state ≡ (pppoe).settled (after pppoe view.state w.journal)
   pub starts : AreStarts (terms_of view.state) (terms_of (after pppoe view.state w.journal)) w.starts
 
@@ -125,22 +125,26 @@ begun t round p w made opened there =
 
 -- Properties that stay ----------------------------------------------------------------------------------------------------
 
+-- a state once a round is settled, and what was answered to requests for changes was told
+abbrev pub rested : ShardState → ShardState
+rested s = record ((pppoe).settled s) { changed = [] }
+
 module _ (held : List Held) (P : ℕ → ℕ → ShardState → Type 0) where
   -- by the number of a turn and the place of a shard
   pub record IsKept : Type 0 where
     pub steps : (k : ℕ) (s : ShardState) (h : Handled) (i : HandledIn held k s h) → Step s.rules s.slots h.limited h.deed → P k i.place s → P k i.place ((pppoe).next s h)
-    pub settles : (k p : ℕ) (s : ShardState) → P k p s → P (suc k) p ((pppoe).settled s)
+    pub settles : (k p : ℕ) (s : ShardState) → P k p s → P (suc k) p (rested s)
     pub rests : (k p : ℕ) (s : ShardState) → P k p s → P (suc k) p s
 
   -- of all shards before a turn
   abbrev pub HoldsAt : ℕ → Type 0
   HoldsAt k = (t : Held) → slice_get held k ≡ Some t → (p : ℕ) (v : ShardView ShardState Entry) → slice_get t.desk.shards p ≡ Some v → P k p v.state
 
-  -- what a turn leaves of a shard is what its entries left of it, settled, or what was there, where no round was opened
+  -- what a turn leaves of a shard is what its entries left of it, settled and told, or what was there, where no round was opened
   pub record IsLeft (k p : ℕ) (s : ShardState) : Type 0 where
     pub before : ShardState
     pub holds : P k p before
-    pub is : (s ≡ (pppoe).settled before) ⊎ (s ≡ before)
+    pub is : (s ≡ rested before) ⊎ (s ≡ before)
 
   module _ (keeps : IsKept) (k : ℕ) (turn : Held) (at : slice_get held k ≡ Some turn) (round : Round) (opened : turn.round ≡ Some round)
       (p : ℕ) (before : ShardState) (was : option_map (λ v. v.state) (slice_get turn.desk.shards p) ≡ Some before)
@@ -183,8 +187,8 @@ module _ (held : List Held) (P : ℕ → ℕ → ShardState → Type 0) where
         let whole : w.0.journal ≡ w.0.journal ++ [] = sym (append-nil w.0.journal) in
         let went = walk keeps k t at round opened p b.view.state (ap (option_map (λ (x : ShardView ShardState Entry). x.state)) b.at) w.0 w.1
         b.view.state [] w.0.journal [] refl whole (subst (λ (es : List Handled). AreSteps pppoe b.view.state es) whole b.steps) (h p b.view b.at) in
-        let ends : w.0.state ≡ v.state = ap (λ (x : ShardView ShardState Entry). x.state) w.2 in
-        record { before = after pppoe b.view.state w.0.journal; holds = went.0; is = inl (sym ends ∙ b.state) }
+        let ends : record w.0.state { changed = [] } ≡ v.state = ap (λ (x : ShardView ShardState Entry). x.state) w.2 in
+        record { before = after pppoe b.view.state w.0.journal; holds = went.0; is = inl (sym ends ∙ ap (λ (s : ShardState). record s { changed = [] }) b.state) }
 
     -- what a turn leaves of the shards
     pub left : (k : ℕ) (t : Held) → slice_get held k ≡ Some t → HoldsAt k → (p : ℕ) (v : ShardView ShardState Entry) → slice_get (left_after t.desk.shards t.round) p ≡ Some v → IsLeft k p v.state

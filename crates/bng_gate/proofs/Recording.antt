@@ -16,8 +16,10 @@ use Rattle.bng_billing.proofs.Following.{answers_of}
 use Rattle.bng_config.specs.declared.config.Config.{Config}
 use Rattle.bng_engine.specs.Histories.{ShardTurn}
 use Rattle.bng_engine.specs.Laws.{sends_of}
+use Rattle.bng_engine.specs.Lists.{AnyOf}
 use Rattle.bng_engine.specs.Terms.{Key, Stop}
 use Rattle.bng_engine.specs.Views.{DeskView, ShardView, turn_in}
+use Rattle.bng_engine.proofs.Everywhere.{all_weaker}
 use Rattle.bng_lane.specs.Sends.{LaneSend}
 use Rattle.bng_shard.specs.Interims.{Reports}
 use Rattle.bng_shard.specs.Protocol.{ShardState, Handled}
@@ -26,7 +28,7 @@ use Rattle.bng_desk.specs.Accounting.{Acknowledged, FormedRecord, IsStartOf, IsS
 use Rattle.bng_desk.specs.Model.{Desk, has_ended}
 use Rattle.bng_desk.specs.Opening.{IsOpened, billing_rules}
 use Rattle.bng_desk.specs.Reading.{taken_in}
-use Rattle.bng_desk.specs.Round.{Round, handled_states, news_in, starts_of, stops_of, terms_in, view_after}
+use Rattle.bng_desk.specs.Round.{Round, handled_states, news_in, starts_of, stops_of, terms_in}
 use Rattle.bng_desk.specs.Turn.{Turn, Step, AreOfRound, FormsRecords, after_end}
 use Rattle.bng_gate.specs.Granted.{Stage, stage_in, end_stage_in, stages_of}
 use Rattle.bng_gate.specs.Recorded.{Recorded, SaysRound, SaysStart, SaysStop, SayRounds, formed_in, end_formed_in, formed_of, formed_call, heard_call, again_calls, given_calls, request_calls, calls_in, stopped_if, end_calls_in, calls_of, sent_by_calls, taken_for}
@@ -34,9 +36,9 @@ use Rattle.bng_gate.specs.Rounds.{plant_of, round_in, end_round_in, rounds_of, t
 use Rattle.bng_gate.specs.Serving.{Made, MadeEnd, Late, Ends, Waits, LateStep, Run, EndRun}
 use Rattle.bng_gate.proofs.Calling.{ending_calls, forms_calls, made_calls, run_calls, step_calls}
 use Rattle.bng_gate.proofs.Follows.{Follows, end_follows, step_follows}
-use Rattle.bng_gate.proofs.Going.{Stands, none_stands, round_stands, round_turns}
+use Rattle.bng_gate.proofs.Going.{Stands, any_left, none_stands, round_stands, round_turns, view_beside}
 use Rattle.bng_gate.proofs.OnAcct.{IsElse, stages_recorded}
-use Rattle.bng_gate.proofs.Reporting.{ReportTurn, round_reports}
+use Rattle.bng_gate.proofs.Reporting.{IsOfRows, ReportTurn, round_reports}
 use Rattle.bng_gate.proofs.Staging.{stages_acknowledged}
 
 -- The records of the rounds ---------------------------------------------------------------------------------------------------------
@@ -100,13 +102,15 @@ module _ (last : Desk) where
   round_first d d' None follows moment wall reports reports' b formed b' none rounds rest later v stands =
       subst (λ (fs : List FormedRecord). Said v rounds (fs ++ rest) last) (sym none.0) (later v (none_stands v d d' stands follows))
   round_first d d' (Some round) follows moment wall reports reports' b formed b' of_round rounds rest later v stands =
-      let mid = view_after round in
-      let said = later mid (round_stands d d' round follows) in
+      let mid = view_beside v round in
+      let said = later mid (round_stands v d d' round stands follows) in
+      let reported = round_reports d.shards moment wall round reports reports' b formed b' of_round in
+      let seen = all_weaker (λ f. AnyOf (IsOfRows f) round.shards) (λ f. AnyOf (IsOfRows f) mid.shards) (λ f. any_left (IsOfRows f) (λ u w h. h) v d round stands follows.is_round) of_round.interims reported in
       record {
         interims = of_round.interims ∷ said.interims;
         say = (formed, rest, refl, round_said d.shards moment wall round reports reports' b formed b' of_round, said.say);
         view = said.view;
-        turns = (mid, record { turn = round_turns v d round stands follows.is_round; reported = round_reports d.shards moment wall round reports reports' b formed b' of_round }, said.turns);
+        turns = (mid, record { turn = round_turns v d round stands follows.is_round; reported = seen }, said.turns);
         stands = said.stands;
       }
 

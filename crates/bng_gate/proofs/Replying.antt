@@ -372,7 +372,7 @@ module _ (config : Config) (seed : List ℕ) (turns : List Made) where
     subst (λ (d : Desk). Holds (suc k) d.lane) (sym step) (later k m.desk.lane h),
     λ place a q there found. absurd (let none : None ≡ Some a = ap (λ (o : Option Turn). slice_get (answers_in o) place) (sym is) ∙ there in cc),
   )
-  step_holds k m at seeded (Some t) is d' (reading, round, lane, billing, after_is) h = (
+  step_holds k m at seeded (Some t) is d' (reading, round, lane, billing, coa, after_is) h = (
     subst (λ (d : Desk). Holds (suc k) d.lane) (sym after_is) (turn_keeps k m at t is h.0.server_is seeded lane h),
     λ place a q there found. heard_replied k m.desk.lane t.answers t.heard lane.hears h place a q (ap (λ (o : Option Turn). slice_get (answers_in o) place) (sym is) ∙ there) found,
   )

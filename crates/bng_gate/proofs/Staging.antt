@@ -1,4 +1,4 @@
--- The stages of the turns are what the turns tell: what they took from Acct, Auth, the access ports and the core, and what they sent,
+-- The stages of the turns are what the turns tell: what they took from Acct, Coa, Auth, the access ports and the core, and what they sent,
 -- the answers on Control aside.
 use Rattle.std.proofs.Common.{◌≡◌, ℕ, zero, suc, ◌+◌, Bool, true, false, cond, List, [], ◌∷◌, ◌++◌, map, length, Option, Some, None, refl, sym, ap, subst, ◌∙◌, append-nil}
 use Rattle.std.specs.Prelude.{filter, not}
@@ -8,20 +8,22 @@ use Rattle.std.proofs.lemmas.List.Elements.{filter-append}
 use Rattle.std.proofs.lemmas.Option.{none-some}
 use Rattle.bng_base.specs.declared.outside.Datagram.{Datagram}
 use Rattle.bng_base.specs.declared.outside.Role.{Role}
-use Rattle.bng_base.specs.declared.outside.Role.TheVariants.{Access, Auth, Acct, Core, Control, Tunnel}
+use Rattle.bng_base.specs.declared.outside.Role.TheVariants.{Access, Auth, Acct, Coa, Core, Control, Tunnel}
 use Rattle.bng_base.specs.FateOf.{Arrival}
 use Rattle.bng_engine.specs.Wire.{went}
 use Rattle.bng_desk.specs.declared.reading.Ended.{Ended}
 use Rattle.bng_desk.specs.Accounting.{Acknowledged}
+use Rattle.bng_desk.specs.Coa.{Requested, requests_most}
 use Rattle.bng_desk.specs.Control.{Heeded, reply, is_answered}
 use Rattle.bng_desk.specs.Items.{DataReading}
-use Rattle.bng_desk.specs.Logins.{Answered}
+use Rattle.bng_desk.specs.Logins.{Answered, verdicts_most}
 use Rattle.bng_desk.specs.Model.{Desk}
 use Rattle.bng_desk.specs.Reading.{is_empty, taken_in}
+use Rattle.bng_desk.specs.Report.{stats_text}
 use Rattle.bng_desk.specs.Round.{Round}
-use Rattle.bng_desk.specs.Turn.{Turn, GraceTurn, ReadsWhere, Step, tunnel_roles, auth_stretch, data_stretch, round_stretch, stretch_of, grace_stretch}
+use Rattle.bng_desk.specs.Turn.{Turn, GraceTurn, ReadsWhere, Step, reads_changes, tunnel_roles, asked_stretch, auth_stretch, data_stretch, round_stretch, stretch_of, grace_stretch}
 use Rattle.bng_gate.specs.Granted.{Stage, sent_by, stage_in, end_stage_in, stages_of}
-use Rattle.bng_gate.specs.Rounds.{plant_of, is_acct, is_auth, is_control, on_acct, on_auth, on_data, beside_control, readings_in, readings_of}
+use Rattle.bng_gate.specs.Rounds.{plant_of, is_acct, is_auth, is_coa, is_control, on_acct, on_auth, on_coa, on_data, beside_control, readings_in, readings_of}
 use Rattle.bng_gate.specs.Serving.{Made, MadeEnd, Late, Ends, Waits, Run, late_stretch, run_stretch, ending_stretch}
 use Rattle.bng_gate.proofs.Telling.{end_out, grace_out, requested, round_takes, sends_in, taken_are, taken_by_reading, turn_out}
 
@@ -31,11 +33,11 @@ beside_append : (a b : List Datagram) → beside_control (a ++ b) ≡ beside_con
 beside_append a b = filter-append (λ (d : Datagram). not (is_control d.role)) a b
 
 abbrev out_of : Stage → List Datagram
-out_of s = s.sent ++ (s.requests ++ s.records)
+out_of s = s.sent ++ (s.replies ++ (s.requests ++ s.records))
 
-no_answers : (hs : List Heeded) → beside_control (map reply hs) ≡ []
-no_answers [] = refl
-no_answers (h ∷ hs) = no_answers hs
+no_answers : (stats : List ℕ) (hs : List Heeded) → beside_control (map (reply stats) hs) ≡ []
+no_answers stats [] = refl
+no_answers stats (h ∷ hs) = no_answers stats hs
 
 sent_by_round : (round : Option Round) → went (sends_in round) ≡ sent_by round
 sent_by_round None = refl
@@ -44,16 +46,16 @@ sent_by_round (Some round) = refl
 turn_sent : (d : Desk) (t : Option Turn) → beside_control (stretch_of d t).plant.sent ≡ beside_control (out_of (stage_in d t))
 turn_sent d None = refl
 turn_sent d (Some t) =
-    let rest = went (sends_in t.round) ++ requested d t.requests t.records in
+    let rest = went (sends_in t.round) ++ requested d t.replies t.requests t.records in
     ap beside_control (turn_out d t)
-    ∙ beside_append (map reply (filter is_answered t.control)) rest
-    ∙ ap (λ (ds : List Datagram). ds ++ beside_control rest) (no_answers (filter is_answered t.control))
-    ∙ ap (λ (ds : List Datagram). beside_control (ds ++ requested d t.requests t.records)) (sent_by_round t.round)
+    ∙ beside_append (map (reply (stats_text d)) (filter is_answered t.control)) rest
+    ∙ ap (λ (ds : List Datagram). ds ++ beside_control rest) (no_answers (stats_text d) (filter is_answered t.control))
+    ∙ ap (λ (ds : List Datagram). beside_control (ds ++ requested d t.replies t.requests t.records)) (sent_by_round t.round)
 
 end_sent : (d : Desk) (t : Late) → beside_control (late_stretch d t).plant.sent ≡ beside_control (out_of (end_stage_in d t))
 end_sent d (Ends None) = refl
 end_sent d (Waits t) = ap beside_control (grace_out d t)
-end_sent d (Ends (Some t)) = ap beside_control (end_out d t) ∙ ap (λ (ds : List Datagram). beside_control (ds ++ requested d t.requests t.records)) (sent_by_round t.round)
+end_sent d (Ends (Some t)) = ap beside_control (end_out d t) ∙ ap (λ (ds : List Datagram). beside_control (ds ++ requested d t.replies t.requests t.records)) (sent_by_round t.round)
 
 -- one more
 more_sent : (here stage later stages : List Datagram) → beside_control here ≡ beside_control stage → beside_control later ≡ beside_control stages → beside_control (here ++ later) ≡ beside_control (stage ++ stages)
@@ -76,7 +78,7 @@ endings_sent (m ∷ endings) =
     (end_sent m.desk m.turn) (endings_sent endings)
 
 -- what was sent, but for Control, are what the stages sent, in their order
-pub stages_sent : (turns : List Made) (endings : List MadeEnd) → beside_control (plant_of turns endings).sent ≡ beside_control (flat_map (λ s. s.sent ++ (s.requests ++ s.records)) (stages_of turns endings))
+pub stages_sent : (turns : List Made) (endings : List MadeEnd) → beside_control (plant_of turns endings).sent ≡ beside_control (flat_map (λ s. s.sent ++ (s.replies ++ (s.requests ++ s.records))) (stages_of turns endings))
 stages_sent turns endings =
     let serving = map (λ (m : Made). stage_in m.desk m.turn) turns in
     let ending = map (λ (m : MadeEnd). end_stage_in m.desk m.turn) endings in
@@ -123,26 +125,29 @@ module _ (is : Role → Bool) (no_control : is Control ≡ false) (no_tunnel : i
   roles_else true n m = (no_tunnel, ports_else n m)
   roles_else false n m = ports_else n m
 
-  -- what a turn takes from Acct, and then from Auth
+  -- what a turn takes from Acct, then from Coa, and then from Auth
   turn_takes : (d d' : Desk) (t : Turn) → Step d (Some t) d' → (e : Desk)
-      → only (stretch_of e (Some t)).plant.taken ≡ only (taken_in Acct (map (λ a. a.arrival) t.acknowledged)) ++ only (auth_stretch t.answers t.auth_end).taken
+      → only (stretch_of e (Some t)).plant.taken
+      ≡ only (taken_in Acct (map (λ a. a.arrival) t.acknowledged)) ++ (only (asked_stretch t.requested t.coa_end).taken ++ only (auth_stretch t.answers t.auth_end).taken)
   turn_takes d d' t step e =
       let heeded = map (λ (h : Heeded). h.arrival) t.control in
       let acct = taken_in Acct (map (λ (a : Acknowledged). a.arrival) t.acknowledged) in
+      let coa = (asked_stretch t.requested t.coa_end).taken in
       let auth = (auth_stretch t.answers t.auth_end).taken in
       let rest = (data_stretch t.readings).taken ++ ((round_stretch t.round).taken ++ []) in
-      let later = (acct ++ []) ++ (auth ++ rest) in
+      let later = (acct ++ []) ++ (coa ++ (auth ++ rest)) in
       let roles : AllByRecursion (λ role. is role ≡ false) (map (λ r. r.role) t.readings) = subst (AllByRecursion (λ role. is role ≡ false)) (sym step.0.roles) (roles_else d.rules.serves_tunnels 1 (length d.rules.access)) in
       only_append (taken_in Control heeded ++ []) later
       ∙ ap (λ (ds : List Datagram). only ds ++ only later) (append-nil (taken_in Control heeded))
       ∙ ap (λ (ds : List Datagram). ds ++ only later) (none_of Control heeded no_control)
-      ∙ only_append (acct ++ []) (auth ++ rest)
-      ∙ ap (λ (ds : List Datagram). only ds ++ only (auth ++ rest)) (append-nil acct)
-      ∙ ap (λ (ds : List Datagram). only acct ++ ds) (only_append auth rest)
-      ∙ ap (λ (ds : List Datagram). only acct ++ (only auth ++ only ((data_stretch t.readings).taken ++ (ds ++ [])))) (round_takes t.round)
-      ∙ ap (λ (ds : List Datagram). only acct ++ (only auth ++ only ds)) (append-nil (data_stretch t.readings).taken)
-      ∙ ap (λ (ds : List Datagram). only acct ++ (only auth ++ ds)) (none_read t.readings roles)
-      ∙ ap (λ (ds : List Datagram). only acct ++ ds) (append-nil (only auth))
+      ∙ only_append (acct ++ []) (coa ++ (auth ++ rest))
+      ∙ ap (λ (ds : List Datagram). only ds ++ only (coa ++ (auth ++ rest))) (append-nil acct)
+      ∙ ap (λ (ds : List Datagram). only acct ++ ds) (only_append coa (auth ++ rest))
+      ∙ ap (λ (ds : List Datagram). only acct ++ (only coa ++ ds)) (only_append auth rest)
+      ∙ ap (λ (ds : List Datagram). only acct ++ (only coa ++ (only auth ++ only ((data_stretch t.readings).taken ++ (ds ++ []))))) (round_takes t.round)
+      ∙ ap (λ (ds : List Datagram). only acct ++ (only coa ++ (only auth ++ only ds))) (append-nil (data_stretch t.readings).taken)
+      ∙ ap (λ (ds : List Datagram). only acct ++ (only coa ++ (only auth ++ ds))) (none_read t.readings roles)
+      ∙ ap (λ (ds : List Datagram). only acct ++ (only coa ++ ds)) (append-nil (only auth))
 
   -- what one of the grace takes from Acct
   grace_takes : (d : Desk) (t : GraceTurn) → only (grace_stretch d t).plant.taken ≡ only (taken_in Acct (map (λ a. a.arrival) t.acknowledged))
@@ -177,20 +182,29 @@ module _ (is : Role → Bool) (no_control : is Control ≡ false) (no_tunnel : i
         ∙ sym (flat_map-append told serving ending)
 
 -- Auth is read, or nothing was taken from it
-auth_taken : (reads : Bool) (answers : List Answered) (ended : Option Ended) → ReadsWhere reads answers ended → on_auth (auth_stretch answers ended).taken ≡ taken_in Auth (map (λ a. a.arrival) answers)
-auth_taken true answers None reads = absurd (none-some reads.0 reads.1)
-auth_taken false answers None reads = ap (λ (as' : List Answered). taken_in Auth (map (λ (a : Answered). a.arrival) as')) (sym reads.1)
-auth_taken reads answers (Some ended) is =
+auth_taken : (most : ℕ) (reads : Bool) (answers : List Answered) (ended : Option Ended) → ReadsWhere most reads answers ended → on_auth (auth_stretch answers ended).taken ≡ taken_in Auth (map (λ a. a.arrival) answers)
+auth_taken most true answers None reads = absurd (none-some reads.0 reads.1)
+auth_taken most false answers None reads = ap (λ (as' : List Answered). taken_in Auth (map (λ (a : Answered). a.arrival) as')) (sym reads.1)
+auth_taken most reads answers (Some ended) is =
     let arrivals = map (λ (a : Answered). a.arrival) answers in
     ap on_auth (append-nil (taken_in Auth arrivals)) ∙ all_of is_auth refl refl (λ n. refl) refl Auth arrivals refl
+
+-- nothing of Coa is of Auth
+coa_no_auth : (requested : List Requested) (ended : Option Ended) → on_auth (asked_stretch requested ended).taken ≡ []
+coa_no_auth requested None = refl
+coa_no_auth requested (Some ended) =
+    let arrivals = map (λ (q : Requested). q.arrival) requested in
+    ap on_auth (append-nil (taken_in Coa arrivals)) ∙ none_of is_auth refl refl (λ n. refl) refl Coa arrivals refl
 
 turn_heard : (d d' : Desk) (t : Option Turn) → Step d t d' → (e : Desk) → on_auth (stretch_of e t).plant.taken ≡ (stage_in e t).heard
 turn_heard d d' None step e = refl
 turn_heard d d' (Some t) step e =
     let arrivals = map (λ (a : Acknowledged). a.arrival) t.acknowledged in
+    let auth = on_auth (auth_stretch t.answers t.auth_end).taken in
     turn_takes is_auth refl refl (λ n. refl) refl d d' t step e
-    ∙ ap (λ (ds : List Datagram). ds ++ on_auth (auth_stretch t.answers t.auth_end).taken) (none_of is_auth refl refl (λ n. refl) refl Acct arrivals refl)
-    ∙ auth_taken (is_empty d.kept) t.answers t.auth_end step.0.auth
+    ∙ ap (λ (ds : List Datagram). ds ++ (on_auth (asked_stretch t.requested t.coa_end).taken ++ auth)) (none_of is_auth refl refl (λ n. refl) refl Acct arrivals refl)
+    ∙ ap (λ (ds : List Datagram). ds ++ auth) (coa_no_auth t.requested t.coa_end)
+    ∙ auth_taken verdicts_most (is_empty d.kept) t.answers t.auth_end step.0.auth
 
 end_heard : (d : Desk) (t : Late) → on_auth (late_stretch d t).plant.taken ≡ (end_stage_in d t).heard
 end_heard d (Ends None) = refl
@@ -210,11 +224,19 @@ auth_else answers (Some ended) =
     let arrivals = map (λ (a : Answered). a.arrival) answers in
     ap on_acct (append-nil (taken_in Auth arrivals)) ∙ none_of is_acct refl refl (λ n. refl) refl Auth arrivals refl
 
+-- nor is anything of Coa
+coa_no_acct : (requested : List Requested) (ended : Option Ended) → on_acct (asked_stretch requested ended).taken ≡ []
+coa_no_acct requested None = refl
+coa_no_acct requested (Some ended) =
+    let arrivals = map (λ (q : Requested). q.arrival) requested in
+    ap on_acct (append-nil (taken_in Coa arrivals)) ∙ none_of is_acct refl refl (λ n. refl) refl Coa arrivals refl
+
 turn_acknowledged : (d d' : Desk) (t : Option Turn) → Step d t d' → (e : Desk) → on_acct (stretch_of e t).plant.taken ≡ (stage_in e t).acknowledged
 turn_acknowledged d d' None step e = refl
 turn_acknowledged d d' (Some t) step e =
     let arrivals = map (λ (a : Acknowledged). a.arrival) t.acknowledged in
     turn_takes is_acct refl refl (λ n. refl) refl d d' t step e
+    ∙ ap (λ (ds : List Datagram). on_acct (taken_in Acct arrivals) ++ (ds ++ on_acct (auth_stretch t.answers t.auth_end).taken)) (coa_no_acct t.requested t.coa_end)
     ∙ ap (λ (ds : List Datagram). on_acct (taken_in Acct arrivals) ++ ds) (auth_else t.answers t.auth_end)
     ∙ append-nil (on_acct (taken_in Acct arrivals))
     ∙ all_of is_acct refl refl (λ n. refl) refl Acct arrivals refl
@@ -229,6 +251,43 @@ end_acknowledged d (Waits t) =
 -- and so what was taken from Acct
 pub stages_acknowledged : (d d' : Desk) (turns : List Made) (endings : List MadeEnd) → Run d turns d' → on_acct (plant_of turns endings).taken ≡ flat_map (λ s. s.acknowledged) (stages_of turns endings)
 stages_acknowledged d d' turns endings run = stages_tell is_acct refl refl (λ n. refl) refl (λ (s : Stage). s.acknowledged) turn_acknowledged end_acknowledged d d' turns endings run
+
+-- Coa is read, or nothing was taken from it
+coa_read : (most : ℕ) (reads : Bool) (requested : List Requested) (ended : Option Ended) → ReadsWhere most reads requested ended → on_coa (asked_stretch requested ended).taken ≡ taken_in Coa (map (λ q. q.arrival) requested)
+coa_read most true requested None reads = absurd (none-some reads.0 reads.1)
+coa_read most false requested None reads = ap (λ (qs : List Requested). taken_in Coa (map (λ (q : Requested). q.arrival) qs)) (sym reads.1)
+coa_read most reads requested (Some ended) is =
+    let arrivals = map (λ (q : Requested). q.arrival) requested in
+    ap on_coa (append-nil (taken_in Coa arrivals)) ∙ all_of is_coa refl refl (λ n. refl) refl Coa arrivals refl
+
+auth_no_coa : (answers : List Answered) (ended : Option Ended) → on_coa (auth_stretch answers ended).taken ≡ []
+auth_no_coa answers None = refl
+auth_no_coa answers (Some ended) =
+    let arrivals = map (λ (a : Answered). a.arrival) answers in
+    ap on_coa (append-nil (taken_in Auth arrivals)) ∙ none_of is_coa refl refl (λ n. refl) refl Auth arrivals refl
+
+turn_requested : (d d' : Desk) (t : Option Turn) → Step d t d' → (e : Desk) → on_coa (stretch_of e t).plant.taken ≡ (stage_in e t).requested
+turn_requested d d' None step e = refl
+turn_requested d d' (Some t) step e =
+    let arrivals = map (λ (a : Acknowledged). a.arrival) t.acknowledged in
+    let asked = on_coa (asked_stretch t.requested t.coa_end).taken in
+    let auth = on_coa (auth_stretch t.answers t.auth_end).taken in
+    turn_takes is_coa refl refl (λ n. refl) refl d d' t step e
+    ∙ ap (λ (ds : List Datagram). ds ++ (asked ++ auth)) (none_of is_coa refl refl (λ n. refl) refl Acct arrivals refl)
+    ∙ ap (λ (ds : List Datagram). asked ++ ds) (auth_no_coa t.answers t.auth_end)
+    ∙ append-nil asked
+    ∙ coa_read requests_most (reads_changes d) t.requested t.coa_end step.0.coa
+
+end_requested : (d : Desk) (t : Late) → on_coa (late_stretch d t).plant.taken ≡ (end_stage_in d t).requested
+end_requested d (Ends None) = refl
+end_requested d (Ends (Some t)) = ap (λ (ds : List Datagram). on_coa (ds ++ [])) (round_takes t.round)
+end_requested d (Waits t) =
+    let arrivals = map (λ (a : Acknowledged). a.arrival) t.acknowledged in
+    grace_takes is_coa refl refl (λ n. refl) refl d t ∙ none_of is_coa refl refl (λ n. refl) refl Acct arrivals refl
+
+-- and what was taken from Coa
+pub stages_requested : (d d' : Desk) (turns : List Made) (endings : List MadeEnd) → Run d turns d' → on_coa (plant_of turns endings).taken ≡ flat_map (λ s. s.requested) (stages_of turns endings)
+stages_requested d d' turns endings run = stages_tell is_coa refl refl (λ n. refl) refl (λ (s : Stage). s.requested) turn_requested end_requested d d' turns endings run
 
 abbrev taken_of : Stage → List Datagram
 taken_of s = s.taken

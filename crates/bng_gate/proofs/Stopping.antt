@@ -27,8 +27,7 @@ use Rattle.bng_engine.proofs.Everywhere.{all_append, all_weaker, any_all}
 use Rattle.bng_engine.proofs.Rounds.{in_shards}
 use Rattle.bng_slots.specs.Sessions.{IsNumberOf}
 use Rattle.bng_shard.specs.declared.rules.Rules.{Rules}
-use Rattle.bng_shard.specs.Lasting.{AreHoused, IsCause}
-use Rattle.bng_shard.specs.Link.{nas_request}
+use Rattle.bng_shard.specs.Lasting.{AreHoused, IsCause, IsCircuitCause}
 use Rattle.bng_shard.specs.Opening.{in_order, tenures_after}
 use Rattle.bng_shard.specs.Protocol.{ShardState, Handled, opened, pppoe, term_in, terms_of}
 use Rattle.bng_shard.proofs.InOrder.{all_in_order, opened_terms}
@@ -194,16 +193,16 @@ module _ (config : Config) (rules : KeepsRules config) where
   found_numbered k (n ∷ ns) (inl h) = (n, keys_numbered n k h)
   found_numbered k (n ∷ ns) (inr h) = found_numbered k ns h
 
-  -- a Stop of a circuit's term says that the gateway stopped
+  -- a Stop of a circuit's term says that no subscriber ended it
   abbrev StopsByUs : Stop → Type 0
-  StopsByUs s = IsOfCircuit config s.key → s.cause ≡ nas_request
+  StopsByUs s = IsOfCircuit config s.key → IsCircuitCause s.cause
 
   by_us : (n : ℕ) (s : Stop) (t : Term) → IsStopOf s.key s.cause t → EndsWell n (circuits_in config n) t → StopsByUs s
   by_us n s t of well circuit =
       let its = found_numbered s.key (range_with_len 0 config.shards) circuit in
       let here : its.0 ≡ n = sym its.1.session ∙ ap (λ (k : Key). k.term.session.0 / 1024) (sym of.0) ∙ well.session in
       let few : s.key.term.serial ≤ circuits_in config n = subst (λ (m : ℕ). s.key.term.serial ≤ circuits_in config m) here its.1.few in
-      sym of.1 ∙ well.cause (subst (λ (k : Key). k.term.serial ≤ circuits_in config n) (sym of.0) few)
+      subst IsCircuitCause of.1 (well.cause (subst (λ (k : Key). k.term.serial ≤ circuits_in config n) (sym of.0) few))
 
   -- it has one of the causes that there are
   abbrev IsKnownStop : Stop → Type 0
@@ -335,7 +334,7 @@ module _ (config : Config) (rules : KeepsRules config) where
             zip_by_place HaveTerms (λ (n : ℕ). keys_at config n ++ starts_at n rounds) 0 config.shards h.shards (run_length (opening v) h rounds run ∙ as_many_before)
             (λ n x at. subst (λ (m : ℕ). HaveTerms x (keys_at config m ++ starts_at m rounds)) (sym (zero-add n)) (have_at n x at))
 
-        pub run_causes : All (λ s. IsOfCircuit config s.key → s.cause ≡ nas_request) (stops_of rounds)
+        pub run_causes : All (λ s. IsOfCircuit config s.key → IsCircuitCause s.cause) (stops_of rounds)
         run_causes = All-from_recursion StopsByUs (stops_of rounds) (all_weaker StopsWell StopsByUs (λ s well. well.ours) (stops_of rounds) (rounds_stops (opening v) h rounds run all_before))
 
         pub run_causes_known : All (λ s. IsCause s.cause) (stops_of rounds)

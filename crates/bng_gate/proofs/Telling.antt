@@ -10,7 +10,7 @@ use Rattle.bng_base.specs.declared.address.Peer.{Peer}
 use Rattle.bng_base.specs.declared.item.OutRecord.{OutRecord}
 use Rattle.bng_base.specs.declared.outside.Datagram.{Datagram}
 use Rattle.bng_base.specs.declared.outside.Role.{Role}
-use Rattle.bng_base.specs.declared.outside.Role.TheVariants.{Access, Auth, Acct, Core, Control, Tunnel}
+use Rattle.bng_base.specs.declared.outside.Role.TheVariants.{Access, Auth, Acct, Coa, Core, Control}
 use Rattle.bng_base.specs.FateOf.{Arrival}
 use Rattle.bng_engine.specs.Calls.{all_sends}
 use Rattle.bng_engine.specs.Histories.{ShardTurn}
@@ -23,14 +23,16 @@ use Rattle.bng_lane.specs.Sends.{LaneSend}
 use Rattle.bng_shard.specs.Protocol.{Handled}
 use Rattle.bng_desk.specs.declared.reading.Ended.{Ended}
 use Rattle.bng_desk.specs.Accounting.{Acknowledged, RecordRequests, record_datagram, record_sends, records_stretch}
+use Rattle.bng_desk.specs.Coa.{CoaReplies, CoaSend, Requested, coa_datagram, coa_sends, coa_stretch}
 use Rattle.bng_desk.specs.Control.{Heeded, reply, is_answered}
 use Rattle.bng_desk.specs.Items.{DataReading}
 use Rattle.bng_desk.specs.Logins.{Answered, Requests, lane_datagram, lane_sends, requests_stretch}
 use Rattle.bng_desk.specs.Model.{Desk}
 use Rattle.bng_desk.specs.Reading.{taken_in}
+use Rattle.bng_desk.specs.Report.{stats_text}
 use Rattle.bng_desk.specs.Round.{Round, not_sent}
-use Rattle.bng_desk.specs.Turn.{Turn, EndTurn, GraceTurn, Step, tunnel_roles, auth_stretch, data_stretch, round_stretch, stretch_of, end_stretch, grace_stretch}
-use Rattle.bng_gate.specs.Rounds.{round_in, end_round_in, rounds_in, turns_of, rounds_of, plant_of, carries_data, on_data, readings_in, readings_of, requests_in, end_requests_in, requests_of, records_in, end_records_in, records_of, is_unsent}
+use Rattle.bng_desk.specs.Turn.{Turn, EndTurn, GraceTurn, Step, tunnel_roles, asked_stretch, auth_stretch, data_stretch, round_stretch, stretch_of, end_stretch, grace_stretch}
+use Rattle.bng_gate.specs.Rounds.{round_in, end_round_in, rounds_in, turns_of, rounds_of, plant_of, carries_data, on_data, readings_in, readings_of, requests_in, end_requests_in, requests_of, records_in, end_records_in, records_of, replies_in, end_replies_in, replies_of, is_unsent, is_lost}
 use Rattle.bng_gate.specs.Serving.{Made, MadeEnd, Late, Ends, Waits, Run, late_stretch, run_stretch, ending_stretch}
 
 on_data_append : (a b : List Datagram) → on_data (a ++ b) ≡ on_data a ++ on_data b
@@ -49,9 +51,9 @@ sends_are (Some round ∷ rounds) =
     ap (λ (os : List OutRecord). os ++ sends_of (flat_map turns_of rounds)) (flat_map-map (λ (t : ShardTurn Handled). t.settlement.sends) turn_in round.shards)
     ∙ ap (λ (os : List OutRecord). all_sends round.shards ++ os) (sends_are rounds)
 
-no_replies : (hs : List Heeded) → on_data (map reply hs) ≡ []
-no_replies [] = refl
-no_replies (h ∷ hs) = no_replies hs
+no_answers : (stats : List ℕ) (hs : List Heeded) → on_data (map (reply stats) hs) ≡ []
+no_answers stats [] = refl
+no_answers stats (h ∷ hs) = no_answers stats hs
 
 none_sent : (readings : List DataReading) → (data_stretch readings).sent ≡ []
 none_sent [] = refl
@@ -61,9 +63,22 @@ round_sent : (round : Option Round) → (round_stretch round).sent ≡ went (sen
 round_sent None = refl
 round_sent (Some round) = refl
 
+none_to_coa : (requested : List Requested) (ended : Option Ended) → (asked_stretch requested ended).sent ≡ []
+none_to_coa requested None = refl
+none_to_coa requested (Some ended) = refl
+
 none_to_auth : (answers : List Answered) (ended : Option Ended) → (auth_stretch answers ended).sent ≡ []
 none_to_auth answers None = refl
 none_to_auth answers (Some ended) = refl
+
+-- a reply to a request for a change goes out on Coa
+one_reply : (to : Peer) (octets : List ℕ) (b : Bool) (ds : List Datagram) → on_data ((if b then record { role = Coa; peer = to; octets = octets } ∷ [] else []) ++ ds) ≡ on_data ds
+one_reply to octets true ds = refl
+one_reply to octets false ds = refl
+
+no_replies : (ss : List CoaSend) → on_data (flat_map coa_datagram ss) ≡ []
+no_replies [] = refl
+no_replies (s ∷ ss) = one_reply s.reply.to s.reply.octets s.sent (flat_map coa_datagram ss) ∙ no_replies ss
 
 -- a request goes out on Auth
 one_request : (server : Peer) (octets : List ℕ) (b : Bool) (ds : List Datagram) → on_data ((if b then record { role = Auth; peer = server; octets = octets } ∷ [] else []) ++ ds) ≡ on_data ds
@@ -83,38 +98,44 @@ no_records : (server : Peer) (ss : List LaneSend) → on_data (flat_map (record_
 no_records server [] = refl
 no_records server (s ∷ ss) = one_record server s.octets s.sent (flat_map (record_datagram server) ss) ∙ no_records server ss
 
--- the requests of a turn, and those of accounting
-abbrev pub requested : Desk → Requests → RecordRequests → List Datagram
-requested d q r = flat_map (lane_datagram d.lane.client.auth_server) (lane_sends q) ++ flat_map (record_datagram d.billing.client.acct_server) (record_sends r)
+-- the replies of a turn to requests for changes, its requests, and those of accounting
+abbrev pub requested : Desk → CoaReplies → Requests → RecordRequests → List Datagram
+requested d c q r = flat_map coa_datagram (coa_sends c) ++ (flat_map (lane_datagram d.lane.client.auth_server) (lane_sends q) ++ flat_map (record_datagram d.billing.client.acct_server) (record_sends r))
 
-beside_requested : (ds : List Datagram) (d : Desk) (q : Requests) (r : RecordRequests) → on_data (ds ++ requested d q r) ≡ on_data ds
-beside_requested ds d q r =
+beside_requested : (ds : List Datagram) (d : Desk) (c : CoaReplies) (q : Requests) (r : RecordRequests) → on_data (ds ++ requested d c q r) ≡ on_data ds
+beside_requested ds d c q r =
+    let replies = flat_map coa_datagram (coa_sends c) in
     let asked = flat_map (lane_datagram d.lane.client.auth_server) (lane_sends q) in
     let records = flat_map (record_datagram d.billing.client.acct_server) (record_sends r) in
-    on_data_append ds (asked ++ records)
+    on_data_append ds (replies ++ (asked ++ records))
+    ∙ ap (λ (rest : List Datagram). on_data ds ++ rest) (on_data_append replies (asked ++ records))
+    ∙ ap (λ (rest : List Datagram). on_data ds ++ (rest ++ on_data (asked ++ records))) (no_replies (coa_sends c))
     ∙ ap (λ (rest : List Datagram). on_data ds ++ rest) (on_data_append asked records)
     ∙ ap (λ (rest : List Datagram). on_data ds ++ (rest ++ on_data records)) (no_requests d.lane.client.auth_server (lane_sends q))
     ∙ ap (λ (rest : List Datagram). on_data ds ++ rest) (no_records d.billing.client.acct_server (record_sends r))
     ∙ append-nil (on_data ds)
 
--- what a turn sends: the answers on Control, what its round had to send, its requests, and those of accounting
-pub turn_out : (d : Desk) (t : Turn) → (stretch_of d (Some t)).plant.sent ≡ map reply (filter is_answered t.control) ++ (went (sends_in t.round) ++ requested d t.requests t.records)
+-- what a turn sends: the answers on Control, what its round had to send, its replies, its requests, and those of accounting
+pub turn_out : (d : Desk) (t : Turn) → (stretch_of d (Some t)).plant.sent ≡ map (reply (stats_text d)) (filter is_answered t.control) ++ (went (sends_in t.round) ++ requested d t.replies t.requests t.records)
 turn_out d t =
-    let replies = map reply (filter is_answered t.control) in
+    let answers = map (reply (stats_text d)) (filter is_answered t.control) in
+    let coa = (asked_stretch t.requested t.coa_end).sent in
     let auth = (auth_stretch t.answers t.auth_end).sent in
     let data' = (data_stretch t.readings).sent in
+    let replies = flat_map coa_datagram (coa_sends t.replies) in
     let asked = flat_map (lane_datagram d.lane.client.auth_server) (lane_sends t.requests) in
     let records = flat_map (record_datagram d.billing.client.acct_server) (record_sends t.records) in
-    let settled = (round_stretch t.round).sent ++ (asked ++ (records ++ [])) in
-    ap (λ (ds : List Datagram). ds ++ (auth ++ (data' ++ settled))) (append-nil replies)
-    ∙ ap (λ (ds : List Datagram). replies ++ (ds ++ (data' ++ settled))) (none_to_auth t.answers t.auth_end)
-    ∙ ap (λ (ds : List Datagram). replies ++ (ds ++ settled)) (none_sent t.readings)
-    ∙ ap (λ (ds : List Datagram). replies ++ (ds ++ (asked ++ (records ++ [])))) (round_sent t.round)
-    ∙ ap (λ (ds : List Datagram). replies ++ (went (sends_in t.round) ++ (asked ++ ds))) (append-nil records)
+    let settled = (round_stretch t.round).sent ++ (replies ++ (asked ++ (records ++ []))) in
+    ap (λ (ds : List Datagram). ds ++ (coa ++ (auth ++ (data' ++ settled)))) (append-nil answers)
+    ∙ ap (λ (ds : List Datagram). answers ++ (ds ++ (auth ++ (data' ++ settled)))) (none_to_coa t.requested t.coa_end)
+    ∙ ap (λ (ds : List Datagram). answers ++ (ds ++ (data' ++ settled))) (none_to_auth t.answers t.auth_end)
+    ∙ ap (λ (ds : List Datagram). answers ++ (ds ++ settled)) (none_sent t.readings)
+    ∙ ap (λ (ds : List Datagram). answers ++ (ds ++ (replies ++ (asked ++ (records ++ []))))) (round_sent t.round)
+    ∙ ap (λ (ds : List Datagram). answers ++ (went (sends_in t.round) ++ (replies ++ (asked ++ ds)))) (append-nil records)
 
 -- and one of the ending
-pub end_out : (d : Desk) (t : EndTurn) → (end_stretch d (Some t)).plant.sent ≡ went (sends_in t.round) ++ requested d t.requests t.records
-end_out d t = ap (λ (ds : List Datagram). ds ++ requested d t.requests t.records) (round_sent t.round)
+pub end_out : (d : Desk) (t : EndTurn) → (end_stretch d (Some t)).plant.sent ≡ went (sends_in t.round) ++ requested d t.replies t.requests t.records
+end_out d t = ap (λ (ds : List Datagram). ds ++ requested d t.replies t.requests t.records) (round_sent t.round)
 
 -- and one of the grace: the requests of accounting alone
 pub grace_out : (d : Desk) (t : GraceTurn) → (grace_stretch d t).plant.sent ≡ flat_map (record_datagram d.billing.client.acct_server) (record_sends t.records)
@@ -123,16 +144,16 @@ grace_out d t = append-nil (flat_map (record_datagram d.billing.client.acct_serv
 turn_sent : (d : Desk) (t : Option Turn) → on_data (stretch_of d t).plant.sent ≡ on_data (went (sends_in (round_in t)))
 turn_sent d None = refl
 turn_sent d (Some t) =
-    let rest = went (sends_in t.round) ++ requested d t.requests t.records in
+    let rest = went (sends_in t.round) ++ requested d t.replies t.requests t.records in
     ap on_data (turn_out d t)
-    ∙ on_data_append (map reply (filter is_answered t.control)) rest
-    ∙ ap (λ (ds : List Datagram). ds ++ on_data rest) (no_replies (filter is_answered t.control))
-    ∙ beside_requested (went (sends_in t.round)) d t.requests t.records
+    ∙ on_data_append (map (reply (stats_text d)) (filter is_answered t.control)) rest
+    ∙ ap (λ (ds : List Datagram). ds ++ on_data rest) (no_answers (stats_text d) (filter is_answered t.control))
+    ∙ beside_requested (went (sends_in t.round)) d t.replies t.requests t.records
 
 end_sent : (d : Desk) (t : Late) → on_data (late_stretch d t).plant.sent ≡ on_data (went (sends_in (end_round_in t)))
 end_sent d (Ends None) = refl
 end_sent d (Waits t) = ap on_data (grace_out d t) ∙ no_records d.billing.client.acct_server (record_sends t.records)
-end_sent d (Ends (Some t)) = ap on_data (end_out d t) ∙ beside_requested (went (sends_in t.round)) d t.requests t.records
+end_sent d (Ends (Some t)) = ap on_data (end_out d t) ∙ beside_requested (went (sends_in t.round)) d t.replies t.requests t.records
 
 turns_sent : (turns : List Made) → on_data (run_stretch turns).plant.sent ≡ on_data (went (flat_map sends_in (map (λ m. round_in m.turn) turns)))
 turns_sent [] = refl
@@ -174,6 +195,12 @@ none_of_role role (a ∷ as') e =
     let d : Datagram = record { role = role; peer = a.from; octets = a.octets } in
     let rest = on_data (taken_in role as') in
     ap (λ (b : Bool). cond b (d ∷ rest) rest) e ∙ none_of_role role as' e
+
+coa_taken : (requested : List Requested) (ended : Option Ended) → on_data (asked_stretch requested ended).taken ≡ []
+coa_taken requested None = refl
+coa_taken requested (Some ended) =
+    let arrivals = map (λ (q : Requested). q.arrival) requested in
+    ap on_data (append-nil (taken_in Coa arrivals)) ∙ none_of_role Coa arrivals refl
 
 auth_taken : (answers : List Answered) (ended : Option Ended) → on_data (auth_stretch answers ended).taken ≡ []
 auth_taken answers None = refl
@@ -218,16 +245,19 @@ turn_taken d d' (Some t) step e =
     let heeded = map (λ (h : Heeded). h.arrival) t.control in
     let acknowledged = map (λ (a : Acknowledged). a.arrival) t.acknowledged in
     let acct = taken_in Acct acknowledged in
+    let coa = (asked_stretch t.requested t.coa_end).taken in
     let auth = (auth_stretch t.answers t.auth_end).taken in
     let rest = (data_stretch t.readings).taken ++ ((round_stretch t.round).taken ++ []) in
-    let later = (acct ++ []) ++ (auth ++ rest) in
+    let later = (acct ++ []) ++ (coa ++ (auth ++ rest)) in
     let roles : AllByRecursion (λ role. carries_data role ≡ true) (map (λ r. r.role) t.readings) = subst (AllByRecursion (λ role. carries_data role ≡ true)) (sym step.0.roles) (roles_data d.rules.serves_tunnels 1 (length d.rules.access)) in
     on_data_append (taken_in Control heeded ++ []) later
     ∙ ap (λ (ds : List Datagram). on_data ds ++ on_data later) (append-nil (taken_in Control heeded))
     ∙ ap (λ (ds : List Datagram). ds ++ on_data later) (none_of_role Control heeded refl)
-    ∙ on_data_append (acct ++ []) (auth ++ rest)
-    ∙ ap (λ (ds : List Datagram). on_data ds ++ on_data (auth ++ rest)) (append-nil acct)
-    ∙ ap (λ (ds : List Datagram). ds ++ on_data (auth ++ rest)) (none_of_role Acct acknowledged refl)
+    ∙ on_data_append (acct ++ []) (coa ++ (auth ++ rest))
+    ∙ ap (λ (ds : List Datagram). on_data ds ++ on_data (coa ++ (auth ++ rest))) (append-nil acct)
+    ∙ ap (λ (ds : List Datagram). ds ++ on_data (coa ++ (auth ++ rest))) (none_of_role Acct acknowledged refl)
+    ∙ on_data_append coa (auth ++ rest)
+    ∙ ap (λ (ds : List Datagram). ds ++ on_data (auth ++ rest)) (coa_taken t.requested t.coa_end)
     ∙ on_data_append auth rest
     ∙ ap (λ (ds : List Datagram). ds ++ on_data rest) (auth_taken t.answers t.auth_end)
     ∙ ap (λ (ds : List Datagram). on_data ((data_stretch t.readings).taken ++ (ds ++ []))) (round_takes t.round)
@@ -275,6 +305,9 @@ unsent_append as' bs = sum_by-append (λ (o : OutRecord). one_if (not_sent o)) a
 requests_append : (as' bs : List LaneSend) → count_by is_unsent (as' ++ bs) ≡ count_by is_unsent as' + count_by is_unsent bs
 requests_append as' bs = sum_by-append (λ (s : LaneSend). one_if (is_unsent s)) as' bs
 
+replies_append : (as' bs : List CoaSend) → count_by is_lost (as' ++ bs) ≡ count_by is_lost as' + count_by is_lost bs
+replies_append as' bs = sum_by-append (λ (s : CoaSend). one_if (is_lost s)) as' bs
+
 round_failed : (round : Option Round) → (round_stretch round).failed ≡ count_by not_sent (sends_in round)
 round_failed None = refl
 round_failed (Some round) = refl
@@ -285,14 +318,17 @@ requests_failed server q = refl
 records_failed : (server : Peer) (r : RecordRequests) → (records_stretch server r).failed ≡ count_by is_unsent (record_sends r)
 records_failed server r = refl
 
-turn_failed : (d : Desk) (t : Option Turn) → count_by not_sent (sends_in (round_in t)) + count_by is_unsent (requests_in t) + count_by is_unsent (records_in t) ≤ (stretch_of d t).plant.failed
-turn_failed d None = omega arith
-turn_failed d (Some t) = omega (arith, round_failed t.round, requests_failed d.lane.client.auth_server t.requests, records_failed d.billing.client.acct_server t.records)
+replies_failed : (q : CoaReplies) → (coa_stretch (coa_sends q)).failed ≡ count_by is_lost (coa_sends q)
+replies_failed q = refl
 
-end_failed : (d : Desk) (t : Late) → count_by not_sent (sends_in (end_round_in t)) + count_by is_unsent (end_requests_in t) + count_by is_unsent (end_records_in t) ≤ (late_stretch d t).plant.failed
+turn_failed : (d : Desk) (t : Option Turn) → count_by not_sent (sends_in (round_in t)) + count_by is_unsent (requests_in t) + count_by is_unsent (records_in t) + count_by is_lost (replies_in t) ≤ (stretch_of d t).plant.failed
+turn_failed d None = omega arith
+turn_failed d (Some t) = omega (arith, round_failed t.round, replies_failed t.replies, requests_failed d.lane.client.auth_server t.requests, records_failed d.billing.client.acct_server t.records)
+
+end_failed : (d : Desk) (t : Late) → count_by not_sent (sends_in (end_round_in t)) + count_by is_unsent (end_requests_in t) + count_by is_unsent (end_records_in t) + count_by is_lost (end_replies_in t) ≤ (late_stretch d t).plant.failed
 end_failed d (Ends None) = omega arith
 end_failed d (Waits t) = omega (arith, records_failed d.billing.client.acct_server t.records)
-end_failed d (Ends (Some t)) = omega (arith, round_failed t.round, requests_failed d.lane.client.auth_server t.requests, records_failed d.billing.client.acct_server t.records)
+end_failed d (Ends (Some t)) = omega (arith, round_failed t.round, replies_failed t.replies, requests_failed d.lane.client.auth_server t.requests, records_failed d.billing.client.acct_server t.records)
 
 abbrev of_serving : List Made → List LaneSend
 of_serving turns = flat_map (λ m. requests_in m.turn) turns
@@ -306,7 +342,13 @@ billed_serving turns = flat_map (λ m. records_in m.turn) turns
 abbrev billed_ending : List MadeEnd → List LaneSend
 billed_ending endings = flat_map (λ m. end_records_in m.turn) endings
 
-turns_failed : (turns : List Made) → count_by not_sent (flat_map sends_in (map (λ m. round_in m.turn) turns)) + count_by is_unsent (of_serving turns) + count_by is_unsent (billed_serving turns) ≤ (run_stretch turns).plant.failed
+abbrev replied_serving : List Made → List CoaSend
+replied_serving turns = flat_map (λ m. replies_in m.turn) turns
+
+abbrev replied_ending : List MadeEnd → List CoaSend
+replied_ending endings = flat_map (λ m. end_replies_in m.turn) endings
+
+turns_failed : (turns : List Made) → count_by not_sent (flat_map sends_in (map (λ m. round_in m.turn) turns)) + count_by is_unsent (of_serving turns) + count_by is_unsent (billed_serving turns) + count_by is_lost (replied_serving turns) ≤ (run_stretch turns).plant.failed
 turns_failed [] = omega arith
 turns_failed (m ∷ turns) =
     omega (
@@ -314,11 +356,12 @@ turns_failed (m ∷ turns) =
       unsent_append (sends_in (round_in m.turn)) (flat_map sends_in (map (λ (x : Made). round_in x.turn) turns)),
       requests_append (requests_in m.turn) (of_serving turns),
       requests_append (records_in m.turn) (billed_serving turns),
+      replies_append (replies_in m.turn) (replied_serving turns),
       turn_failed m.desk m.turn,
       turns_failed turns,
     )
 
-endings_failed : (endings : List MadeEnd) → count_by not_sent (flat_map sends_in (map (λ m. end_round_in m.turn) endings)) + count_by is_unsent (of_ending endings) + count_by is_unsent (billed_ending endings) ≤ (ending_stretch endings).plant.failed
+endings_failed : (endings : List MadeEnd) → count_by not_sent (flat_map sends_in (map (λ m. end_round_in m.turn) endings)) + count_by is_unsent (of_ending endings) + count_by is_unsent (billed_ending endings) + count_by is_lost (replied_ending endings) ≤ (ending_stretch endings).plant.failed
 endings_failed [] = omega arith
 endings_failed (m ∷ endings) =
     omega (
@@ -326,12 +369,13 @@ endings_failed (m ∷ endings) =
       unsent_append (sends_in (end_round_in m.turn)) (flat_map sends_in (map (λ (x : MadeEnd). end_round_in x.turn) endings)),
       requests_append (end_requests_in m.turn) (of_ending endings),
       requests_append (end_records_in m.turn) (billed_ending endings),
+      replies_append (end_replies_in m.turn) (replied_ending endings),
       end_failed m.desk m.turn,
       endings_failed endings,
     )
 
--- no more of what the rounds had to send, of the requests and of those of accounting was not sent than failed
-pub unsent_failed : (turns : List Made) (endings : List MadeEnd) → count_by not_sent (sends_of (rounds_of turns endings)) + count_by is_unsent (requests_of turns endings) + count_by is_unsent (records_of turns endings) ≤ (plant_of turns endings).failed
+-- no more of what the rounds had to send, of the replies, of the requests and of those of accounting was not sent than failed
+pub unsent_failed : (turns : List Made) (endings : List MadeEnd) → count_by not_sent (sends_of (rounds_of turns endings)) + count_by is_unsent (requests_of turns endings) + count_by is_unsent (records_of turns endings) + count_by is_lost (replies_of turns endings) ≤ (plant_of turns endings).failed
 unsent_failed turns endings =
     let serving = map (λ (m : Made). round_in m.turn) turns in
     let ending = map (λ (m : MadeEnd). end_round_in m.turn) endings in
@@ -341,6 +385,7 @@ unsent_failed turns endings =
       unsent_append (flat_map sends_in serving) (flat_map sends_in ending),
       requests_append (of_serving turns) (of_ending endings),
       requests_append (billed_serving turns) (billed_ending endings),
+      replies_append (replied_serving turns) (replied_ending endings),
       turns_failed turns,
       endings_failed endings,
     )

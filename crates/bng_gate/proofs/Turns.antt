@@ -42,15 +42,15 @@ kept_stopped d items (Some round) = refl
 -- a step of serving counts one turn, and stops the desk where it took `stop`
 step_rounds : (d d' : Desk) (t : Option Turn) → Step d t d' → d'.rounds ≡ d.rounds
 step_rounds d d' None step = ap (λ (u : Desk). u.rounds) step
-step_rounds d d' (Some t) step = ap (λ (u : Desk). u.rounds) step.4 ∙ kept_rounds d (items_of d t) t.round
+step_rounds d d' (Some t) step = ap (λ (u : Desk). u.rounds) step.5 ∙ kept_rounds d (items_of d t) t.round
 
 pub step_turns : (d d' : Desk) (t : Option Turn) → Step d t d' → d'.turns ≡ d.turns + 1
 step_turns d d' None step = ap (λ (u : Desk). u.turns) step
-step_turns d d' (Some t) step = ap (λ (u : Desk). u.turns) step.4
+step_turns d d' (Some t) step = ap (λ (u : Desk). u.turns) step.5
 
 step_stopped : (d d' : Desk) (t : Option Turn) → Step d t d' → d'.stopped ≡ (d.stopped || took t)
 step_stopped d d' None step = ap (λ (u : Desk). u.stopped) step ∙ sym (or_false d.stopped)
-step_stopped d d' (Some t) step = ap (λ (u : Desk). u.stopped) step.4
+step_stopped d d' (Some t) step = ap (λ (u : Desk). u.stopped) step.5
 
 pub run_rounds : (d d' : Desk) (turns : List Made) → Run d turns d' → d'.rounds ≡ d.rounds
 run_rounds d d' [] run = ap (λ (u : Desk). u.rounds) run
@@ -109,14 +109,14 @@ stays_over d d' (Ends None) step = ap is_over step
 stays_over d d' (Waits t) step = ap is_over step.after
 stays_over d d' (Ends (Some t)) step =
     end_over d d'
-    (ap (λ (u : Desk). u.stopped) step.4 ∙ kept_stopped d (ending_items d) t.round)
-    (ap (λ (u : Desk). u.turns) step.4 ∙ kept_turns d (ending_items d) t.round)
-    (ap (λ (u : Desk). u.rounds) step.4 ∙ kept_rounds d (ending_items d) t.round)
+    (ap (λ (u : Desk). u.stopped) step.5 ∙ kept_stopped d (ending_items d) t.round)
+    (ap (λ (u : Desk). u.turns) step.5 ∙ kept_turns d (ending_items d) t.round)
+    (ap (λ (u : Desk). u.rounds) step.5 ∙ kept_rounds d (ending_items d) t.round)
 
 -- the desk counts the turns of its ending and of its grace
 step_late : (d d' : Desk) (t : Late) → LateStep d t d' → d'.endings + d'.graces ≡ d.endings + d.graces + 1
 step_late d d' (Ends None) step = omega (arith, ap (λ (u : Desk). u.endings) step, ap (λ (u : Desk). u.graces) step)
-step_late d d' (Ends (Some t)) step = omega (arith, ap (λ (u : Desk). u.endings) step.4, ap (λ (u : Desk). u.graces) step.4, kept_graces d (ending_items d) t.round)
+step_late d d' (Ends (Some t)) step = omega (arith, ap (λ (u : Desk). u.endings) step.5, ap (λ (u : Desk). u.graces) step.5, kept_graces d (ending_items d) t.round)
 step_late d d' (Waits t) step = omega (arith, ap (λ (u : Desk). u.endings) step.after, ap (λ (u : Desk). u.graces) step.after)
 
 pub late_made : (d d' : Desk) (endings : List MadeEnd) → EndRun d endings d' → d'.endings + d'.graces ≡ d.endings + d.graces + length endings

@@ -6,6 +6,7 @@ use Rattle.std.proofs.lemmas.List.Elements.{All-append, All-nil, All-weaker}
 use Rattle.bng_base.specs.declared.item.Item.{Item}
 use Rattle.bng_shard.specs.Granting.{GivesYes}
 use Rattle.bng_shard.specs.Protocol.{ShardState, Handled}
+use Rattle.bng_desk.specs.Coa.{change_items}
 use Rattle.bng_desk.specs.Items.{drawn_from, ends_of, kept_of, taken_items, ticks_of}
 use Rattle.bng_desk.specs.Logins.{reply_items, timeout_items}
 use Rattle.bng_desk.specs.Model.{Desk}
@@ -16,7 +17,7 @@ use Rattle.bng_gate.specs.Granted.{Held, HandledIn, held_of, round_of_turn, roun
 use Rattle.bng_gate.specs.Serving.{Made, MadeEnd, Late, Ends, Waits, LateStep, Goes, GoesEnding, Run, EndRun}
 use Rattle.bng_gate.proofs.Entries.{entry_holds}
 use Rattle.bng_gate.proofs.Places.{InFirst, InSecond, link_at, chain_end, in_both}
-use Rattle.bng_gate.proofs.YesItems.{HasCause, WasTaken, question_no, later_cause, drawn_caused, ends_caused, kept_caused, replies_caused, taken_caused, ticks_caused, timeout_caused, readings_else}
+use Rattle.bng_gate.proofs.YesItems.{HasCause, WasTaken, question_no, later_cause, changes_caused, drawn_caused, ends_caused, kept_caused, replies_caused, taken_caused, ticks_caused, timeout_caused, readings_else}
 
 -- what stays for the next turn
 pub kept_after : (P : Item → Type 0) (d : Desk) (items : List Item) (round : Option Round) → All P (kept_of items) → All P (after_round d items round).kept
@@ -39,18 +40,19 @@ module _ (turns : List Made) where
       let P = Caused (k + 1) in
       All-append P d.kept (drawn_from d.seed d.drawn (new_items d t)) (later k d.kept kept)
       (drawn_all P (drawn_caused turns (k + 1)) d.seed d.drawn (new_items d t)
+      (All-append P (change_items t.requested) (reply_items t.answers ++ taken_items t.readings ++ timeout_items t.timed ++ ticks_of t.moment d.shards) (changes_caused turns (k + 1) t.requested)
       (All-append P (reply_items t.answers ++ taken_items t.readings ++ timeout_items t.timed) (ticks_of t.moment d.shards)
       (All-append P (reply_items t.answers ++ taken_items t.readings) (timeout_items t.timed)
       (All-append P (reply_items t.answers) (taken_items t.readings)
       (replies_caused turns k (record { desk = d; turn = Some t }) at)
       (taken_caused turns (k + 1) t.readings (readings_else d t reading.roles)))
       (timeout_caused turns (k + 1) t.timed))
-      (ticks_caused turns (k + 1) d t.moment)))
+      (ticks_caused turns (k + 1) d t.moment))))
 
   step_keeps : (k : ℕ) (d d' : Desk) (t : Option Turn) → slice_get turns k ≡ Some (record { desk = d; turn = t }) → Step d t d' → AreCaused k d → AreCaused (k + 1) d'
   step_keeps k d d' None at step kept = subst (All (Caused (k + 1))) (sym (ap (λ (x : Desk). x.kept) step)) (later k d.kept kept)
   step_keeps k d d' (Some t) at step kept =
-      subst (All (Caused (k + 1))) (sym (ap (λ (x : Desk). x.kept) step.4))
+      subst (All (Caused (k + 1))) (sym (ap (λ (x : Desk). x.kept) step.5))
       (kept_after (Caused (k + 1)) d (items_of d t) t.round (kept_caused turns (k + 1) (items_of d t) (items_caused k d t at step.0 kept)))
 
   go_keeps : (k : ℕ) (d d' : Desk) (m : Made) → slice_get turns k ≡ Some m → Goes d m d' → AreCaused k d → AreCaused (k + 1) d'
@@ -69,7 +71,7 @@ module _ (turns : List Made) where
   end_keeps k d d' (Ends None) step kept = subst (All (Caused k)) (sym (ap (λ (x : Desk). x.kept) step)) kept
   end_keeps k d d' (Waits t) step kept = subst (All (Caused k)) (sym (ap (λ (x : Desk). x.kept) step.after)) kept
   end_keeps k d d' (Ends (Some t)) step kept =
-      subst (All (Caused k)) (sym (ap (λ (x : Desk). x.kept) step.4))
+      subst (All (Caused k)) (sym (ap (λ (x : Desk). x.kept) step.5))
       (kept_after (Caused k) d (ending_items d) t.round (kept_caused turns k (ending_items d) (ending_caused k d kept)))
 
   -- The entry of a round is one of its items.

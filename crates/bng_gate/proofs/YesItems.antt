@@ -2,14 +2,17 @@
 use Rattle.std.proofs.Common.{◌≡◌, ℕ, ◌+◌, ◌<◌, ◌≤◌, Bool, true, false, List, [], ◌∷◌, ◌++◌, Option, Some, None, map, length, slice_get, refl, sym, ap, subst, ◌∙◌, arith}
 use Rattle.std.specs.List.{All, AllByRecursion, range_with_len}
 use Rattle.std.proofs.lemmas.Bool.{true≢false}
-use Rattle.std.proofs.lemmas.List.Elements.{All-append, All-filter, All-from_recursion, All-map, All-nil}
+use Rattle.std.proofs.lemmas.List.Elements.{All-append, All-cons, All-filter, All-from_recursion, All-map, All-nil}
 use Rattle.bng_base.specs.declared.item.Item.{Item}
 use Rattle.bng_base.specs.declared.item.ItemKind.TheVariants as kind
 use Rattle.bng_base.specs.declared.outside.Role.{Role}
 use Rattle.bng_base.specs.declared.outside.Role.TheVariants.{Access, Core}
+use Rattle.bng_coa.specs.declared.rules.Admitted.{Admitted}
+use Rattle.bng_coa.specs.declared.rules.Admitted.TheVariants.{New, Repeat, InHand, Ignored}
 use Rattle.bng_radius_wire.specs.Grammar.{Packet, IsRadius}
 use Rattle.bng_verdict.specs.declared.question.QuestionNo.{QuestionNo}
 use Rattle.bng_verdict.specs.Verdicts.{Saying, IsVerdict, Silent, Replied, NoReply, silence as silent}
+use Rattle.bng_desk.specs.Coa.{Requested, change_in, change_item, change_items}
 use Rattle.bng_desk.specs.Items.{DataReading, arrived, ends_of, for_shard, kept_of, kind_of, stays, taken_items, ticks_of}
 use Rattle.bng_desk.specs.Logins.{Answered, reply_in, reply_items, silence, timeout_items, verdict_item}
 use Rattle.bng_desk.specs.Model.{Desk}
@@ -86,6 +89,16 @@ module _ (turns : List Made) (k : ℕ) where
 
   pub drawn_caused : (i : Item) (octets : List ℕ) → Caused i → Caused (record i { random = octets })
   drawn_caused i octets h session ask tells = h session ask (record { kind = tells.kind; target = tells.target; number = tells.number; verdict = tells.verdict; says = tells.says; yes = tells.yes })
+
+  pub changes_caused : (requested : List Requested) → All Caused (change_items requested)
+  changes_caused [] = All-nil Caused
+  changes_caused (q ∷ requested) = All-append Caused (change_in q.arrival q.admitted q.target) (change_items requested) (one q.admitted) (changes_caused requested)
+    where
+      one : (admitted : Admitted) → All Caused (change_in q.arrival admitted q.target)
+      one (New number) = All-cons Caused (change_item q.arrival number q.target) [] (other_kind (change_item q.arrival number q.target) (λ e. absurd cc)) (All-nil Caused)
+      one (Repeat frame) = All-nil Caused
+      one InHand = All-nil Caused
+      one (Ignored cause) = All-nil Caused
 
   pub timeout_caused : (timed : List QuestionNo) → All Caused (timeout_items timed)
   timeout_caused timed = All-map Caused (verdict_item silence) timed (λ n d lt session ask tells. absurd (no_yes tells.verdict tells.says tells.yes))

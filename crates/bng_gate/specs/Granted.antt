@@ -7,7 +7,7 @@ use Rattle.bng_base.specs.declared.circuit.Circuit.TheVariants.{Pppoe}
 use Rattle.bng_base.specs.declared.address.Mac.{Mac}
 use Rattle.bng_base.specs.declared.item.OutRecord.{OutRecord}
 use Rattle.bng_base.specs.declared.outside.Datagram.{Datagram}
-use Rattle.bng_base.specs.declared.outside.Role.TheVariants.{Access, Auth, Acct}
+use Rattle.bng_base.specs.declared.outside.Role.TheVariants.{Access, Auth, Acct, Coa}
 use Rattle.bng_base.specs.FateOf.{Arrival}
 use Rattle.bng_base.specs.PppoeGrammar.{PppoeFrame}
 use Rattle.bng_config.specs.declared.config.Config.{Config}
@@ -35,6 +35,7 @@ use Rattle.bng_shard.specs.Tenures.{Tenure}
 use Rattle.bng_verdict.specs.declared.question.AuthAsk.{AuthAsk}
 use Rattle.bng_verdict.specs.Verdicts.{Saying, IsVerdict}
 use Rattle.bng_desk.specs.Accounting.{record_datagram, record_sends}
+use Rattle.bng_desk.specs.Coa.{coa_datagram, coa_sends}
 use Rattle.bng_desk.specs.Logins.{lane_datagram, lane_sends}
 use Rattle.bng_desk.specs.Model.{Desk}
 use Rattle.bng_desk.specs.Opening.{lane_rules}
@@ -44,21 +45,24 @@ use Rattle.bng_desk.specs.Round.{Round, starts_of}
 use Rattle.bng_desk.specs.Turn.{Turn}
 use Rattle.bng_gate.specs.Serving.{Made, MadeEnd, Late, Ends, Waits}
 
--- Of a turn, in their order: the datagrams that it took from Acct, those that it took from Auth, those that it took from the end for
--- tunnels, the access ports and the core, the datagrams of its round that were sent, the questions that it asked after them, each with the octets of its
+-- Of a turn, in their order: the datagrams that it took from Acct, those that it took from Coa, those that it took from Auth, those that it
+-- took from the end for tunnels, the access ports and the core, the datagrams of its round that were sent, the replies to requests for
+-- changes that were sent, the questions that it asked after them, each with the octets of its
 -- Access-Request, the requests that were sent: those that were sent again, and then those of these questions; and the
 -- Accounting-Requests that were sent: those that were sent again, and then those of the records that waited.
 pub record Stage : Type 0 where
   pub acknowledged : List Datagram
+  pub requested : List Datagram
   pub heard : List Datagram
   pub taken : List Datagram
   pub sent : List Datagram
+  pub replies : List Datagram
   pub asked : List LaneAsk
   pub requests : List Datagram
   pub records : List Datagram
 
 abbrev pub nothing : Stage
-nothing = record { acknowledged = []; heard = []; taken = []; sent = []; asked = []; requests = []; records = [] }
+nothing = record { acknowledged = []; requested = []; heard = []; taken = []; sent = []; replies = []; asked = []; requests = []; records = [] }
 
 -- what a round sent
 abbrev pub sent_by : Option Round → List Datagram
@@ -69,9 +73,11 @@ abbrev pub stage_in : Desk → Option Turn → Stage
 stage_in d None = nothing
 stage_in d (Some t) = record {
   acknowledged = taken_in Acct (map (λ a. a.arrival) t.acknowledged);
+  requested = taken_in Coa (map (λ q. q.arrival) t.requested);
   heard = taken_in Auth (map (λ a. a.arrival) t.answers);
   taken = flat_map (λ r. taken_in r.role r.arrivals) t.readings;
   sent = sent_by t.round;
+  replies = flat_map coa_datagram (coa_sends t.replies);
   asked = t.requests.asked;
   requests = flat_map (lane_datagram d.lane.client.auth_server) (lane_sends t.requests);
   records = flat_map (record_datagram d.billing.client.acct_server) (record_sends t.records);
@@ -82,18 +88,22 @@ abbrev pub end_stage_in : Desk → Late → Stage
 end_stage_in d (Ends None) = nothing
 end_stage_in d (Ends (Some t)) = record {
   acknowledged = [];
+  requested = [];
   heard = [];
   taken = [];
   sent = sent_by t.round;
+  replies = flat_map coa_datagram (coa_sends t.replies);
   asked = t.requests.asked;
   requests = flat_map (lane_datagram d.lane.client.auth_server) (lane_sends t.requests);
   records = flat_map (record_datagram d.billing.client.acct_server) (record_sends t.records);
 }
 end_stage_in d (Waits t) = record {
   acknowledged = taken_in Acct (map (λ a. a.arrival) t.acknowledged);
+  requested = [];
   heard = [];
   taken = [];
   sent = [];
+  replies = [];
   asked = [];
   requests = [];
   records = flat_map (record_datagram d.billing.client.acct_server) (record_sends t.records);

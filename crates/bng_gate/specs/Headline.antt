@@ -35,8 +35,7 @@ use Rattle.bng_engine.specs.Wire.{is_input, is_from, is_output, is_to, is_on, is
 use Rattle.bng_l2tp_tunnel.specs.Sound.{IsSpelled}
 use Rattle.bng_shard.specs.declared.sums.Traffic.{Traffic}
 use Rattle.bng_shard.specs.Protocol.{Handled, ShardState, terms_of, terms_of_circuits, pppoe}
-use Rattle.bng_shard.specs.Lasting.{IsCause}
-use Rattle.bng_shard.specs.Link.{nas_request}
+use Rattle.bng_shard.specs.Lasting.{IsCause, IsCircuitCause}
 use Rattle.bng_shard.specs.Reader.{is_session_data, is_tunnel, pppoe_reader, tells_pppoe}
 use Rattle.bng_desk.specs.Counting.{by_number}
 use Rattle.bng_desk.specs.Model.{traffic_by}
@@ -44,11 +43,12 @@ use Rattle.bng_desk.specs.Opening.{line_of, statics_of}
 use Rattle.bng_desk.specs.Reading.{taken_in}
 use Rattle.bng_desk.specs.Report.{report_text}
 use Rattle.bng_desk.specs.Round.{not_sent, view_of}
+use Rattle.bng_gate.specs.Changed.{Changed}
 use Rattle.bng_gate.specs.Granted.{Granted, stages_of}
 use Rattle.bng_gate.specs.Recorded.{Recorded, calls_of}
 use Rattle.bng_gate.specs.Replied.{AreReplied}
 use Rattle.bng_gate.specs.Reported.{ReportsLive}
-use Rattle.bng_gate.specs.Rounds.{rounds_of, history_of, plant_of, on_auth, on_data, on_acct, beside_control, readings_of, requests_of, records_of, is_unsent, drops_of_run}
+use Rattle.bng_gate.specs.Rounds.{rounds_of, history_of, plant_of, on_auth, on_data, on_acct, on_coa, beside_control, readings_of, requests_of, records_of, replies_of, is_unsent, is_lost, drops_of_run}
 use Rattle.bng_gate.specs.Run.{World, outside, Prepares, Course, Runs}
 use Rattle.bng_gate.specs.Unanswered.{NamesStops}
 use Rattle.bng_gate.specs.Unchanged.{NothingIsInvented}
@@ -204,12 +204,13 @@ pub record IsSafe (config : Config) (seed : List ℕ) (old new : World) (course 
   pub history : History ShardState
   pub rounds : Chain (RightRound pppoe) (history_of course.opening) (rounds_of course.turns course.endings) history
   -- The terms are those that the circuits have from the opening on, and those of which a Start was formed: each has one Stop, or is live in
-  -- the end, and there is no other. The Stop of a circuit's term says that the gateway stopped, and each Stop has one of the causes that
-  -- there are: User Request, Lost Carrier, Idle Timeout, Session Timeout, NAS Request (RFC 2866 section 5.10). For each circuit, address and
+  -- the end, and there is no other. The Stop of a circuit's term says that one of its timeouts was over, that a Disconnect-Request ended it, or
+  -- that the gateway stopped, and each Stop has one of the causes that there are: User Request, Lost Carrier, Idle Timeout, Session Timeout,
+  -- Admin Reset, NAS Request (RFC 2866 section 5.10). For each circuit, address and
   -- direction what was sent is what the Stops and the live terms say, in octets and in packets; and the books of the profiles, the tallies
   -- of the seats and what the terms carried have one total, all that was sent.
   pub terms : AllZip HaveTerms history.shards (terms_of_run config (rounds_of course.turns course.endings))
-  pub causes : All (λ s. IsOfCircuit config s.key → s.cause ≡ nas_request) (stops_of (rounds_of course.turns course.endings))
+  pub causes : All (λ s. IsOfCircuit config s.key → IsCircuitCause s.cause) (stops_of (rounds_of course.turns course.endings))
   pub causes_known : All (λ s. IsCause s.cause) (stops_of (rounds_of course.turns course.endings))
   pub conserved : ConservedAt pppoe history.shards
   pub balanced : Balanced (view_of course.last.shards course.last.pool course.last.tallies) history
@@ -224,13 +225,14 @@ pub record IsSafe (config : Config) (seed : List ℕ) (old new : World) (course 
   -- And so it is of each turn by itself: what its round sent comes of what the same turn took, and of nothing that was taken later.
   pub stages_invented_nothing : All (λ s. NothingIsInvented config s.taken s.sent) (stages_of course.turns course.endings)
   -- What was taken from Auth, each datagram once and in order, are the datagrams that the stages of the turns heard, and so what was taken
-  -- from Acct, and what was taken from the access ports, the core and the end for tunnels, those that they took there. What was sent on all roles but
-  -- Control, each datagram once and in order, is what each stage sent there for its round, then its requests, and then its
-  -- Accounting-Requests.
+  -- from Acct, from Coa, and from the access ports, the core and the end for tunnels, those that they took there. What was sent on all roles but
+  -- Control, each datagram once and in order, is what each stage sent there for its round, then its replies to requests for changes, then its
+  -- requests, and then its Accounting-Requests.
   pub stages_heard : on_auth taken ≡ flat_map (λ s. s.heard) (stages_of course.turns course.endings)
   pub stages_acknowledged : on_acct taken ≡ flat_map (λ s. s.acknowledged) (stages_of course.turns course.endings)
+  pub stages_requested : on_coa taken ≡ flat_map (λ s. s.requested) (stages_of course.turns course.endings)
   pub stages_taken : on_data taken ≡ flat_map (λ s. s.taken) (stages_of course.turns course.endings)
-  pub stages_sent : beside_control sent ≡ beside_control (flat_map (λ s. s.sent ++ (s.requests ++ s.records)) (stages_of course.turns course.endings))
+  pub stages_sent : beside_control sent ≡ beside_control (flat_map (λ s. s.sent ++ (s.replies ++ (s.requests ++ s.records))) (stages_of course.turns course.endings))
   -- Each of the datagrams of Auth that was taken for the reply to a question comes from the configured server and is signed for the
   -- request of that question, which was open and asked in an earlier turn, and whose request was sent since.
   pub replied : AreReplied config seed course.turns
@@ -247,9 +249,13 @@ pub record IsSafe (config : Config) (seed : List ℕ) (old new : World) (course 
   -- Each Interim that a round formed is that of a term that the round left live, and its octets and packets are those of exactly what had
   -- been sent for that term by then.
   pub interims : Chain ReportsLive (history_of course.opening) (zip (rounds_of course.turns course.endings) recorded.interims) history
-  -- Of what the rounds had to send, the requests of the turns and their Accounting-Requests, no more was not sent than the plant's count
-  -- rose, unless that stands at its end.
-  pub unsent : HasCauses old.plant.faults new.plant.faults (count_by not_sent (sends_of (rounds_of course.turns course.endings)) + count_by is_unsent (requests_of course.turns course.endings) + count_by is_unsent (records_of course.turns course.endings))
+  -- What was sent on Coa are the replies to requests for changes of sessions (RFC 5176) that were taken there and admitted. Each says what
+  -- the shard of the request said of it, in the state in which it was handled, or, where it led to no shard, for which fault it was
+  -- refused, and no session at the last; a request that comes again within 30 s is answered by the same octets.
+  pub changed : Changed config course.turns course.endings course.last taken sent
+  -- Of what the rounds had to send, the replies to requests for changes, the requests of the turns and their Accounting-Requests, no more was
+  -- not sent than the plant's count rose, unless that stands at its end.
+  pub unsent : HasCauses old.plant.faults new.plant.faults (count_by not_sent (sends_of (rounds_of course.turns course.endings)) + count_by is_unsent (requests_of course.turns course.endings) + count_by is_unsent (records_of course.turns course.endings) + count_by is_lost (replies_of course.turns course.endings))
 
 -- the calls of accounting in a run
 abbrev pub calls_in_run : (config : Config) (seed : List ℕ) (old new : World) → Course config seed (outside old) (outside new) → List BillingCall

@@ -10,4 +10,5 @@ pub mod Run
 pub mod Rounds
 pub mod Recorded
 pub mod Unchanged
+pub mod Changed
 pub mod Headline

@@ -18,6 +18,7 @@ use Rattle.bng_desk.specs.Counting.{no_drops, plus}
 use Rattle.bng_desk.specs.Model.{Desk}
 use Rattle.bng_desk.specs.Items.{DataReading}
 use Rattle.bng_desk.specs.Accounting.{record_sends}
+use Rattle.bng_desk.specs.Coa.{CoaSend, coa_sends}
 use Rattle.bng_desk.specs.Logins.{lane_sends}
 use Rattle.bng_desk.specs.Round.{Round, view_of, drops_in, refused_of, with_refused}
 use Rattle.bng_desk.specs.Turn.{Turn, items_of, ending_items}
@@ -88,6 +89,19 @@ is_acct Control = false
 abbrev pub on_acct : List Datagram → List Datagram
 on_acct ds = filter (λ d. is_acct d.role) ds
 
+abbrev pub is_coa : Role → Bool
+is_coa (Access number) = false
+is_coa Core = false
+is_coa Tunnel = false
+is_coa Auth = false
+is_coa Acct = false
+is_coa Coa = true
+is_coa Control = false
+
+-- those of Coa
+abbrev pub on_coa : List Datagram → List Datagram
+on_coa ds = filter (λ d. is_coa d.role) ds
+
 abbrev pub is_control : Role → Bool
 is_control (Access number) = false
 is_control Core = false
@@ -140,6 +154,24 @@ records_of turns endings = flat_map (λ m. records_in m.turn) turns ++ flat_map 
 -- a request that the plant did not take
 abbrev pub is_unsent : LaneSend → Bool
 is_unsent s = not s.sent
+
+-- the replies of a turn to requests for changes, with the answers to their sends
+abbrev pub replies_in : Option Turn → List CoaSend
+replies_in None = []
+replies_in (Some t) = coa_sends t.replies
+
+abbrev pub end_replies_in : Late → List CoaSend
+end_replies_in (Ends None) = []
+end_replies_in (Ends (Some t)) = coa_sends t.replies
+end_replies_in (Waits t) = []
+
+-- those of all turns
+abbrev pub replies_of : List Made → List MadeEnd → List CoaSend
+replies_of turns endings = flat_map (λ m. replies_in m.turn) turns ++ flat_map (λ m. end_replies_in m.turn) endings
+
+-- a reply that the plant did not take
+abbrev pub is_lost : CoaSend → Bool
+is_lost s = not s.sent
 
 -- what a round drops: by the fates of its items and the packets whose own send failed, or all items of the outside, where it
 -- was not opened

@@ -2,13 +2,15 @@
 use Rattle.std.specs.Prelude.{◌≡◌, ℕ, ◌+◌, ◌-◌, ◌^◌, ◌≤◌, ◌<◌, ◌⊎◌, false, List, [], ◌∷◌, ◌++◌, Option, Some, None, IsSome, take, length, map}
 use Rattle.std.specs.List.{list_any}
 use Rattle.bng_base.specs.declared.address.Peer.{Peer}
-use Rattle.bng_base.specs.declared.outside.Role.TheVariants.{Access, Auth, Acct, Core, Control, Tunnel}
+use Rattle.bng_base.specs.declared.outside.Role.{Role}
+use Rattle.bng_base.specs.declared.outside.Role.TheVariants.{Access, Auth, Acct, Core, Control, Tunnel, Coa}
 use Rattle.bng_base.specs.declared.outside.ClockAnswer.TheVariants.{Now, Wall}
 use Rattle.bng_base.specs.declared.outside.Bind.{Bind}
 use Rattle.bng_base.specs.Causes.{Rose}
 use Rattle.bng_base.specs.Told.{PlantTold, ClockTold, EntropyTold, FilesTold, TraceTold, SinkTold, Grows, GrowsIfTold}
 use Rattle.bng_base.specs.Stretch.{Outside, joined, Extends}
 use Rattle.bng_base.specs.declared.settings.AccessPort.{AccessPort}
+use Rattle.bng_base.specs.declared.settings.CoaPart.{CoaPart}
 use Rattle.bng_config.specs.declared.config.Config.{Config}
 use Rattle.bng_config.specs.declared.fault.Fault.{Fault}
 use Rattle.bng_config.specs.Configuration.{IsRead, HasFault}
@@ -17,7 +19,7 @@ use Rattle.bng_desk.specs.Model.{Desk, state_of, all_carried, by_profile, sums_o
 use Rattle.bng_desk.specs.Opening.{IsOpened}
 use Rattle.bng_desk.specs.Report.{report_text}
 use Rattle.bng_gate.specs.declared.texts.Opening.{Opening}
-use Rattle.bng_gate.specs.declared.texts.Opening.TheVariants.{Configuration, Seed, Control as ControlOpening, Core as CoreOpening, Access as AccessOpening, Auth as AuthOpening, Acct as AcctOpening, Tunnel as TunnelOpening}
+use Rattle.bng_gate.specs.declared.texts.Opening.TheVariants.{Configuration, Seed, Control as ControlOpening, Core as CoreOpening, Access as AccessOpening, Auth as AuthOpening, Acct as AcctOpening, Tunnel as TunnelOpening, Coa as CoaOpening}
 use Rattle.bng_gate.specs.declared.texts.Refusal.{Refusal}
 use Rattle.bng_gate.specs.declared.texts.Refusal.TheVariants.{Usage, Refused, CannotOpen, OutOfMemory, TraceFailed, OutputFailed}
 use Rattle.bng_gate.specs.Words.{Serves as ServesFile}
@@ -92,6 +94,7 @@ IsUnprepared words old new (CannotOpen (AccessOpening number)) = ⊥
 IsUnprepared words old new (CannotOpen AuthOpening) = ⊥
 IsUnprepared words old new (CannotOpen AcctOpening) = ⊥
 IsUnprepared words old new (CannotOpen TunnelOpening) = ⊥
+IsUnprepared words old new (CannotOpen CoaOpening) = ⊥
 IsUnprepared words old new OutOfMemory = WantsToRead words old new
 IsUnprepared words old new TraceFailed = ⊥
 IsUnprepared words old new OutputFailed = ⊥
@@ -103,20 +106,36 @@ abbrev pub port_binds : ℕ → List AccessPort → List Bind
 port_binds number [] = []
 port_binds number (port ∷ ports) = record { role = Access number; local = port.local } ∷ port_binds (number + 1) ports
 
--- the bind of the gateway's end for tunnels, where it has one
-abbrev pub tunnel_binds : Option Peer → List Bind
-tunnel_binds None = []
-tunnel_binds (Some local) = record { role = Tunnel; local = local } ∷ []
+-- the bind of an end that the configuration may lack, where it has one
+abbrev pub end_binds : Role → Option Peer → List Bind
+end_binds role None = []
+end_binds role (Some local) = record { role = role; local = local } ∷ []
+
+-- the end to which requests for changes of sessions come, where there is one
+abbrev pub coa_local : Option CoaPart → Option Peer
+coa_local None = None
+coa_local (Some part) = Some part.local
+
+-- those of the end for tunnels and of the end for changes
+abbrev pub tunnel_binds : Config → List Bind
+tunnel_binds config = end_binds Tunnel config.tunnel_local
+
+abbrev pub coa_binds : Config → List Bind
+coa_binds config = end_binds Coa (coa_local config.coa)
 
 -- the binds of the opening, in order
 abbrev pub binds_of : Config → List Bind
 binds_of config =
     record { role = Control; local = config.control_local } ∷ record { role = Core; local = config.core_local }
-    ∷ (port_binds 1 config.access ++ record { role = Auth; local = config.auth_local } ∷ record { role = Acct; local = config.acct_local } ∷ tunnel_binds config.tunnel_local)
+    ∷ (port_binds 1 config.access ++ record { role = Auth; local = config.auth_local } ∷ record { role = Acct; local = config.acct_local } ∷ (tunnel_binds config ++ coa_binds config))
 
--- how many there are
+-- how many there are before that of the end for changes
+abbrev pub binds_before_coa : Config → ℕ
+binds_before_coa config = 4 + length config.access + length (tunnel_binds config)
+
+-- and in all
 abbrev pub binds_most : Config → ℕ
-binds_most config = 4 + length config.access + length (tunnel_binds config.tunnel_local)
+binds_most config = binds_before_coa config + length (coa_binds config)
 
 -- this many of the access ports were bound, and nothing else was asked of the plant
 pub record BindsPorts (number : ℕ) (ports : List AccessPort) (old new : PlantTold) : Type 0 where
@@ -133,18 +152,18 @@ pub record FailsAtPort (number : ℕ) (ports : List AccessPort) (old new : Plant
   pub before : BindsPorts (number - 1) ports old new
   pub rose : Rose old.faults new.faults
 
--- the end for tunnels was bound, where there is one, and nothing else was asked of the plant
-pub record BindsTunnel (local : Option Peer) (old new : PlantTold) : Type 0 where
-  pub bound : Grows old.bound new.bound (tunnel_binds local)
+-- the end of this role was bound, where there is one, and nothing else was asked of the plant
+pub record BindsEnd (role : Role) (local : Option Peer) (old new : PlantTold) : Type 0 where
+  pub bound : Grows old.bound new.bound (end_binds role local)
   pub heard : new.heard ≡ old.heard
   pub taken : new.taken ≡ old.taken
   pub sent : new.sent ≡ old.sent
   pub later : old.faults ≤ new.faults
 
 -- there is one, and it could not be bound
-pub record FailsAtTunnel (local : Option Peer) (old new : PlantTold) : Type 0 where
+pub record FailsAtEnd (role : Role) (local : Option Peer) (old new : PlantTold) : Type 0 where
   pub there : IsSome local
-  pub before : BindsTunnel None old new
+  pub before : BindsEnd role None old new
   pub rose : Rose old.faults new.faults
 
 -- the first binds of the opening were made, and nothing else was asked of the plant
@@ -171,6 +190,11 @@ pub record FailsToBindTunnel (config : Config) (old new : PlantTold) : Type 0 wh
   pub there : IsSome config.tunnel_local
   pub fails : FailsToBind config (4 + length config.access) old new
 
+-- and so of the end for changes, the last of all
+pub record FailsToBindCoa (config : Config) (old new : PlantTold) : Type 0 where
+  pub there : IsSome (coa_local config.coa)
+  pub fails : FailsToBind config (binds_before_coa config) old new
+
 abbrev pub FailsAt : Config → PlantTold → PlantTold → Opening → Type 0
 FailsAt config old new Configuration = ⊥
 FailsAt config old new Seed = ⊥
@@ -180,6 +204,7 @@ FailsAt config old new (AccessOpening number) = FailsToBindPort config number ol
 FailsAt config old new AuthOpening = FailsToBind config (2 + length config.access) old new
 FailsAt config old new AcctOpening = FailsToBind config (3 + length config.access) old new
 FailsAt config old new TunnelOpening = FailsToBindTunnel config old new
+FailsAt config old new CoaOpening = FailsToBindCoa config old new
 
 -- The seed ------------------------------------------------------------------------------------------------------------------
 
@@ -437,6 +462,7 @@ Fails words old new (AccessOpening number) = IsUnbound words old new (λ config 
 Fails words old new AuthOpening = IsUnbound words old new (λ config p p'. FailsToBind config (2 + length config.access) p p')
 Fails words old new AcctOpening = IsUnbound words old new (λ config p p'. FailsToBind config (3 + length config.access) p p')
 Fails words old new TunnelOpening = IsUnbound words old new (λ config p p'. FailsToBindTunnel config p p')
+Fails words old new CoaOpening = IsUnbound words old new (λ config p p'. FailsToBindCoa config p p')
 
 -- what is named could not be opened, and no receive, send or wait was made
 pub record IsUnopened (words : List (List ℕ)) (old new : World) (what : Opening) : Type 0 where

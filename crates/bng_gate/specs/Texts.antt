@@ -5,7 +5,7 @@ use Rattle.bng_config.specs.declared.fault.Fault.{Fault}
 use Rattle.bng_config.specs.Texts.{fault_text}
 use Rattle.bng_gate.specs.declared.texts.Line.{Line}
 use Rattle.bng_gate.specs.declared.texts.Opening.{Opening}
-use Rattle.bng_gate.specs.declared.texts.Opening.TheVariants.{Configuration, Seed, Control, Core, Access, Auth, Acct, Tunnel}
+use Rattle.bng_gate.specs.declared.texts.Opening.TheVariants.{Configuration, Seed, Control, Core, Access, Auth, Acct, Tunnel, Coa}
 use Rattle.bng_gate.specs.declared.texts.Refusal.{Refusal}
 use Rattle.bng_gate.specs.declared.texts.Refusal.TheVariants.{Usage, Refused, CannotOpen, OutOfMemory, TraceFailed, OutputFailed}
 
@@ -26,6 +26,7 @@ opening_name (Access number) = codes "access " ++ decimal number
 opening_name Auth = codes "auth"
 opening_name Acct = codes "acct"
 opening_name Tunnel = codes "tunnel"
+opening_name Coa = codes "coa"
 
 abbrev pub cannot_open_text : Opening → List ℕ
 cannot_open_text what = codes "bng: cannot open " ++ opening_name what ++ codes "\n"

@@ -13,9 +13,11 @@ mod texts;
 mod top;
 mod words;
 
-use crate::start::{FILE_MOST, out_of_memory, raise_threshold, words_of};
+use crate::start::{FILE_MOST, out_of_memory, raise_threshold};
 use crate::top::run;
-use bng_real::{RealClock, RealEntropy, RealFiles, RealGate, RealPlant, RealTrace, StandardSink};
+use bng_real::{
+    RealClock, RealEntropy, RealFiles, RealGate, RealPlant, RealTrace, StandardSink, words_of,
+};
 use std::process::ExitCode;
 
 fn main(rt: HostRuntime) -> ExitCode {
@@ -23,7 +25,7 @@ fn main(rt: HostRuntime) -> ExitCode {
     raise_threshold(alloc);
     let mut out = StandardSink::new(rt.stdout());
     let mut err = StandardSink::new(rt.stderr());
-    let Ok(words) = words_of(&rt) else {
+    let Ok(words) = words_of(&rt, alloc) else {
         return out_of_memory(&mut err);
     };
     let Ok(mut plant) = RealPlant::new(&rt, alloc) else {

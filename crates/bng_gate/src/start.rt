@@ -1,10 +1,7 @@
 //! What the program does before `run`.
 use bng_plant::Sink;
 use std::alloc::{AllocError, Global};
-use std::env;
-use std::io::ErrorKind;
 use std::process::ExitCode;
-use std::rt::Env;
 
 /// One octet more than the configuration may have, so that a longer one is seen to be longer.
 pub const FILE_MOST: u64 = 1_048_577;
@@ -14,15 +11,6 @@ const BLOCK: usize = 33_500_000;
 
 /// The status for want of memory.
 const WANT_OF_MEMORY: u8 = 4;
-
-/// The words after the program's name. Where one of them is not UTF-8 there are none, which is no command.
-pub fn words_of<R: Env + AllocGlobal>(rt: &R) -> Result<Vec<String>, AllocError> {
-    match env::args(rt) {
-        Ok(words) => words.skip(1).collect(rt.alloc()),
-        Err(error) if error.kind() == ErrorKind::OutOfMemory => Err(AllocError),
-        Err(_) => Ok(Vec::new(rt.alloc())),
-    }
-}
 
 /// Takes a large block and frees it. From then on the C library keeps what is freed, in place of giving the heap's top
 /// back to the system and taking it again, which costs two page faults a packet.

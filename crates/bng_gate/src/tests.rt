@@ -13,13 +13,17 @@ use std::thread::Threads;
 
 mod accounting;
 mod authentication;
+mod changes;
 mod counting;
+mod disconnects;
 mod discovery;
 mod forwarding;
 mod host;
+mod limits;
 mod link;
 mod logins;
 mod metering;
+mod statistics;
 mod statuses;
 mod tunnels;
 

@@ -22,6 +22,7 @@ pub enum Opening {
     Auth,
     Acct,
     Tunnel,
+    Coa,
 }
 
 /// Why a run did not come to its report.
@@ -124,6 +125,7 @@ fn cannot_open(what: Opening) -> Line<'static>
         Opening::Auth => whole("bng: cannot open auth\n"),
         Opening::Acct => whole("bng: cannot open acct\n"),
         Opening::Tunnel => whole("bng: cannot open tunnel\n"),
+        Opening::Coa => whole("bng: cannot open coa\n"),
         Opening::Access(number) => Line {
             front: "bng: cannot open access ",
             middle: digits(number),

@@ -8,8 +8,8 @@ ghost use Rattle.bng_config.specs.Rules.{KeepsRules};
 ghost use Rattle.bng_gate.specs.Headline.{Headline, IsQuiet, WasSafe};
 ghost use Rattle.bng_gate.specs.Words.{Serves};
 ghost use Rattle.bng_gate.specs.Words.{texts as words_of};
-ghost use Rattle.bng_gate.specs.Run.{Prepares, IsUnprepared, Binds, binds_most, BindsPorts, FailsAtPort, BindsTunnel, FailsAtTunnel, FailsAt, Seeds, FailsToSeed, IsUnserved, Told, RunEnds, IsUnfailed, IsFaultless};
-ghost use Rattle.bng_gate.specs.Run.{Begins, IsUnbegun, Reports, IsUnreported, IsUnready, CompletesTo, Concludes, Tells};
+ghost use Rattle.bng_gate.specs.Run.{Prepares, IsUnprepared, Binds, binds_most, BindsPorts, FailsAtPort, BindsEnd, FailsAtEnd, FailsAt, Seeds, FailsToSeed, IsUnserved, Told, RunEnds, IsUnfailed, IsFaultless};
+ghost use Rattle.bng_gate.specs.Run.{binds_before_coa, coa_local as local_of, Begins, IsUnbegun, Reports, IsUnreported, IsUnready, CompletesTo, Concludes, Tells};
 ghost use Rattle.bng_gate.specs.Serving.{MakesTurns, FailsTurning};
 
 use crate::saying::say;
@@ -125,31 +125,57 @@ fn bind_acct<P: Plant>(config: &Config, plant: &mut P) -> Result<(), Opening>
     }
 }
 
-// Binds the gateway's end for tunnels, where it has one. Who sends there is told by each datagram.
-fn bind_tunnel<P: Plant>(tunnel: Option<Peer>, plant: &mut P) -> Bound
-    ensures bound { result ≡ Bound.Ok → BindsTunnel tunnel (P.told plant.old) (P.told plant.new) }
+// Binds an end that the configuration may lack, where it has one. Who sends there is told by each datagram.
+fn bind_end<P: Plant>(role: Role, end: Option<Peer>, plant: &mut P) -> Bound
+    ensures bound { result ≡ Bound.Ok → BindsEnd role end (P.told plant.old) (P.told plant.new) }
     ensures unfailed { result ≡ Bound.Ok → (P.told plant.new).faults ≡ (P.told plant.old).faults }
-    ensures failed { result ≡ Bound.Failed → FailsAtTunnel tunnel (P.told plant.old) (P.told plant.new) }
+    ensures failed { result ≡ Bound.Failed → FailsAtEnd role end (P.told plant.old) (P.told plant.new) }
 {
-    let Some(local) = tunnel else {
+    let Some(local) = end else {
         return Bound::Ok;
     };
-    plant.bind(Role::Tunnel, local, None)
+    plant.bind(role, local, None)
 }
 
-// Binds one role after the other, the end for tunnels last, and says which could not be bound.
-fn bind_all<P: Plant>(config: &Config, plant: &mut P) -> Result<(), Opening>
+// Binds all roles but that of changes, one after the other, and says which could not be bound.
+fn bind_tunnel<P: Plant>(config: &Config, plant: &mut P) -> Result<(), Opening>
     requires rules { KeepsRules config.now }
-    ensures bound { OnOk result (Binds config.now (binds_most config.now) (P.told plant.old) (P.told plant.new)) }
+    ensures bound { OnOk result (Binds config.now (binds_before_coa config.now) (P.told plant.old) (P.told plant.new)) }
     ensures unfailed { OnOk result ((P.told plant.new).faults ≡ (P.told plant.old).faults) }
     ensures failed { IfErr result (λ what. FailsAt config.now (P.told plant.old) (P.told plant.new) what) }
 {
     if let Err(what) = bind_acct(config, plant) {
         return Err(what);
     }
-    match bind_tunnel(config.tunnel_local, plant) {
+    match bind_end(Role::Tunnel, config.tunnel_local, plant) {
         Bound::Ok => Ok(()),
         Bound::Failed => Err(Opening::Tunnel),
+    }
+}
+
+// The end to which requests for changes of sessions come, where there is one.
+fn coa_local(config: &Config) -> Option<Peer>
+    ensures { result ≡ local_of config.now.coa }
+{
+    match &config.coa {
+        Some(part) => Some(part.local),
+        None => None,
+    }
+}
+
+// Binds one role after the other, the end for changes last, and says which could not be bound.
+fn bind_all<P: Plant>(config: &Config, plant: &mut P) -> Result<(), Opening>
+    requires rules { KeepsRules config.now }
+    ensures bound { OnOk result (Binds config.now (binds_most config.now) (P.told plant.old) (P.told plant.new)) }
+    ensures unfailed { OnOk result ((P.told plant.new).faults ≡ (P.told plant.old).faults) }
+    ensures failed { IfErr result (λ what. FailsAt config.now (P.told plant.old) (P.told plant.new) what) }
+{
+    if let Err(what) = bind_tunnel(config, plant) {
+        return Err(what);
+    }
+    match bind_end(Role::Coa, coa_local(config), plant) {
+        Bound::Ok => Ok(()),
+        Bound::Failed => Err(Opening::Coa),
     }
 }
 

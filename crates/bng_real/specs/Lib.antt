@@ -5,3 +5,4 @@ pub mod Places
 pub mod Readiness
 pub mod Sockets
 pub mod Taking
+pub mod Words

@@ -1,5 +1,5 @@
-//! The system behind the traits of `bng_plant`: sockets, clock, random source, files and streams. No proof sees what the
-//! system gives or takes, so each adapter tells nothing but its count of faults, and the clock its last moment. What it makes
+//! The system behind the traits of `bng_plant`: sockets, clock, random source, files and streams, and the words of the
+//! command line. No proof sees what the system gives or takes, so each adapter tells nothing but its count of faults, and the clock its last moment. What it makes
 //! of the system's answers is proved: for any socket, source, reader and stream, also one that tells what it gave and took.
 #![tactic(auto)]
 
@@ -20,6 +20,7 @@ mod taking;
 #[cfg(test)]
 mod tests;
 mod trace;
+mod words;
 
 pub use crate::clock::RealClock;
 pub use crate::entropy::{RealEntropy, Source};
@@ -28,3 +29,4 @@ pub use crate::gate::RealGate;
 pub use crate::plant::RealPlant;
 pub use crate::sink::StandardSink;
 pub use crate::trace::RealTrace;
+pub use crate::words::{CommandLine, words_of};

@@ -1,16 +1,21 @@
 //! Each adapter over the real thing: sockets of 127.0.0.0/8 alone, and files of its own. The clock and the seeds stand over a
 //! system of the test's own too, which says what it is told to.
 use crate::asserts::{assert_count, assert_holds, assert_octets, assert_same};
-use crate::{RealClock, RealEntropy, RealFiles, RealGate, RealPlant, RealTrace, StandardSink};
+use crate::{
+    RealClock, RealEntropy, RealFiles, RealGate, RealPlant, RealTrace, StandardSink, words_of,
+};
 use bng_base::{Frame, Ip4, Listed, Peer, Received, Role, RoundRecord};
 use bng_plant::{
     Bound, Clock, Entropy, FileError, Files, Gate, Noted, Plant, Seeded, Sending, Sink, Trace,
     Wrote,
 };
+use std::alloc::{Alloc, Global};
 use std::cell::Cell;
+use std::env::FillError;
 use std::io::{ErrorKind, Read};
 use std::net::{Net, SocketAddr, UdpSocket};
 use std::random::RandomSource;
+use std::rt::Env;
 use std::test::Fail;
 use std::time::{Clock as SystemClock, Duration, Instant};
 use std::{array, env, fs, io, process, thread};
@@ -355,6 +360,59 @@ fn seeds_are_what_the_source_gives(rt: HostRuntime) {
     let mut entropy = RealEntropy::new(&failing);
     let seed = entropy.seed();
     assert_same(&rt, &(seed, entropy.faults), &(Seeded::Failed, 1));
+}
+
+/// A system whose command line has these three words.
+#[derive(Drop)]
+struct SetEnv {
+    words: [&'static [u8]; 3],
+    alloc: Global,
+}
+
+impl Alloc for SetEnv {
+    type A = Global;
+
+    fn alloc(&self) -> Global {
+        self.alloc
+    }
+}
+
+impl Env for SetEnv {
+    fn arg(&self, i: usize, buf: &mut [u8]) -> Result<usize, FillError> {
+        let word = self.words.get(i).ok_or(FillError::NotPresent)?;
+        let room = buf.get_mut(..word.len()).ok_or(FillError::TooLong)?;
+        room.copy_from_slice(word);
+        Ok(word.len())
+    }
+
+    fn var(&self, _name: &str, _buf: &mut [u8]) -> Result<usize, FillError> {
+        Err(FillError::NotPresent)
+    }
+
+    fn var_at(&self, _i: usize, _buf: &mut [u8]) -> Result<usize, FillError> {
+        Err(FillError::NotPresent)
+    }
+}
+
+#[test]
+fn words_are_those_after_the_name(rt: HostRuntime) -> Result<(), Fail> {
+    let alloc = rt.alloc();
+    for (last, wanted) in [
+        (b"my.toml".as_slice(), ["serve", "my.toml"].as_slice()),
+        (b"".as_slice(), ["serve", ""].as_slice()),
+        (b"\xff".as_slice(), [].as_slice()),
+    ] {
+        let line = SetEnv {
+            words: [b"bng".as_slice(), b"serve".as_slice(), last],
+            alloc,
+        };
+        let words = words_of(&line, alloc)?;
+        assert_count(&rt, words.len(), wanted.len());
+        for (word, want) in words.iter().zip(wanted) {
+            assert_octets(&rt, word.as_bytes(), want.as_bytes());
+        }
+    }
+    Ok(())
 }
 
 #[test]

@@ -1,16 +1,19 @@
 -- No Interim falls due before a moment that is at most a minute away: what each entry keeps of it.
-use Rattle.std.proofs.Common.{◌≡◌, ℕ, ◌+◌, ◌≤◌, max, Bool, not, List, Option, Some, None, IfSome, option_map, refl, sym, subst, arith}
+use Rattle.std.proofs.Common.{◌≡◌, ℕ, ◌+◌, ◌≤◌, max, Bool, not, List, Option, Some, None, IfSome, option_map, inl, inr, refl, sym, subst, ◌∙◌, arith}
 use Rattle.bng_base.specs.declared.address.Ip4.{Ip4}
 use Rattle.bng_base.specs.declared.item.OutRecord.{OutRecord}
 use Rattle.bng_ppp.specs.declared.whole_input.WholeInput.TheVariants.{Close}
 use Rattle.bng_term.specs.declared.limits.Limits.{Limits}
 use Rattle.bng_term.specs.Lifetimes.{HasAllowedInterval, seconds_after}
+use Rattle.bng_base.specs.declared.item.ItemKind.{ItemKind}
+use Rattle.bng_shard.specs.declared.changes.Answer.{Answer}
 use Rattle.bng_shard.specs.declared.meters.Plan.{Plan}
 use Rattle.bng_shard.specs.declared.rules.Rules.{Rules}
 use Rattle.bng_base.specs.declared.item.At.{At}
 use Rattle.bng_shard.specs.declared.session.Lease.{Lease}
 use Rattle.bng_shard.specs.declared.session.Session.{Session}
-use Rattle.bng_shard.specs.Deed.{Deed, at_of}
+use Rattle.bng_shard.specs.Changes.{AnswersKind, AnswersRequest, HearsChange, IsAnswerOf, answer_to}
+use Rattle.bng_shard.specs.Deed.{Deed, at_of, ignored}
 use Rattle.bng_shard.specs.Interims.{AwaitsInterims, Reports, interim_in, reported_at}
 use Rattle.bng_shard.specs.Link.{Drives, LinkStep, Told, ended, settles, told}
 use Rattle.bng_shard.specs.Passing.{lapsed, looked, looked_on}
@@ -19,7 +22,8 @@ use Rattle.bng_shard.specs.Step.{Step}
 use Rattle.bng_shard.specs.Tenures.{kept_lease}
 use Rattle.bng_shard.specs.Verdicts.{Judges, next_lease, settled_by}
 use Rattle.bng_shard.proofs.Housing.{with_kept}
-use Rattle.bng_shard.proofs.Values.{kept_from}
+use Rattle.bng_shard.proofs.Naming.{next_of}
+use Rattle.bng_shard.proofs.Values.{kept_from, none_some}
 use Rattle.bng_shard.proofs.Walking.{Stops, Walks, step_walks_by, walks_by}
 use Rattle.bng_shard.proofs.Wishing.{decides_allowed}
 
@@ -74,6 +78,7 @@ module _ (t : Reports) where
     looks = λ s n at x found h. with_kept Awaits s n (looked at x) (looked_awaits (reported_at t.last x.number) at x.lease (h n x found)) h;
     lapses = λ e s n x x' outs cause none asked' at over d h.
         with_kept Awaits s n x' (driven_awaits r (at_of s e) s.asked (lapsed x) x' outs none asked' (told r e Close) d tt) h;
+    lapses_circuit = λ s n x over cause at is lapse h. with_kept Awaits s n (lapsed x) tt h;
     tells = λ s u h. h;
   }
 
@@ -89,10 +94,17 @@ module _ (t : Reports) where
         let lease = next_lease s u.plan u.limits d.entry.moment a in
         with_kept Awaits s d.entry.item.target (record j.after { lease = Some lease }) (begun_awaits (reported_at t.last j.after.number) s u.plan u.limits d.entry.moment a long near) h
 
-    pub awaits_kept : Step r s limited d → AwaitsInterims s t → AwaitsInterims d.next t
-    awaits_kept =
+    -- what is no request for a change, and so is not answered, changes nothing
+    unanswered_same : (answer : Option Answer) → AnswersRequest r s d.entry answer → answer ≡ None → HearsChange r s d.entry d → d.next ≡ s
+    unanswered_same answer (inl (no_request, is)) none (inl (other, h)) = next_of d (ignored s d.entry) h
+    unanswered_same answer (inl (no_request, is)) none (inr (p, reads, h)) = absurd (no_request p reads)
+    unanswered_same answer (inr (p, reads, is)) none h = absurd (none_some (answer_to r s d.entry p) (sym none ∙ is))
+
+    pub awaits_kept : (answer : Option Answer) → IsAnswerOf r s d.entry answer → answer ≡ None → Step r s limited d → AwaitsInterims s t → AwaitsInterims d.next t
+    awaits_kept answer answered none =
         step_walks_by r Keeps (walks_by r Keeps (keeps_walk r)) keeps_stops s limited d
         (λ u decides j. judged_keeps u j (decides_allowed r limited d.entry.item.frame.payload d.entry.claim u decides) u.lease)
+        (λ is h. subst (Keeps s) (sym (unanswered_same answer (subst (λ (k : ItemKind). AnswersKind k r s d.entry answer) is answered) none h)) (λ awaits. awaits))
 
   pub awaits_settled : (s : State) → AwaitsInterims s t → AwaitsInterims (settled s) t
   awaits_settled s h n x at = h n x (kept_from (λ (y : Session). not (leaves y)) s.sessions n x at).0

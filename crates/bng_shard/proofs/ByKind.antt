@@ -1,5 +1,6 @@
 -- What was done with an item, by its kind.
-use Rattle.std.proofs.Common.{◌≡◌, ℕ, zero, suc, ◌≤◌, ◌++◌, Bool, List, length, inl, inr, refl, sym, ap, subst, ◌∙◌}
+use Rattle.std.proofs.Common.{◌≡◌, ℕ, zero, suc, ◌≤◌, ◌++◌, Bool, List, Option, None, length, append-nil, inl, inr, refl, sym, ap, subst, ◌∙◌}
+use Rattle.std.specs.Prelude.{option_to_list}
 use Rattle.bng_base.specs.declared.fate.Fate.{Fate}
 use Rattle.bng_base.specs.declared.fate.Fate.TheVariants.{Consumed}
 use Rattle.bng_base.specs.declared.item.Claim.{Claim}
@@ -10,10 +11,12 @@ use Rattle.bng_base.specs.declared.item.ItemKind.{ItemKind}
 use Rattle.bng_base.specs.declared.item.ItemKind.TheVariants.{Tick, End}
 use Rattle.bng_base.specs.declared.item.OutRecord.{OutRecord}
 use Rattle.bng_lns.specs.Timed.{reminded}
+use Rattle.bng_shard.specs.declared.changes.Answer.{Answer}
 use Rattle.bng_shard.specs.declared.rules.Rules.{Rules}
 use Rattle.bng_base.specs.declared.item.At.{At}
 use Rattle.bng_shard.specs.State.{State, with_ended, with_tunnels}
-use Rattle.bng_shard.specs.Deed.{at_of, handled, ignored}
+use Rattle.bng_shard.specs.Changes.{AnswersKind, IsAnswerOf}
+use Rattle.bng_shard.specs.Deed.{at_of, handled}
 use Rattle.bng_shard.specs.L2tp.{TellInTurn, tunnels_most}
 use Rattle.bng_shard.specs.Link.{ended as ended_session, nas_request}
 use Rattle.bng_shard.specs.Doing.{DoesWith}
@@ -26,7 +29,7 @@ use Rattle.bng_shard.specs.Wished.{IsAnswered, WishesFor}
 use Rattle.bng_shard.specs.Wishes.{IsAnswerTo}
 use Rattle.bng_shard.specs.Timed.{TickDone, EndDone}
 use Rattle.bng_shard.specs.Timers.{Ends, StopsTunnels, at_once}
-use Rattle.bng_shard.proofs.Carrying.{its_place, nothing_done}
+use Rattle.bng_shard.proofs.Carrying.{its_place}
 
 -- sessions that end leave the shard its number
 ends_number : (k : ℕ) (r : Rules) (e : Entry) (s : State) (outs : List OutRecord) (s' : State) → Ends k r e s outs s' → s'.sessions.shard ≡ s.sessions.shard
@@ -101,9 +104,11 @@ module _ (r : Rules) (s s' : State) (outs outs' : List OutRecord) (a : At) (now 
             few = t.few;
           })
 
--- a kind that nothing here hears
-pub passed_over : (r : Rules) (s : State) (outs : List OutRecord) (a : At) (now : ℕ) (item : Item) (limited : Bool) (claim : Claim) → claim ≡ NoClaim → a.shard ≡ s.sessions.shard → (kind : ItemKind) → item.kind ≡ kind → MayClaim kind NoClaim
-    → ((e : Entry) → Hears kind r s limited e (ignored s e)) → Does (Step r s limited) (outs_most item.kind) s s outs outs (entry_with claim a.seat a.place now item) Consumed
-passed_over r s outs a now item limited claim none here kind is may says =
-    stepped r s s outs outs a now item limited claim none Consumed kind is may
-    (nothing_done r s a item outs here (λ e d. Hears kind r s limited e d) (outs_most kind) Consumed (λ moment. says (entry_of a.seat a.place moment item)) now)
+-- what is answered to an item is so by its kind
+pub answered_so : (r : Rules) (s : State) (item : Item) (kind : ItemKind) → item.kind ≡ kind → (e : Entry) → e.item ≡ item → (answer : Option Answer) → AnswersKind kind r s e answer → IsAnswerOf r s e answer
+answered_so r s item kind is e same answer h = subst (λ (k : ItemKind). AnswersKind k r s e answer) (sym (ap (λ (i : Item). i.kind) same ∙ is)) h
+
+-- nothing is, where its kind has no answers
+pub unanswered : (r : Rules) (s : State) (item : Item) (kind : ItemKind) → item.kind ≡ kind → ((e : Entry) → AnswersKind kind r s e None) → (answers : List Answer) (e : Entry) → e.item ≡ item
+    → (answer : Option Answer) × IsAnswerOf r s e answer × (answers ≡ answers ++ option_to_list answer)
+unanswered r s item kind is none answers e same = (None, answered_so r s item kind is e same None (none e), sym (append-nil answers))

@@ -48,36 +48,36 @@ up_to_more first circuits k =
     ∙ flat_map-append (circuit_at circuits) (range_with_len first k) ((first + k) ∷ [])
     ∙ ap (λ (cs : List Static). up_to first circuits k ++ cs) (append-nil (circuit_at circuits (first + k)))
 
-numbered_more : (k : ℕ) (cs : List Static) (c : Static) → numbered_after k (cs ++ c ∷ []) ≡ numbered_after k cs ++ (c.session.0, provisioned c (k + length cs + 1)) ∷ []
-numbered_more k [] c =
+numbered_more : (now k : ℕ) (cs : List Static) (c : Static) → numbered_after now k (cs ++ c ∷ []) ≡ numbered_after now k cs ++ (c.session.0, provisioned now c (k + length cs + 1)) ∷ []
+numbered_more now k [] c =
     let same : k + 1 ≡ k + 0 + 1 = omega arith in
-    ap (λ (n : ℕ). (c.session.0, provisioned c n) ∷ []) same
-numbered_more k (d ∷ cs) c =
+    ap (λ (n : ℕ). (c.session.0, provisioned now c n) ∷ []) same
+numbered_more now k (d ∷ cs) c =
     let same : (k + 1) + length cs + 1 ≡ k + suc (length cs) + 1 = omega arith in
-    ap (λ (es : List (ℕ × Session)). (d.session.0, provisioned d (k + 1)) ∷ es)
-    (numbered_more (k + 1) cs c ∙ ap (λ (n : ℕ). numbered_after (k + 1) cs ++ (c.session.0, provisioned c n) ∷ []) same)
+    ap (λ (es : List (ℕ × Session)). (d.session.0, provisioned now d (k + 1)) ∷ es)
+    (numbered_more now (k + 1) cs c ∙ ap (λ (n : ℕ). numbered_after now (k + 1) cs ++ (c.session.0, provisioned now c n) ∷ []) same)
 
 -- one of these circuits stands under its number
-record Among (cs : List Static) (m : ℕ) (x : Session) : Type 0 where
+record Among (now : ℕ) (cs : List Static) (m : ℕ) (x : Session) : Type 0 where
   c : Static
   serial : ℕ
   holds : Contains cs c
   number : c.session.0 ≡ m
-  is : x ≡ provisioned c serial
+  is : x ≡ provisioned now c serial
 
-found_among : (k : ℕ) (cs : List Static) (m : ℕ) (x : Session) → find_at nat_cmp m (numbered_after k cs) ≡ Some x → Among cs m x
-found_among k [] m x e = absurd (none_some x e)
-found_among k (c ∷ cs) m x e =
-    elim (eq_by_cmp nat_cmp m c.session.0) as (λ b. eq_by_cmp nat_cmp m c.session.0 ≡ b → cond b (Some (provisioned c (k + 1))) (find_at nat_cmp m (numbered_after (k + 1) cs)) ≡ Some x → Among (c ∷ cs) m x) [
+found_among : (now k : ℕ) (cs : List Static) (m : ℕ) (x : Session) → find_at nat_cmp m (numbered_after now k cs) ≡ Some x → Among now cs m x
+found_among now k [] m x e = absurd (none_some x e)
+found_among now k (c ∷ cs) m x e =
+    elim (eq_by_cmp nat_cmp m c.session.0) as (λ b. eq_by_cmp nat_cmp m c.session.0 ≡ b → cond b (Some (provisioned now c (k + 1))) (find_at nat_cmp m (numbered_after now (k + 1) cs)) ≡ Some x → Among now (c ∷ cs) m x) [
       | true ↦ λ t f. record {
         c = c;
         serial = k + 1;
         holds = (0, omega arith, refl);
         number = sym (number_same m c.session.0 t);
-        is = sym (same_some (provisioned c (k + 1)) x f);
+        is = sym (same_some (provisioned now c (k + 1)) x f);
       }
       | false ↦ λ t f.
-          let rest = found_among (k + 1) cs m x f in
+          let rest = found_among now (k + 1) cs m x f in
           record {
             c = rest.c;
             serial = rest.serial;
@@ -113,13 +113,13 @@ greater : (n m : ℕ) → m < n → nat_cmp n m ≡ Greater
 greater n m l = sym (nat_cmp_is n m Greater l)
 
 -- an entry whose number is higher than the others' stands last
-put_last : (n : ℕ) (v : Session) (k : ℕ) (cs : List Static) → ((c : Static) → Contains cs c → c.session.0 < n) → put nat_cmp n v (numbered_after k cs) ≡ numbered_after k cs ++ (n, v) ∷ []
-put_last n v k [] lower = refl
-put_last n v k (c ∷ cs) lower =
-    let e : ℕ × Session = (c.session.0, provisioned c (k + 1)) in
-    let es = numbered_after (k + 1) cs in
+put_last : (now n : ℕ) (v : Session) (k : ℕ) (cs : List Static) → ((c : Static) → Contains cs c → c.session.0 < n) → put nat_cmp n v (numbered_after now k cs) ≡ numbered_after now k cs ++ (n, v) ∷ []
+put_last now n v k [] lower = refl
+put_last now n v k (c ∷ cs) lower =
+    let e : ℕ × Session = (c.session.0, provisioned now c (k + 1)) in
+    let es = numbered_after now (k + 1) cs in
     ap (λ (o : Ordering). by_order o ((n, v) ∷ e ∷ es) ((c.session.0, v) ∷ es) (e ∷ put nat_cmp n v es)) (greater n c.session.0 (lower c (0, omega arith, refl)))
-    ∙ ap (λ (fs : List (ℕ × Session)). e ∷ fs) (put_last n v (k + 1) cs (λ d h. lower d (suc h.0, omega (arith, h.1), h.2)))
+    ∙ ap (λ (fs : List (ℕ × Session)). e ∷ fs) (put_last now n v (k + 1) cs (λ d h. lower d (suc h.0, omega (arith, h.1), h.2)))
 
 pub no_length : {A : Type 0} (xs : List A) → length xs ≡ 0 → xs ≡ []
 no_length [] e = refl
@@ -179,27 +179,27 @@ few_up_to circuits first (suc k) apart =
 -- One circuit after another --------------------------------------------------------------------------------------------
 
 -- the circuits of so many numbers stand, with so many terms
-pub record Opens (number : ℕ) (circuits : List Static) (k : ℕ) (sessions : Sessions Session) (begun : ℕ) : Type 0 where
+pub record Opens (now number : ℕ) (circuits : List Static) (k : ℕ) (sessions : Sessions Session) (begun : ℕ) : Type 0 where
   pub shard : sessions.shard ≡ number
-  pub stand : entries sessions.by_number ≡ numbered_after 0 (up_to (number * 1024 + 1) circuits k)
+  pub stand : entries sessions.by_number ≡ numbered_after now 0 (up_to (number * 1024 + 1) circuits k)
   pub counted : begun ≡ length (up_to (number * 1024 + 1) circuits k)
 
-pub opens_none : (number : ℕ) (circuits : List Static) (sessions : Sessions Session) → sessions.shard ≡ number → sessions.by_number ≡ empty → Opens number circuits 0 sessions 0
-opens_none number circuits sessions shard none = record {
+pub opens_none : (now number : ℕ) (circuits : List Static) (sessions : Sessions Session) → sessions.shard ≡ number → sessions.by_number ≡ empty → Opens now number circuits 0 sessions 0
+opens_none now number circuits sessions shard none = record {
   shard = shard;
   stand = ap entries none ∙ no_length (entries empty) (sym (len-entries empty) ∙ len-empty nat_cmp Session);
   counted = refl;
 }
 
 -- what stands under a number
-pub record Stands (number : ℕ) (circuits : List Static) (k m : ℕ) (x : Session) : Type 0 where
+pub record Stands (now number : ℕ) (circuits : List Static) (k m : ℕ) (x : Session) : Type 0 where
   pub c : Static
   pub serial : ℕ
   pub of : Contains circuits c
   pub session : c.session.0 ≡ m
   pub low : number * 1024 + 1 ≤ m
   pub high : m < number * 1024 + 1 + k
-  pub is : x ≡ provisioned c serial
+  pub is : x ≡ provisioned now c serial
 
 abbrev circuit_session : Circuit → ℕ
 circuit_session (Pppoe port mac session) = session.0
@@ -209,10 +209,10 @@ abbrev session_of_term : Option TermId → ℕ
 session_of_term None = 0
 session_of_term (Some t) = t.session.0
 
-module _ (number : ℕ) (circuits : List Static) (k : ℕ) (sessions : Sessions Session) (begun : ℕ) (h : Opens number circuits k sessions begun) where
-  pub stands_for : (m : ℕ) (x : Session) → value_at sessions m ≡ Some x → Stands number circuits k m x
+module _ (now number : ℕ) (circuits : List Static) (k : ℕ) (sessions : Sessions Session) (begun : ℕ) (h : Opens now number circuits k sessions begun) where
+  pub stands_for : (m : ℕ) (x : Session) → value_at sessions m ≡ Some x → Stands now number circuits k m x
   stands_for m x e =
-      let found = found_among 0 (up_to (number * 1024 + 1) circuits k) m x (ap (find_at nat_cmp m) (sym h.stand) ∙ sym (get-entries sessions.by_number m) ∙ e) in
+      let found = found_among now 0 (up_to (number * 1024 + 1) circuits k) m x (ap (find_at nat_cmp m) (sym h.stand) ∙ sym (get-entries sessions.by_number m) ∙ e) in
       let here = within circuits (number * 1024 + 1) k found.c found.holds in
       let same = found.number in
       let low = here.1 in
@@ -234,13 +234,13 @@ module _ (number : ℕ) (circuits : List Static) (k : ℕ) (sessions : Sessions 
         | Some x ↦ λ is. let high = (stands_for n x is).high in absurd (omega (arith, high, e))
       ] refl
 
-  pub opens_other : circuit_at circuits (number * 1024 + 1 + k) ≡ [] → Opens number circuits (suc k) sessions begun
+  pub opens_other : circuit_at circuits (number * 1024 + 1 + k) ≡ [] → Opens now number circuits (suc k) sessions begun
   opens_other none =
       let same : up_to (number * 1024 + 1) circuits (suc k) ≡ up_to (number * 1024 + 1) circuits k =
       up_to_more (number * 1024 + 1) circuits k ∙ ap (λ (cs : List Static). up_to (number * 1024 + 1) circuits k ++ cs) none ∙ append-nil (up_to (number * 1024 + 1) circuits k) in
       record {
         shard = h.shard;
-        stand = h.stand ∙ ap (numbered_after 0) (sym same);
+        stand = h.stand ∙ ap (numbered_after now 0) (sym same);
         counted = h.counted ∙ ap (λ (cs : List Static). length cs) (sym same);
       }
 
@@ -248,7 +248,7 @@ module _ (number : ℕ) (circuits : List Static) (k : ℕ) (sessions : Sessions 
     one : (Contains circuits c) × (c.session.0 ≡ n)
     one = at_number circuits n c (subst (λ (cs : List Static). Contains cs c) (sym is) (0, omega arith, refl))
 
-    other_session : (m serial : ℕ) (x : Session) → value_at sessions m ≡ Some x → x.number.0 ≢ (provisioned c serial).number.0
+    other_session : (m serial : ℕ) (x : Session) → value_at sessions m ≡ Some x → x.number.0 ≢ (provisioned now c serial).number.0
     other_session m serial x e same =
         let there = stands_for m x e in
         let theirs = ap (λ (y : Session). y.number.0) there.is in
@@ -257,21 +257,21 @@ module _ (number : ℕ) (circuits : List Static) (k : ℕ) (sessions : Sessions 
         let mine = one.1 in
         omega (arith, theirs, high, session, mine, same, at)
 
-    pub shares_circuit : (serial : ℕ) → NoneShares (λ (x : Session). Some (circuit_of x)) sessions (provisioned c serial)
+    pub shares_circuit : (serial : ℕ) → NoneShares (λ (x : Session). Some (circuit_of x)) sessions (provisioned now c serial)
     shares_circuit serial m circuit mine has =
         let x = read_there (λ (y : Session). Some (circuit_of y)) (value_at sessions m) circuit has in
-        let same = same_some (circuit_of x.0) circuit x.2 ∙ sym (same_some (circuit_of (provisioned c serial)) circuit mine) in
+        let same = same_some (circuit_of x.0) circuit x.2 ∙ sym (same_some (circuit_of (provisioned now c serial)) circuit mine) in
         other_session m serial x.0 x.1 (ap circuit_session same)
 
-    pub shares_term : (serial : ℕ) → NoneShares term_of sessions (provisioned c serial)
+    pub shares_term : (serial : ℕ) → NoneShares term_of sessions (provisioned now c serial)
     shares_term serial m term mine has =
         let x = read_there term_of (value_at sessions m) term has in
         let there = stands_for m x.0 x.1 in
-        let theirs : term_of (provisioned there.c there.serial) ≡ Some term = ap term_of (sym there.is) ∙ x.2 in
+        let theirs : term_of (provisioned now there.c there.serial) ≡ Some term = ap term_of (sym there.is) ∙ x.2 in
         let same : there.c.session.0 ≡ c.session.0 = ap session_of_term (theirs ∙ sym mine) in
         other_session m serial x.0 x.1 (ap (λ (y : Session). y.number.0) there.is ∙ same)
 
-    pub shares_address : AllPairs (λ a b. a.address ≢ b.address) circuits → (serial : ℕ) → NoneShares address_of sessions (provisioned c serial)
+    pub shares_address : AllPairs (λ a b. a.address ≢ b.address) circuits → (serial : ℕ) → NoneShares address_of sessions (provisioned now c serial)
     shares_address apart serial m address mine has =
         let x = read_there address_of (value_at sessions m) address has in
         let there = stands_for m x.0 x.1 in
@@ -282,7 +282,7 @@ module _ (number : ℕ) (circuits : List Static) (k : ℕ) (sessions : Sessions 
         let here = one.1 in
         apart_addresses circuits apart there.c c there.of one.0 (λ e. omega (arith, e, high, session, here, at)) same
 
-    pub opens_more : (serial : ℕ) → serial ≡ begun + 1 → Opens number circuits (suc k) (with_value sessions n (provisioned c serial)) serial
+    pub opens_more : (serial : ℕ) → serial ≡ begun + 1 → Opens now number circuits (suc k) (with_value sessions n (provisioned now c serial)) serial
     opens_more serial next =
         let cs = up_to (number * 1024 + 1) circuits k in
         let more : up_to (number * 1024 + 1) circuits (suc k) ≡ cs ++ c ∷ [] =
@@ -290,13 +290,13 @@ module _ (number : ℕ) (circuits : List Static) (k : ℕ) (sessions : Sessions 
         let lower : (d : Static) → Contains cs d → d.session.0 < n = λ d held. let high = (within circuits (number * 1024 + 1) k d held).2 in omega (arith, high, at) in
         let count = h.counted in
         let last : 0 + length cs + 1 ≡ serial = omega (arith, count, next) in
-        let entry : ◌≡◌ {A = ℕ × Session} (n, provisioned c serial) (c.session.0, provisioned c (0 + length cs + 1)) = λ i. (sym one.1 i, provisioned c (sym last i)) in
+        let entry : ◌≡◌ {A = ℕ × Session} (n, provisioned now c serial) (c.session.0, provisioned now c (0 + length cs + 1)) = λ i. (sym one.1 i, provisioned now c (sym last i)) in
         record {
           shard = h.shard;
-          stand = entries-insert nat_cmp_total sessions.by_number n (provisioned c serial) ∙ ap (put nat_cmp n (provisioned c serial)) h.stand
-              ∙ put_last n (provisioned c serial) 0 cs lower
-              ∙ ap (λ (e : ℕ × Session). numbered_after 0 cs ++ e ∷ []) entry
-              ∙ sym (ap (numbered_after 0) more ∙ numbered_more 0 cs c);
+          stand = entries-insert nat_cmp_total sessions.by_number n (provisioned now c serial) ∙ ap (put nat_cmp n (provisioned now c serial)) h.stand
+              ∙ put_last now n (provisioned now c serial) 0 cs lower
+              ∙ ap (λ (e : ℕ × Session). numbered_after now 0 cs ++ e ∷ []) entry
+              ∙ sym (ap (numbered_after now 0) more ∙ numbered_more now 0 cs c);
           counted = next ∙ ap (λ (m : ℕ). m + 1) h.counted ∙ sym (ap (λ (ds : List Static). length ds) more ∙ length_more cs c);
         }
       where
@@ -304,13 +304,13 @@ module _ (number : ℕ) (circuits : List Static) (k : ℕ) (sessions : Sessions 
         length_more [] d = refl
         length_more (e ∷ ds) d = let rest = length_more ds d in omega (arith, rest)
 
-pub few_begun : (number : ℕ) (circuits : List Static) (k : ℕ) (sessions : Sessions Session) (begun : ℕ) → Opens number circuits k sessions begun → AllPairs (λ a b. a.session ≢ b.session) circuits → begun ≤ k
-few_begun number circuits k sessions begun h apart =
+pub few_begun : (now number : ℕ) (circuits : List Static) (k : ℕ) (sessions : Sessions Session) (begun : ℕ) → Opens now number circuits k sessions begun → AllPairs (λ a b. a.session ≢ b.session) circuits → begun ≤ k
+few_begun now number circuits k sessions begun h apart =
     let few = few_up_to circuits (number * 1024 + 1) k (apart_of circuits apart) in
     let count = h.counted in
     omega (arith, few, count)
 
-module _ (number : ℕ) (circuits : List Static) (first n : ℕ) (sessions : Sessions Session) (begun : ℕ) (h : Opens number circuits (n - first) sessions begun) (from : first ≡ number * 1024 + 1) (low : first ≤ n) where
+module _ (now number : ℕ) (circuits : List Static) (first n : ℕ) (sessions : Sessions Session) (begun : ℕ) (h : Opens now number circuits (n - first) sessions begun) (from : first ≡ number * 1024 + 1) (low : first ≤ n) where
   pub at : n ≡ number * 1024 + 1 + (n - first)
   at = omega (arith, from, low)
 
@@ -318,35 +318,35 @@ module _ (number : ℕ) (circuits : List Static) (first n : ℕ) (sessions : Ses
   next = omega (arith, low)
 
   -- the circuit of this number comes
-  pub opens_put : (c : Static) → circuit_at circuits n ≡ c ∷ [] → (sessions' : Sessions Session) (begun' : ℕ) → begun' ≡ begun + 1 → sessions' ≡ with_value sessions n (provisioned c (begun + 1)) → Opens number circuits (n + 1 - first) sessions' begun'
+  pub opens_put : (c : Static) → circuit_at circuits n ≡ c ∷ [] → (sessions' : Sessions Session) (begun' : ℕ) → begun' ≡ begun + 1 → sessions' ≡ with_value sessions n (provisioned now c (begun + 1)) → Opens now number circuits (n + 1 - first) sessions' begun'
   opens_put c is sessions' begun' more put =
-      let opens = opens_more number circuits (n - first) sessions begun h n c at is (begun + 1) refl in
-      subst (λ (k : ℕ). Opens number circuits k sessions' begun') next
-      (subst (λ (b : ℕ). Opens number circuits (suc (n - first)) sessions' b) (sym more)
-      (subst (λ (t : Sessions Session). Opens number circuits (suc (n - first)) t (begun + 1)) (sym put) opens))
+      let opens = opens_more now number circuits (n - first) sessions begun h n c at is (begun + 1) refl in
+      subst (λ (k : ℕ). Opens now number circuits k sessions' begun') next
+      (subst (λ (b : ℕ). Opens now number circuits (suc (n - first)) sessions' b) (sym more)
+      (subst (λ (t : Sessions Session). Opens now number circuits (suc (n - first)) t (begun + 1)) (sym put) opens))
 
   -- there is none of this number
-  pub opens_pass : circuit_at circuits n ≡ [] → (sessions' : Sessions Session) (begun' : ℕ) → begun' ≡ begun → sessions' ≡ sessions → Opens number circuits (n + 1 - first) sessions' begun'
+  pub opens_pass : circuit_at circuits n ≡ [] → (sessions' : Sessions Session) (begun' : ℕ) → begun' ≡ begun → sessions' ≡ sessions → Opens now number circuits (n + 1 - first) sessions' begun'
   opens_pass none sessions' begun' same put =
       let here : circuit_at circuits (number * 1024 + 1 + (n - first)) ≡ [] = ap (circuit_at circuits) (sym at) ∙ none in
-      let opens = opens_other number circuits (n - first) sessions begun h here in
-      subst (λ (k : ℕ). Opens number circuits k sessions' begun') next
-      (subst (λ (b : ℕ). Opens number circuits (suc (n - first)) sessions' b) (sym same)
-      (subst (λ (t : Sessions Session). Opens number circuits (suc (n - first)) t begun) (sym put) opens))
+      let opens = opens_other now number circuits (n - first) sessions begun h here in
+      subst (λ (k : ℕ). Opens now number circuits k sessions' begun') next
+      (subst (λ (b : ℕ). Opens now number circuits (suc (n - first)) sessions' b) (sym same)
+      (subst (λ (t : Sessions Session). Opens now number circuits (suc (n - first)) t begun) (sym put) opens))
 
 -- All of them ----------------------------------------------------------------------------------------------------------
 
-module _ (number : ℕ) (circuits : List Static) (sessions : Sessions Session) (begun : ℕ) (h : Opens number circuits 1022 sessions begun) where
+module _ (now number : ℕ) (circuits : List Static) (sessions : Sessions Session) (begun : ℕ) (h : Opens now number circuits 1022 sessions begun) where
   pub opened_own : AreOwn sessions
-  opened_own m x e = let there = stands_for number circuits 1022 sessions begun h m x e in ap (λ (y : Session). y.number.0) there.is ∙ there.session
+  opened_own m x e = let there = stands_for now number circuits 1022 sessions begun h m x e in ap (λ (y : Session). y.number.0) there.is ∙ there.session
 
   -- the circuits' addresses differ
   pub opened_apart : AllPairs (λ a b. a.address ≢ b.address) circuits → AreApart sessions
   opened_apart apart m n address em en =
       let x = read_there address_of (value_at sessions m) address em in
       let y = read_there address_of (value_at sessions n) address en in
-      let one = stands_for number circuits 1022 sessions begun h m x.0 x.1 in
-      let two = stands_for number circuits 1022 sessions begun h n y.0 y.1 in
+      let one = stands_for now number circuits 1022 sessions begun h m x.0 x.1 in
+      let two = stands_for now number circuits 1022 sessions begun h n y.0 y.1 in
       let first : one.c.address ≡ address = same_some one.c.address address (ap address_of (sym one.is) ∙ x.2) in
       let second : two.c.address ≡ address = same_some two.c.address address (ap address_of (sym two.is) ∙ y.2) in
       elim (cases_eq m n) [
@@ -359,7 +359,7 @@ module _ (number : ℕ) (circuits : List Static) (sessions : Sessions Session) (
       elim (value_at sessions m) as (λ o. value_at sessions m ≡ o → is_some o ≡ true → IsNumberOf sessions.shard m) [
         | None ↦ λ e f. absurd (false≢true f)
         | Some x ↦ λ e f.
-            let there = stands_for number circuits 1022 sessions begun h m x e in
+            let there = stands_for now number circuits 1022 sessions begun h m x e in
             let shard = h.shard in
             let low = there.low in
             let high = there.high in
@@ -367,26 +367,26 @@ module _ (number : ℕ) (circuits : List Static) (sessions : Sessions Session) (
       ] refl some
 
   -- none passes a test that each provisioned circuit fails, so none is listed
-  opened_fails : (test : Session → Bool) → ((c : Static) (serial : ℕ) → test (provisioned c serial) ≡ false) → (n : ℕ) (o : Option Session) → value_at sessions n ≡ o → does_pass test o ≡ false
+  opened_fails : (test : Session → Bool) → ((c : Static) (serial : ℕ) → test (provisioned now c serial) ≡ false) → (n : ℕ) (o : Option Session) → value_at sessions n ≡ o → does_pass test o ≡ false
   opened_fails test all n None e = refl
-  opened_fails test all n (Some x) e = let there = stands_for number circuits 1022 sessions begun h n x e in ap test there.is ∙ all there.c there.serial
+  opened_fails test all n (Some x) e = let there = stands_for now number circuits 1022 sessions begun h n x e in ap test there.is ∙ all there.c there.serial
 
-  pub opened_listed : (test : Session → Bool) → ((c : Static) (serial : ℕ) → test (provisioned c serial) ≡ false) → AreListed test sessions []
+  pub opened_listed : (test : Session → Bool) → ((c : Static) (serial : ℕ) → test (provisioned now c serial) ≡ false) → AreListed test sessions []
   opened_listed test all n = ap {B = ℕ} (λ (b : Bool). cond b 1 0) (sym (opened_fails test all n (value_at sessions n) refl))
 
-  pub opened_none : (test : Session → Bool) → ((c : Static) (serial : ℕ) → test (provisioned c serial) ≡ false) → passing_in test sessions ≡ 0
+  pub opened_none : (test : Session → Bool) → ((c : Static) (serial : ℕ) → test (provisioned now c serial) ≡ false) → passing_in test sessions ≡ 0
   opened_none test all = sum_nothing (λ (x : Session). cond (test x) 1 0) (values sessions) (λ x c. let n = numbered sessions x c in ap {B = ℕ} (λ (b : Bool). cond b 1 0) (opened_fails test all n.0 (Some x) n.1))
 
   -- each is a circuit that has not ended, with the lease of its term
   pub opened_leased : AreLeased sessions
   opened_leased m x e =
-      let there = stands_for number circuits 1022 sessions begun h m x e in
+      let there = stands_for now number circuits 1022 sessions begun h m x e in
       subst (λ (y : Session). KeepsLease y.service y.lease) (sym there.is) tt
 
-  pub opened_is : (profiles : List Profile) (now : ℕ) → All (λ c. IsNumberOf number c.session.0) circuits
+  pub opened_is : (profiles : List Profile) → All (λ c. IsNumberOf number c.session.0) circuits
       → ◌≡◌ {A = State} (record { sessions = sessions; begun = begun; asked = 0; terms = tenures_after now 0 (in_order number circuits); news = []; passed = none_passed; meters = opened_meters number profiles circuits now; tunnels = no_tunnels number }) (opened_slots number profiles circuits now)
-  opened_is profiles now own =
-      let map = from_entries_of sessions.by_number (numbered_after 0 (in_order number circuits)) h.stand in
+  opened_is profiles own =
+      let map = from_entries_of sessions.by_number (numbered_after now 0 (in_order number circuits)) h.stand in
       let one : Static → ℕ = λ _. 1 in
       let count : begun ≡ length circuits =
       h.counted ∙ sym (ones (in_order number circuits)) ∙ sum_in_order one number circuits (recursion_from_All (λ (c : Static). IsNumberOf number c.session.0) circuits own) ∙ ones circuits in

@@ -1,14 +1,17 @@
 -- The terms of provisioned circuits end by the gateway's own stop alone, and each term by one of the causes that there are: what each entry
 -- keeps of it.
-use Rattle.std.proofs.Common.{◌≡◌, ◌≢◌, ◌⊎◌, inl, inr, ℕ, zero, suc, ◌+◌, ◌<◌, ◌≤◌, Bool, true, false, not, ◌&&◌, List, [], ◌∷◌, length, cond, map, Option, Some, None, IfSome, refl, sym, ap, subst, ◌∙◌, arith}
+use Rattle.std.proofs.Common.{◌≡◌, ◌≢◌, inl, inr, ℕ, zero, suc, ◌+◌, ◌<◌, ◌≤◌, Bool, true, false, not, ◌&&◌, ◌==◌, List, [], ◌∷◌, length, cond, map, Option, Some, None, IfSome, refl, sym, ap, subst, ◌∙◌, arith}
 use Rattle.std.specs.List.{All, AllByRecursion, AllPairs, Contains}
 use Rattle.std.proofs.lemmas.Bool.{cases_eq, ne_eqb}
 use Rattle.std.proofs.lemmas.List.Elements.{All-filter, All-from_recursion, recursion_from_All, All-push}
 use Rattle.bng_base.specs.declared.address.Ip4.{Ip4}
+use Rattle.bng_base.specs.declared.item.Entry.{Entry}
 use Rattle.bng_base.specs.declared.item.OutRecord.{OutRecord}
 use Rattle.bng_base.specs.declared.book.Profile.{Profile}
 use Rattle.bng_base.specs.declared.settings.Static.{Static}
 use Rattle.bng_ppp.specs.declared.whole_input.WholeInput.TheVariants.{Close, Start, Timer}
+use Rattle.bng_coa.specs.Wants.{wanted}
+use Rattle.bng_radius_wire.specs.Grammar.{Packet}
 use Rattle.bng_slots.specs.Listed.{values}
 use Rattle.bng_slots.specs.Sessions.{value_at, with_value}
 use Rattle.bng_slots.proofs.SessionLaws.{value_at-with_value, value_at-with_other}
@@ -20,20 +23,22 @@ use Rattle.bng_shard.specs.declared.session.Service.TheVariants.{Provisioned}
 use Rattle.bng_shard.specs.declared.session.Session.{Session}
 use Rattle.bng_shard.specs.Deed.{Deed, at_of}
 use Rattle.bng_shard.specs.Discovery.{new_session}
-use Rattle.bng_shard.specs.Lasting.{CircuitsLast, IsCause}
+use Rattle.bng_shard.specs.Changes.{Found, changed_by, found_by, lease_after, place_of, recast_by}
+use Rattle.bng_shard.specs.Lasting.{CircuitsLast, IsCause, IsCircuitCause, IsLapse}
 use Rattle.bng_shard.specs.Link.{Drives, LinkStep, Told, ended, hears, nas_request, settles, told, user_request}
 use Rattle.bng_shard.specs.Metered.{meters_of}
 use Rattle.bng_shard.specs.Opening.{in_order, numbered_after, opened_slots, tenures_after}
-use Rattle.bng_shard.specs.Passing.{lapsed, looked, passed_at}
+use Rattle.bng_shard.specs.Passing.{lapsed, looked}
 use Rattle.bng_shard.specs.State.{State, leaves, made_one, settled, with_driven, with_ended, with_session}
 use Rattle.bng_shard.specs.Step.{Step}
 use Rattle.bng_shard.specs.Tenures.{Tenure, closed, is_over, kept_lease, over_by}
 use Rattle.bng_shard.specs.Verdicts.{Judges, next_lease, next_term, settled_by, with_term}
 use Rattle.bng_shard.proofs.InOrder.{apart_of, opened_entries}
-use Rattle.bng_shard.proofs.KnownCauses.{heard_known, lapsed_known, told_known}
+use Rattle.bng_shard.proofs.KnownCauses.{heard_known, lapse_known, told_known}
 use Rattle.bng_shard.proofs.SeenLeases.{looked_was}
+use Rattle.bng_shard.proofs.Changing.{found_is}
 use Rattle.bng_shard.proofs.Values.{kept_from, none_some, same_some, stands}
-use Rattle.bng_shard.proofs.Walking.{Stops, WalksBy, step_walks_by}
+use Rattle.bng_shard.proofs.Walking.{Stops, WalksBy, change_walks_by, step_walks_by}
 
 pub lease_was : (cause : Option ℕ) (lease : Option Lease) (l : Lease) → kept_lease cause lease ≡ Some l → lease ≡ Some l
 lease_was None lease l e = e
@@ -78,16 +83,16 @@ closed_known : (lease : Option Lease) (cause : Option ℕ) (ts : List Tenure) �
 closed_known lease cause ts known = closed_holds HasKnownCause lease cause ts (λ l c leased is t same. subst (λ (o : Option ℕ). IfSome o IsCause) is known)
 
 module _ (circuits : ℕ) where
-  -- a term of a circuit is live, or ended by the gateway's own stop
+  -- a term of a circuit is live, or was ended by no subscriber
   abbrev Lasting : Tenure → Type 0
-  Lasting t = t.term.serial ≤ circuits → (t.cause ≡ None) ⊎ (t.cause ≡ Some nas_request)
+  Lasting t = t.term.serial ≤ circuits → IfSome t.cause IsCircuitCause
 
-  -- only the gateway's own stop ends a term with the number of a circuit's
+  -- no subscriber ends a term with the number of a circuit's
   abbrev Spares : Option Lease → Option ℕ → Type 0
-  Spares lease cause = (l : Lease) (c : ℕ) → lease ≡ Some l → cause ≡ Some c → l.serial ≤ circuits → c ≡ nas_request
+  Spares lease cause = (l : Lease) (c : ℕ) → lease ≡ Some l → cause ≡ Some c → l.serial ≤ circuits → IsCircuitCause c
 
   closed_lasts : (lease : Option Lease) (cause : Option ℕ) (ts : List Tenure) → Spares lease cause → All Lasting ts → All Lasting (closed lease cause ts)
-  closed_lasts lease cause ts spares = closed_holds Lasting lease cause ts (λ l c leased is t same low. inr (ap Some (spares l c leased is (omega (arith, same, low)))))
+  closed_lasts lease cause ts spares = closed_holds Lasting lease cause ts (λ l c leased is t same low. spares l c leased is (omega (arith, same, low)))
 
   -- Sessions ---------------------------------------------------------------------------------------------------------------
 
@@ -166,21 +171,51 @@ module _ (circuits : ℕ) where
     passes = λ s n moment ms h. record { few = h.few; later = h.later; causes = h.causes; known = h.known };
     looks = λ s n at x found h. record { few = h.few; later = later_with s n (looked at x) (looked_later s n at x found h) h.later; causes = h.causes; known = h.known };
     lapses = λ e s n x x' outs cause none asked' at over drives.
-        keeps_with s n x.lease (Some cause) x' asked' (lapsed_known (passed_at s.passed x.number) x.lease e.moment cause over)
+        keeps_with s n x.lease (Some cause) x' asked' (lapse_known cause over)
         (λ h l is leased. absurd (none_some l (drives_was r (at_of s e) s.asked (lapsed x) x' outs none asked' (told r e Close) drives l leased)))
         (made_spares s n x (Some cause) at (ap made_one drives.is_made));
+    lapses_circuit = λ s n x over cause at is lapse.
+        keeps_with s n x.lease (Some cause) (lapsed x) s.asked (lapse_known cause lapse) (λ h. none_later (lapsed x) refl)
+        (λ h l c leased same low. inl (subst IsLapse (same_some cause c same) lapse));
     tells = λ s t h. record { few = h.few; later = h.later; causes = h.causes; known = h.known };
   }
 
   keeps_stops : Stops Keeps
-  keeps_stops s n x at = keeps_ended s n x nas_request (inr (inr (inr (inr refl)))) (λ h l c leased is low. sym (same_some nas_request c is))
+  keeps_stops s n x at = keeps_ended s n x nas_request (inr (inr (inr refl))) (λ h l c leased is low. inr (sym (same_some nas_request c is)))
+
+  -- what holds of a term under whatever profile holds of each once one is under another
+  each_recast : (P : Tenure → Type 0) (place : ℕ) → ((t : Tenure) → P t → P (record t { profile = place })) → (serial : ℕ) (ts : List Tenure) → AllByRecursion P ts → AllByRecursion P (map (recast_by serial place) ts)
+  each_recast P place still serial [] h = tt
+  each_recast P place still serial (t ∷ ts) h = (one_recast P place still ((t.term.serial == serial) && not (is_over t)) t h.0, each_recast P place still serial ts h.1)
+    where
+      one_recast : (P : Tenure → Type 0) (place : ℕ) → ((t : Tenure) → P t → P (record t { profile = place })) → (b : Bool) (t : Tenure) → P t → P (cond b (record t { profile = place }) t)
+      one_recast P place still true t h = still t h
+      one_recast P place still false t h = h
+
+  recast_holds : (P : Tenure → Type 0) (place : ℕ) → ((t : Tenure) → P t → P (record t { profile = place })) → (serial : ℕ) (ts : List Tenure) → All P ts → All P (map (recast_by serial place) ts)
+  recast_holds P place still serial ts h = All-from_recursion P (map (recast_by serial place) ts) (each_recast P place still serial ts (recursion_from_All P ts h))
+
+  -- a term is under another profile, and within other limits
+  keeps_recast : (r : Rules) (s : State) (e : Entry) (p : Packet) (f : Found) → found_by r s p.attributes ≡ Some f → Keeps s (changed_by r s e p f)
+  keeps_recast r s e p f is h =
+      let found = found_is r s p.attributes f is in
+      let w = wanted r.profiles p in
+      let place = place_of f.term.profile w in
+      let k = lease_after f.lease w place in
+      let n = f.term.term.session.0 in
+      record {
+        few = h.few;
+        later = later_with s n (record f.session { lease = Some k }) (λ l made leased. omega (arith, h.later n f.session f.lease found.at made found.leased, ap (λ (j : Lease). j.serial) (same_some k l leased))) h.later;
+        causes = recast_holds Lasting place (λ t lasts. lasts) k.serial s.terms h.causes;
+        known = recast_holds HasKnownCause place (λ t known. known) k.serial s.terms h.known;
+      }
 
   -- a term begins, numbered on
   begun_keeps : (s : State) (n : ℕ) (y : Session) (asked : ℕ) (k : Lease) (t : Tenure) (ms : Meters) → k.serial ≡ s.begun + 1 → t.cause ≡ None → Keeps s (with_term s n y asked k t ms)
   begun_keeps s n y asked k t ms serial live h = record {
     few = omega (arith, h.few);
     later = later_with s n (record y { lease = Some k }) (λ l made is. omega (arith, h.few, serial, ap (λ (j : Lease). j.serial) (same_some k l is))) h.later;
-    causes = All-push Lasting s.terms t h.causes (λ low. inl live);
+    causes = All-push Lasting s.terms t h.causes (λ low. subst (λ (o : Option ℕ). IfSome o IsCircuitCause) (sym live) tt);
     known = All-push HasKnownCause s.terms t h.known (subst (λ (o : Option ℕ). IfSome o IsCause) (sym live) tt);
   }
 
@@ -192,7 +227,9 @@ module _ (circuits : ℕ) where
     judged_keeps t h (Some a) = begun_keeps s d.entry.item.target h.after h.asked (next_lease s t.plan t.limits d.entry.moment a) (next_term s h.x h.question t.plan t.class d.entry.moment a) (meters_of t.plan d.entry.moment) refl refl
 
     pub circuits_kept : Step r s limited d → CircuitsLast circuits s → CircuitsLast circuits d.next
-    circuits_kept = step_walks_by r Keeps (keeps_walk r) keeps_stops s limited d (λ t decides h. judged_keeps t h t.lease)
+    circuits_kept =
+        step_walks_by r Keeps (keeps_walk r) keeps_stops s limited d (λ t decides h. judged_keeps t h t.lease)
+        (λ is h. change_walks_by r Keeps (keeps_walk r) s limited d.entry d (λ p f found. keeps_recast r s d.entry p f found) h)
 
   pub circuits_settled : (s : State) → CircuitsLast circuits s → CircuitsLast circuits (settled s)
   circuits_settled s h = record {
@@ -206,24 +243,24 @@ module _ (circuits : ℕ) where
 
 each_live : (circuits now k : ℕ) (cs : List Static) → AllByRecursion (Lasting circuits) (tenures_after now k cs)
 each_live circuits now k [] = tt
-each_live circuits now k (c ∷ cs) = (λ low. inl refl, each_live circuits now (k + 1) cs)
+each_live circuits now k (c ∷ cs) = (λ low. tt, each_live circuits now (k + 1) cs)
 
 none_over : (now k : ℕ) (cs : List Static) → AllByRecursion HasKnownCause (tenures_after now k cs)
 none_over now k [] = tt
 none_over now k (c ∷ cs) = (tt, none_over now (k + 1) cs)
 
 -- each session is of a circuit
-of_circuit : (k : ℕ) (cs : List Static) (x : Session) → Contains (map (λ e. e.1) (numbered_after k cs)) x → x.service ≡ Provisioned false
-of_circuit k [] x (i, within, is) = absurd (omega (arith, within))
-of_circuit k (c ∷ cs) x (zero, within, is) = ap (λ (y : Session). y.service) (sym is)
-of_circuit k (c ∷ cs) x (suc i, within, is) = of_circuit (k + 1) cs x (i, omega (arith, within), is)
+of_circuit : (now k : ℕ) (cs : List Static) (x : Session) → Contains (map (λ e. e.1) (numbered_after now k cs)) x → x.service ≡ Provisioned false
+of_circuit now k [] x (i, within, is) = absurd (omega (arith, within))
+of_circuit now k (c ∷ cs) x (zero, within, is) = ap (λ (y : Session). y.service) (sym is)
+of_circuit now k (c ∷ cs) x (suc i, within, is) = of_circuit now (k + 1) cs x (i, omega (arith, within), is)
 
 pub are_circuits : (number : ℕ) (circuits : List Static) (now : ℕ) → AllPairs (λ a b. a.session ≢ b.session) circuits → (n : ℕ) (x : Session)
     → value_at (opened_slots number [] circuits now).sessions n ≡ Some x → x.service ≡ Provisioned false
 are_circuits number circuits now apart n x at =
     let s = opened_slots number [] circuits now in
-    let same : values s.sessions ≡ map (λ e. e.1) (numbered_after 0 (in_order number circuits)) = ap (λ es. map (λ e. e.1) es) (opened_entries number circuits now (apart_of circuits apart)) in
-    of_circuit 0 (in_order number circuits) x (subst (λ (xs : List Session). Contains xs x) same (stands s.sessions n x at))
+    let same : values s.sessions ≡ map (λ e. e.1) (numbered_after now 0 (in_order number circuits)) = ap (λ es. map (λ e. e.1) es) (opened_entries number circuits now (apart_of circuits apart)) in
+    of_circuit now 0 (in_order number circuits) x (subst (λ (xs : List Session). Contains xs x) same (stands s.sessions n x at))
 
 pub circuits_opened : (number : ℕ) (profiles : List Profile) (circuits : List Static) (now : ℕ) → AllPairs (λ a b. a.session ≢ b.session) circuits → CircuitsLast (length circuits) (opened_slots number profiles circuits now)
 circuits_opened number profiles circuits now apart = record {

@@ -14,6 +14,7 @@ use Rattle.bng_base.specs.declared.item.ItemKind.TheVariants.{Access, Core, Tunn
 use Rattle.bng_base.specs.declared.item.OutRecord.{OutRecord}
 use Rattle.bng_base.specs.declared.settings.AccessPort.{AccessPort}
 use Rattle.bng_base.specs.PppoeGrammar.{PppoeFrame, PppoeTag}
+use Rattle.bng_coa.specs.Wants.{wanted}
 use Rattle.bng_discovery.specs.declared.answers.Answer.{Answer}
 use Rattle.bng_discovery.specs.declared.answers.Answer.TheVariants.{Offer, Make, Again, Refuse, Ended, NoSession, Ignore}
 use Rattle.bng_discovery.specs.declared.port.PortRules.{PortRules}
@@ -30,20 +31,23 @@ use Rattle.bng_shard.specs.Claiming.{IsAskedBy}
 use Rattle.bng_shard.specs.Made.{Made, Question}
 use Rattle.bng_shard.specs.declared.rules.Rules.{Rules}
 use Rattle.bng_base.specs.declared.item.At.{At}
+use Rattle.bng_shard.specs.declared.session.Lease.{Lease}
 use Rattle.bng_shard.specs.declared.session.Service.{Service}
 use Rattle.bng_shard.specs.declared.session.Service.TheVariants.{Provisioned, Discovered}
 use Rattle.bng_shard.specs.declared.session.Session.{Session}
 use Rattle.bng_shard.specs.State.{State, is_on, session_of, where_on, with_session, with_driven, with_ended, with_tunnels}
+use Rattle.bng_shard.specs.Changes.{lease_after, place_of}
 use Rattle.bng_shard.specs.Deed.{Deed, arrival_in, at_of}
 use Rattle.bng_shard.specs.Discovery.{Answers, Makes, host_uniq_of, new_session}
 use Rattle.bng_shard.specs.Frames.{HearsData, HearsPpp, HearsControl, HearsIn, HearsFrame, HearsAccess, HearsCore}
 use Rattle.bng_shard.specs.Granting.{IsSound}
-use Rattle.bng_shard.specs.Link.{LinkStep, Drives, Told, asked_after, ended, ended_service, hears, nas_request, next_ask, question_after, settles, told}
+use Rattle.bng_shard.specs.Link.{LinkStep, Drives, Told, admin_reset, asked_after, ended, ended_service, hears, nas_request, next_ask, question_after, settles, told}
 use Rattle.bng_shard.specs.Passing.{cause_at, lapsed, looked, passed_at}
 use Rattle.bng_shard.specs.Questions.{Asking, asking_of, last_asking, last_asking_at, last_in}
 use Rattle.bng_shard.specs.Step.{Hears, Step}
-use Rattle.bng_shard.specs.Timers.{IsTimed, LooksAt, Ticks, Ends, at_once}
+use Rattle.bng_shard.specs.Timers.{IsTimed, LooksAt, LosesTerm, TimesIn, Ticks, Ends, at_once}
 use Rattle.bng_shard.specs.Verdicts.{HearsVerdict, Judges, next_lease, settled_by}
+use Rattle.bng_shard.proofs.Changing.{Comes, change_comes}
 use Rattle.bng_shard.proofs.GrantLaws.{if_some, last_there, last_with, step_last}
 use Rattle.bng_shard.proofs.LinkSteps.{verdict_of, verdict_steps}
 use Rattle.bng_shard.proofs.Naming.{at_number, same_made}
@@ -118,24 +122,37 @@ silent_keeps r s n a x Steps outs cause x' asked' at h silent q is =
     last_there s n x at h.made h.is_made q (silent_last r a s.asked x Steps outs cause x' asked' h silent q is)
     ∙ ap (λ (b : Asking). Some b) (sym (same_asking r a s.asked x Steps outs cause x' asked' h q))
 
+-- and so does one that is leased in another way
+leased_keeps : (s : State) (n : ℕ) (x : Session) (lease : Option Lease) → value_at s.sessions n ≡ Some x → Keeps s (with_session s n (record x { lease = lease }))
+leased_keeps s n x lease at = with_keeps s n (record x { lease = lease }) (λ q is. ap (option_and_then last_asking) at ∙ ap (option_map (asking_of x)) is)
+
 module _ (r : Rules) (e : Entry) where
-  looks_keep : (o : Option ℕ) (s : State) (n : ℕ) (x : Session) (outs : List OutRecord) (s' : State) → value_at s.sessions n ≡ Some x → LooksAt o r e s n x outs s' → Keeps s s'
-  looks_keep None s n x outs s' at (none, next) =
-      let y = looked (passed_at s.passed x.number) x in
-      subst (Keeps s) (sym next) (with_keeps s n y (λ q is. ap (option_and_then last_asking) at ∙ ap (option_map (asking_of x)) is))
-  looks_keep (Some cause) s n x outs s' at (y, none, asked', drives, next) =
+  -- the live term of a session ends, and its link takes Close, if it has one
+  loses_keep : (v : Service) (cause : ℕ) (s : State) (n : ℕ) (x : Session) (outs : List OutRecord) (s' : State) → value_at s.sessions n ≡ Some x → LosesTerm v cause r e s n x outs s' → Keeps s s'
+  loses_keep (Provisioned over) cause s n x outs s' at (none, next) = subst (Keeps s) (sym next) (leased_keeps s n x None at)
+  loses_keep (Discovered m) cause s n x outs s' at (y, none, asked', drives, next) =
       let silent = only_frames_ask r.link e.moment e.item.random Close drives.made.link drives.says drives.link drives.steps refl in
       subst (Keeps s) (sym next) (with_keeps s n y (λ q is.
       last_there s n x at drives.made drives.is_made q (silent_last r (at_of s e) s.asked (lapsed x) (told r e Close) outs none y asked' drives silent q is)
       ∙ ap (λ (b : Asking). Some b) (sym (same_asking r (at_of s e) s.asked (lapsed x) (told r e Close) outs none y asked' drives q))))
 
-  timed_keeps : (s : State) (n : ℕ) (outs : List OutRecord) (s' : State) → IsTimed r e s n outs s' → Keeps s s'
-  timed_keeps s n outs s' h =
-      let next = with_driven s n h.x.lease h.cause h.after h.asked in
+  looks_keep : (o : Option ℕ) (s : State) (n : ℕ) (x : Session) (outs : List OutRecord) (s' : State) → value_at s.sessions n ≡ Some x → LooksAt o r e s n x outs s' → Keeps s s'
+  looks_keep None s n x outs s' at (none, next) =
+      let y = looked (passed_at s.passed x.number) x in
+      subst (Keeps s) (sym next) (with_keeps s n y (λ q is. ap (option_and_then last_asking) at ∙ ap (option_map (asking_of x)) is))
+  looks_keep (Some cause) s n x outs s' at h = loses_keep x.service cause s n x outs s' at h
+
+  times_keep : (v : Service) (s : State) (n : ℕ) (x : Session) (outs : List OutRecord) (s' : State) → value_at s.sessions n ≡ Some x → TimesIn v r e s n x outs s' → Keeps s s'
+  times_keep (Provisioned over) s n x outs s' at h = looks_keep (cause_at (passed_at s.passed x.number) x.lease e.moment) s n x outs s' at h
+  times_keep (Discovered m) s n x outs s' at h =
+      let next = with_driven s n x.lease h.cause h.after h.asked in
       chain_keeps s next s'
-      (with_keeps s n h.after (silent_keeps r s n (at_of s e) h.x (told r e Timer) h.first h.cause h.after h.asked h.found h.drives
+      (with_keeps s n h.after (silent_keeps r s n (at_of s e) x (told r e Timer) h.first h.cause h.after h.asked at h.drives
       (only_frames_ask r.link e.moment e.item.random Timer h.drives.made.link h.drives.says h.drives.link h.drives.steps refl)))
       (looks_keep (cause_at (passed_at s.passed h.after.number) h.after.lease e.moment) next n h.after h.then s' (value_at-with_value s.sessions n h.after) h.looks)
+
+  timed_keeps : (s : State) (n : ℕ) (outs : List OutRecord) (s' : State) → IsTimed r e s n outs s' → Keeps s s'
+  timed_keeps s n outs s' (x, at, h) = times_keep x.service s n x outs s' at h
 
   ticks_keep : (k : ℕ) (s : State) (outs : List OutRecord) (s' : State) → Ticks k r e s outs s' → Keeps s s'
   ticks_keep zero s outs s' h = same_keeps s s' h.1
@@ -210,6 +227,14 @@ module _ (r : Rules) (s : State) (limited : Bool) (d : Deed) where
   judged (inr (inl (asks, decides, h))) = still _ h refl
   judged (inr (inr (other, none, h))) = still _ h refl
 
+  -- a request for a change asks nothing
+  changes : Comes r s d.entry d → Heard
+  changes (inl h) = still _ h refl
+  changes (inr (inl (p, f, is, h))) =
+      let w = wanted r.profiles p in
+      keeping _ h (leased_keeps s f.term.term.session.0 f.session (Some (lease_after f.lease w (place_of f.term.profile w))) is.at)
+  changes (inr (inr (p, f, is, outs, s', loses, h))) = keeping _ h (loses_keep r d.entry f.session.service admin_reset s f.term.term.session.0 f.session outs s' is.at loses)
+
   -- the frame of a session, which its link hears
   module _ (sound : IsSound s) (number : ℕ) (kind : d.entry.item.kind ≡ Access number) (p : PppoeFrame) (came : IsFrame r.access number (arrival_in d.entry) p) where
     asked_by : (data_frame : p.discovery ≡ false) (x : Session) → session_of s number p.src p.session ≡ Some x → (outs : List OutRecord) (cause : Option ℕ) (x' : Session) (asked' : ℕ)
@@ -283,7 +308,7 @@ module _ (r : Rules) (s : State) (limited : Bool) (d : Deed) where
   hears_heard sound Core is h = core h
   hears_heard sound Tunnel is h = λ n a found. inl (ap (λ (u : State). last_asking_at u n) (sym (tunnel_spoke r s d.entry d h).next) ∙ found)
   hears_heard sound Verdict is h = judged h
-  hears_heard sound Change is h = still _ h refl
+  hears_heard sound Change is h = changes (change_comes r s d.entry d h)
   hears_heard sound Tick is (first, t, spoken, rest, s', ticks, h) = keeping _ h (chain_keeps s (with_tunnels s t) s' (λ n a found. found) (ticks_keep r d.entry at_once (with_tunnels s t) rest s' ticks))
   hears_heard sound End is (first, next, all, rest, t, stops, h) = keeping _ h (chain_keeps s next (with_tunnels next t) (ends_keep r d.entry at_once s first next all) (λ n a found. found))
 

@@ -1,5 +1,5 @@
 -- A step tells a peer yes only where that was granted.
-use Rattle.std.proofs.Common.{◌≡◌, ◌⊎◌, inl, inr, ℕ, zero, suc, ◌+◌, ◌-◌, ◌^◌, ◌<◌, ◌≤◌, Bool, true, false, not, ◌&&◌, List, [], ◌∷◌, ◌++◌, Option, Some, None, is_some, if◌then◌else◌, Contains, refl, sym, ap, subst, ◌∙◌, arith}
+use Rattle.std.proofs.Common.{◌≡◌, ◌⊎◌, inl, inr, ℕ, zero, suc, ◌+◌, ◌-◌, ◌^◌, ◌<◌, ◌≤◌, Bool, true, false, not, ◌&&◌, List, [], ◌∷◌, ◌++◌, Option, Some, None, is_some, map, if◌then◌else◌, Contains, refl, sym, ap, subst, ◌∙◌, arith}
 use Rattle.std.specs.Prelude.{IsSome, slice_set}
 use Rattle.std.specs.Option.{option_map, option_and_then}
 use Rattle.std.proofs.lemmas.Bool.{cases_eq, false≢true}
@@ -15,6 +15,7 @@ use Rattle.bng_base.specs.declared.item.ItemKind.TheVariants.{Access, Core, Tunn
 use Rattle.bng_base.specs.declared.item.OutRecord.{OutRecord}
 use Rattle.bng_base.specs.declared.settings.AccessPort.{AccessPort}
 use Rattle.bng_base.specs.PppoeGrammar.{PppoeFrame, PppoeTag}
+use Rattle.bng_coa.specs.Wants.{wanted}
 use Rattle.bng_discovery.specs.declared.answers.Answer.{Answer}
 use Rattle.bng_discovery.specs.declared.answers.Answer.TheVariants.{Offer, Make, Again, Refuse, Ended, NoSession, Ignore}
 use Rattle.bng_discovery.specs.declared.port.PortRules.{PortRules}
@@ -45,20 +46,22 @@ use Rattle.bng_shard.specs.declared.session.Service.{Service}
 use Rattle.bng_shard.specs.declared.session.Service.TheVariants.{Provisioned, Discovered}
 use Rattle.bng_shard.specs.declared.session.Session.{Session}
 use Rattle.bng_shard.specs.State.{State, circuit_of, leaves, session_of, settled, with_session, with_driven, with_ended, with_tunnels}
+use Rattle.bng_shard.specs.Changes.{lease_after, meters_after, place_of, recast_by, with_change}
 use Rattle.bng_shard.specs.Deed.{Deed, at_of, frame_outs}
 use Rattle.bng_shard.specs.Discovery.{Answers, Makes, host_uniq_of, new_session}
 use Rattle.bng_shard.specs.Frames.{HearsData, HearsPpp, HearsControl, HearsIn, HearsFrame, HearsAccess, HearsCore}
 use Rattle.bng_shard.specs.Granting.{HasQuestion, IsGranted, IsGrantedOn, IsSound, IsYesOn, accepted_ask_at, accepted_in}
 use Rattle.bng_shard.specs.L2tp.{HearsTunnel, TellInTurn, TellsIts, tunnel_outs, tunnels_most}
-use Rattle.bng_shard.specs.Link.{LinkStep, Drives, EndsWith, Told, asked_after, ended, ended_service, hears, nas_request, next_ask, question_after, settles, told, user_request}
+use Rattle.bng_shard.specs.Link.{LinkStep, Drives, EndsWith, Told, admin_reset, asked_after, ended, ended_service, hears, nas_request, next_ask, question_after, settles, told, user_request}
 use Rattle.bng_shard.specs.Metered.{meters_at, meters_of, spent_input, spent_output}
 use Rattle.bng_shard.specs.Passing.{cause_at, lapsed, looked, passed_at, place_in, with_passed}
 use Rattle.bng_shard.specs.Questions.{Asking, asking_of, last_asking, last_asking_at, last_in, open_ask_at, open_in, open_of}
 use Rattle.bng_shard.specs.Step.{Hears, Step}
 use Rattle.bng_shard.specs.Tenures.{Tenure, closed}
-use Rattle.bng_shard.specs.Timers.{IsTimed, LooksAt, Ticks, Ends, HearsTick, HearsEnd, StopsTunnels, at_once, TellsEnd}
+use Rattle.bng_shard.specs.Timers.{IsTimed, LooksAt, LosesTerm, TimesIn, Ticks, Ends, HearsTick, HearsEnd, StopsTunnels, at_once, TellsEnd}
 use Rattle.bng_shard.specs.Verdicts.{HearsVerdict, Judges, next_lease, next_term, settled_by}
 use Rattle.bng_shard.specs.Wishes.{Decides, refused_with}
+use Rattle.bng_shard.proofs.Changing.{Comes, change_comes}
 use Rattle.bng_shard.proofs.Granted.{NoYes, both_no_yes, core_no_yes, discovery_no_yes, none_yes, packet_no_yes, padt_no_yes, said_yes, tunnel_no_yes}
 use Rattle.bng_shard.proofs.LinkSteps.{frame_of, verdict_of, frame_steps, verdict_steps}
 use Rattle.bng_shard.proofs.Naming.{at_number}
@@ -409,6 +412,21 @@ kept_still s n x y outs terms at number has accepted last circuit none = record 
   asked = refl;
 }
 
+-- one that is leased in another way does, whose term ends or is changed
+leased_still : (s : State) (n : ℕ) (x : Session) (lease : Option Lease) (terms : List Tenure) → value_at s.sessions n ≡ Some x → Still s [] (state_with s n (record x { lease = lease }) s.asked s.begun terms s.news s.meters)
+leased_still s n x lease terms at = kept_still s n x (record x { lease = lease }) [] terms at refl (λ h. h) refl refl (λ q. refl) none_yes
+
+changed_still : (s : State) (n : ℕ) (x : Session) (l : Lease) (meters : List Meters) → value_at s.sessions n ≡ Some x → Still s [] (with_change s n x l meters)
+changed_still s n x l meters at =
+    let h = leased_still s n x (Some l) (map (recast_by l.serial l.profile) s.terms) at in
+    record {
+      sound = λ sound. let k = h.sound sound in record { shard = k.shard; own = k.own; of_shard = k.of_shard; questions = k.questions };
+      yes = h.yes;
+      accepted = h.accepted;
+      last = h.last;
+      asked = h.asked;
+    }
+
 -- one that ends does
 over_still : (s : State) (n : ℕ) (x : Session) (outs : List OutRecord) (terms : List Tenure) → value_at s.sessions n ≡ Some x → NoYes outs → Still s outs (state_with s n (ended x) s.asked s.begun terms s.news s.meters)
 over_still s n x outs terms at none = kept_still s n x (ended x) outs terms at refl (has_ended x.service) (same_accepted x.service) (same_last x.service) (λ q. refl) none
@@ -516,20 +534,30 @@ module _ (r : Rules) (e : Entry) where
   empty_no_yes : (outs : List OutRecord) → outs ≡ [] → NoYes outs
   empty_no_yes outs e = subst (λ (os : List OutRecord). NoYes os) (sym e) none_yes
 
-  looks_still : (o : Option ℕ) (s : State) (n : ℕ) (x : Session) (outs : List OutRecord) (s' : State) → value_at s.sessions n ≡ Some x → LooksAt o r e s n x outs s' → Still s outs s'
-  looks_still None s n x outs s' at (none, next) =
-      subst (Still s outs) (sym next) (kept_still s n x (looked (passed_at s.passed x.number) x) outs s.terms at refl (λ h. h) refl refl (λ q. refl) (empty_no_yes outs none))
-  looks_still (Some cause) s n x outs s' at (y, none, asked', drives, next) =
+  -- the live term of a session ends, and its link takes Close, if it has one
+  loses_still : (v : Service) (cause : ℕ) (s : State) (n : ℕ) (x : Session) (outs : List OutRecord) (s' : State) → value_at s.sessions n ≡ Some x → LosesTerm v cause r e s n x outs s' → Still s outs s'
+  loses_still (Provisioned over) cause s n x outs s' at (none, next) =
+      equal_still s [] outs s' none (subst (Still s []) (sym next) (leased_still s n x None (closed x.lease (Some cause) s.terms) at))
+  loses_still (Discovered m) cause s n x outs s' at (y, none, asked', drives, next) =
       let d = before_lapse Close s.asked x outs y asked' (drove r e (at_of s e) (told r e Close) Close (told_is Close) s.asked (lapsed x) outs none y asked' drives) in
       subst (Still s outs) (sym next) (drove_still s n x outs y asked' Close at d s.begun (closed x.lease (Some cause) s.terms) s.news s.meters refl refl)
 
-  timed_still : (s : State) (n : ℕ) (outs : List OutRecord) (s' : State) → IsTimed r e s n outs s' → Still s outs s'
-  timed_still s n outs s' h =
-      let d = drove r e (at_of s e) (told r e Timer) Timer (told_is Timer) s.asked h.x h.first h.cause h.after h.asked h.drives in
-      let next = with_driven s n h.x.lease h.cause h.after h.asked in
+  looks_still : (o : Option ℕ) (s : State) (n : ℕ) (x : Session) (outs : List OutRecord) (s' : State) → value_at s.sessions n ≡ Some x → LooksAt o r e s n x outs s' → Still s outs s'
+  looks_still None s n x outs s' at (none, next) =
+      subst (Still s outs) (sym next) (kept_still s n x (looked (passed_at s.passed x.number) x) outs s.terms at refl (λ h. h) refl refl (λ q. refl) (empty_no_yes outs none))
+  looks_still (Some cause) s n x outs s' at h = loses_still x.service cause s n x outs s' at h
+
+  times_still : (v : Service) (s : State) (n : ℕ) (x : Session) (outs : List OutRecord) (s' : State) → value_at s.sessions n ≡ Some x → TimesIn v r e s n x outs s' → Still s outs s'
+  times_still (Provisioned over) s n x outs s' at h = looks_still (cause_at (passed_at s.passed x.number) x.lease e.moment) s n x outs s' at h
+  times_still (Discovered m) s n x outs s' at h =
+      let d = drove r e (at_of s e) (told r e Timer) Timer (told_is Timer) s.asked x h.first h.cause h.after h.asked h.drives in
+      let next = with_driven s n x.lease h.cause h.after h.asked in
       equal_still s (h.first ++ h.then) outs s' h.outs_are
-      (chain_still s next s' h.first h.then (drove_still s n h.x h.first h.after h.asked Timer h.found d s.begun (closed h.x.lease h.cause s.terms) s.news s.meters refl refl)
+      (chain_still s next s' h.first h.then (drove_still s n x h.first h.after h.asked Timer at d s.begun (closed x.lease h.cause s.terms) s.news s.meters refl refl)
       (looks_still (cause_at (passed_at s.passed h.after.number) h.after.lease e.moment) next n h.after h.then s' (value_at-with_value s.sessions n h.after) h.looks))
+
+  timed_still : (s : State) (n : ℕ) (outs : List OutRecord) (s' : State) → IsTimed r e s n outs s' → Still s outs s'
+  timed_still s n outs s' (x, at, h) = times_still x.service s n x outs s' at h
 
   ticks_still : (k : ℕ) (s : State) (outs : List OutRecord) (s' : State) → Ticks k r e s outs s' → Still s outs s'
   ticks_still zero s outs s' h = same_still s s' outs h.1 (empty_no_yes outs h.0)
@@ -731,6 +759,15 @@ module _ (r : Rules) (s : State) (limited : Bool) (e : Entry) (d : Deed) where
   ends (first, next, all, rest, t, stops, h) =
       still _ h (chain_still s next (with_tunnels next t) first rest (ends_still r e at_once s first next all) (tells_still next t rest (stops_no_yes (at_of next e) e.moment next rest t stops)))
 
+  -- a request for a change tells nobody yes
+  changes : Comes r s e d → Deeds
+  changes (inl h) = quiet _ h refl none_yes
+  changes (inr (inl (p, f, is, h))) =
+      let w = wanted r.profiles p in
+      let place = place_of f.term.profile w in
+      still _ h (changed_still s f.term.term.session.0 f.session (lease_after f.lease w place) (meters_after r s f.session.number e.moment f.term.profile place) is.at)
+  changes (inr (inr (p, f, is, outs, s', loses, h))) = still _ h (loses_still r e f.session.service admin_reset s f.term.term.session.0 f.session outs s' is.at loses)
+
   tunnel : HearsTunnel r s e d → Deeds
   tunnel h =
       let spoke = tunnel_spoke r s e d h in
@@ -744,7 +781,7 @@ module _ (r : Rules) (s : State) (limited : Bool) (e : Entry) (d : Deed) where
   hears_grants Core is h = core h
   hears_grants Tunnel is h = tunnel h
   hears_grants Verdict is h = judged is h
-  hears_grants Change is h = quiet _ h refl none_yes
+  hears_grants Change is h = changes (change_comes r s e d h)
   hears_grants Tick is h = tick h
   hears_grants End is h = ends h
 

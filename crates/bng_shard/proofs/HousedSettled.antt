@@ -64,24 +64,24 @@ housed_none s h none =
 abbrev IsAmong : List (ℕ × Session) → Tenure → Type 0
 IsAmong es t = (x : Session) × (l : Lease) × (find_at nat_cmp t.term.session.0 es ≡ Some x) × (x.lease ≡ Some l) × (l.serial ≡ t.term.serial)
 
-among : (now k : ℕ) (cs : List Static) → T (is_sorted nat_cmp (numbered_after k cs)) → AllByRecursion (IsAmong (numbered_after k cs)) (tenures_after now k cs)
+among : (now k : ℕ) (cs : List Static) → T (is_sorted nat_cmp (numbered_after now k cs)) → AllByRecursion (IsAmong (numbered_after now k cs)) (tenures_after now k cs)
 among now k [] sorts = tt
 among now k (c ∷ cs) sorts =
-    let e : ℕ × Session = (c.session.0, provisioned c (k + 1)) in
-    let es = numbered_after (k + 1) cs in
-    ((provisioned c (k + 1), lease_from c (k + 1), first_found e es, refl, refl), all_weaker (IsAmong es) (IsAmong (e ∷ es)) later (tenures_after now (k + 1) cs) (among now (k + 1) cs (second _ _ sorts)))
+    let e : ℕ × Session = (c.session.0, provisioned now c (k + 1)) in
+    let es = numbered_after now (k + 1) cs in
+    ((provisioned now c (k + 1), lease_from now c (k + 1), first_found e es, refl, refl), all_weaker (IsAmong es) (IsAmong (e ∷ es)) later (tenures_after now (k + 1) cs) (among now (k + 1) cs (second _ _ sorts)))
   where
-    later : (t : Tenure) → IsAmong (numbered_after (k + 1) cs) t → IsAmong (numbered_after k (c ∷ cs)) t
-    later t (x, l, at, leased, same) = (x, l, behind (c.session.0, provisioned c (k + 1)) (numbered_after (k + 1) cs) t.term.session.0 x (first _ _ sorts) at, leased, same)
+    later : (t : Tenure) → IsAmong (numbered_after now (k + 1) cs) t → IsAmong (numbered_after now k (c ∷ cs)) t
+    later t (x, l, at, leased, same) = (x, l, behind (c.session.0, provisioned now c (k + 1)) (numbered_after now (k + 1) cs) t.term.session.0 x (first _ _ sorts) at, leased, same)
 
 pub housed_opened : (number : ℕ) (profiles : List Profile) (circuits : List Static) (now : ℕ) → AllPairs (λ a b. a.session ≢ b.session) circuits → AreHoused (opened_slots number profiles circuits now)
 housed_opened number profiles circuits now apart =
     let s = opened_slots number profiles circuits now in
     let cs = in_order number circuits in
-    let sorts = sorted (number * 1024 + 1) 0 cs (rising_in_order number circuits (apart_of circuits apart)) in
+    let sorts = sorted now (number * 1024 + 1) 0 cs (rising_in_order number circuits (apart_of circuits apart)) in
     record {
       phases = λ n x at. subst HasPhases (sym (are_circuits number circuits now apart n x at)) tt;
       lasting = λ n x l at leased. subst KeepsTerm (sym (are_circuits number circuits now apart n x at)) refl;
       housed = All-from_recursion (Housed s) (tenures_after now 0 cs)
-          (all_weaker (IsAmong (numbered_after 0 cs)) (Housed s) (λ t (x, l, at, leased, same) live. (x, l, get-from_sorted nat_cmp (numbered_after 0 cs) t.term.session.0 sorts ∙ at, leased, same)) (tenures_after now 0 cs) (among now 0 cs sorts));
+          (all_weaker (IsAmong (numbered_after now 0 cs)) (Housed s) (λ t (x, l, at, leased, same) live. (x, l, get-from_sorted nat_cmp (numbered_after now 0 cs) t.term.session.0 sorts ∙ at, leased, same)) (tenures_after now 0 cs) (among now 0 cs sorts));
     }

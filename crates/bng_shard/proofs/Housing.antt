@@ -7,6 +7,7 @@ use Rattle.std.proofs.lemmas.List.Elements.{All-from_recursion, recursion_from_A
 use Rattle.bng_base.specs.declared.address.Ip4.{Ip4}
 use Rattle.bng_base.specs.declared.item.Claim.{Claim}
 use Rattle.bng_base.specs.declared.item.Claim.TheVariants.{NoClaim, Claimed, Held, Exhausted}
+use Rattle.bng_base.specs.declared.item.Entry.{Entry}
 use Rattle.bng_base.specs.declared.item.OutRecord.{OutRecord}
 use Rattle.bng_base.specs.declared.settings.NamedRange.{NamedRange}
 use Rattle.bng_grant.specs.Grants.{Gift}
@@ -34,6 +35,9 @@ use Rattle.bng_shard.specs.declared.session.Session.{Session}
 use Rattle.bng_shard.specs.Deed.{Deed, at_of}
 use Rattle.bng_shard.specs.Discovery.{IsNewLink, new_session}
 use Rattle.bng_shard.specs.Granting.{IsSound}
+use Rattle.bng_coa.specs.Wants.{wanted}
+use Rattle.bng_radius_wire.specs.Grammar.{Packet}
+use Rattle.bng_shard.specs.Changes.{Found, changed_by, found_by, lease_after, place_of, recast_by}
 use Rattle.bng_shard.specs.Lasting.{AreHoused, HasPhases, IsHousedIn, KeepsTerm}
 use Rattle.bng_shard.specs.Link.{Drives, LinkStep, Told, ended, ended_service, hears, nas_request, settles, told, user_request}
 use Rattle.bng_shard.specs.Metered.{meters_of, plan_for}
@@ -49,8 +53,9 @@ use Rattle.bng_shard.proofs.CircuitsKept.{lease_was}
 use Rattle.bng_shard.proofs.LinkSteps.{frame_steps, verdict_steps}
 use Rattle.bng_shard.proofs.SeenLeases.{looked_was, seen_at}
 use Rattle.bng_shard.proofs.TermBegins.{asks_open}
+use Rattle.bng_shard.proofs.Changing.{found_is}
 use Rattle.bng_shard.proofs.Values.{none_some, same_some}
-use Rattle.bng_shard.proofs.Walking.{Stops, WalksBy, step_walks_by}
+use Rattle.bng_shard.proofs.Walking.{Stops, WalksBy, change_walks_by, step_walks_by}
 
 not_both : {X : Type 0} (b : Bool) → b ≡ true → b ≡ false → X
 not_both b e f = absurd cc
@@ -108,8 +113,8 @@ lasting_in v m is h = subst KeepsTerm is h
 
 module _ (r : Rules) (a : At) (asked : ℕ) (x x' : Session) (outs : List OutRecord) (cause : Option ℕ) (asked' : ℕ) (Steps : LinkStep) (h : Drives r a asked x Steps outs cause x' asked') where
   -- the lease of before, where the step did not end the term
-  lease_after : x'.lease ≡ kept_lease cause x.lease
-  lease_after = ap (λ (y : Session). y.lease) h.session ∙ ap (λ (c : Option ℕ). kept_lease c x.lease) (sym h.closes)
+  lease_driven : x'.lease ≡ kept_lease cause x.lease
+  lease_driven = ap (λ (y : Session). y.lease) h.session ∙ ap (λ (c : Option ℕ). kept_lease c x.lease) (sym h.closes)
 
   ended_or : (c : Option ℕ) (l : Lease) → kept_lease c x.lease ≡ Some l → c ≡ None
   ended_or None l e = refl
@@ -131,7 +136,7 @@ module _ (r : Rules) (a : At) (asked : ℕ) (x x' : Session) (outs : List OutRec
   driven_none : (KeepsPhases h.made.link → KeepsPhases h.link) → x.lease ≡ None → HasPhases x.service → SessionKeeps x'
   driven_none keeps none before = record {
     phases = subst HasPhases (sym (ap (λ (y : Session). y.service) h.session)) (keeps (subst HasPhases h.is_made before));
-    lasting = λ l leased. absurd (none_some l (sym (none_kept cause) ∙ ap (kept_lease cause) (sym none) ∙ sym lease_after ∙ leased));
+    lasting = λ l leased. absurd (none_some l (sym (none_kept cause) ∙ ap (kept_lease cause) (sym none) ∙ sym lease_driven ∙ leased));
   }
 
 ended_phases : (v : Service) → HasPhases v → HasPhases (ended_service v)
@@ -213,6 +218,27 @@ module _ (s : State) (n : ℕ) (lease : Option Lease) (y : Session) (was : (x : 
       absurd (other (sym here.2 ∙ ap (λ (k : Lease). k.serial) (same_some here.0 l (sym here.1 ∙ leased)))))
       (house_or t (h (sym (ap (λ (u : Tenure). u.cause) same) ∙ live))))
 
+  -- or is under another profile, by a lease of the same number
+  house_recast : (l k : Lease) (t : Tenure) → lease ≡ Some l → y.lease ≡ Some k → k.serial ≡ l.serial → Housed s t → Housed (with_session s n y) t
+  house_recast l k t leased now same h live = ⊎_elim
+      (λ (other : IsHousedIn (with_session s n y) t). other)
+      (λ (here : (j : Lease) × (lease ≡ Some j) × (j.serial ≡ t.term.serial) × (t.term.session.0 ≡ n)).
+      house_on t k now (same ∙ ap (λ (j : Lease). j.serial) (same_some l here.0 (sym leased ∙ here.1)) ∙ here.2) here.3)
+      (house_or t (h live))
+
+  one_recast : (b : Bool) (place : ℕ) (t : Tenure) → Housed (with_session s n y) t → Housed (with_session s n y) (cond b (record t { profile = place }) t)
+  one_recast true place t h = h
+  one_recast false place t h = h
+
+  each_recast : (l k : Lease) (place : ℕ) (ts : List Tenure) → lease ≡ Some l → y.lease ≡ Some k → k.serial ≡ l.serial → AllByRecursion (Housed s) ts → AllByRecursion (Housed (with_session s n y)) (map (recast_by k.serial place) ts)
+  each_recast l k place [] leased now same h = tt
+  each_recast l k place (t ∷ ts) leased now same h =
+      (one_recast ((t.term.serial == k.serial) && not (is_over t)) place t (house_recast l k t leased now same h.0), each_recast l k place ts leased now same h.1)
+
+  houses_recast : (l k : Lease) (place : ℕ) → lease ≡ Some l → y.lease ≡ Some k → k.serial ≡ l.serial → All (Housed s) s.terms → All (Housed (with_session s n y)) (map (recast_by k.serial place) s.terms)
+  houses_recast l k place leased now same h =
+      All-from_recursion (Housed (with_session s n y)) (map (recast_by k.serial place) s.terms) (each_recast l k place s.terms leased now same (recursion_from_All (Housed s) s.terms h))
+
   each_so : (ts : List Tenure) → ((t : Tenure) → Housed s t → Housed (with_session s n y) t) → AllByRecursion (Housed s) ts → AllByRecursion (Housed (with_session s n y)) ts
   each_so [] f h = tt
   each_so (t ∷ ts) f h = (f t h.0, each_so ts f h.1)
@@ -275,21 +301,37 @@ keeps_looked s n at x found h =
       housed = houses_looked s n x.lease (looked at x) (same_lease s n x found) at refl h.housed;
     }
 
+-- a term is under another profile, and within other limits
+keeps_recast : (r : Rules) (s : State) (e : Entry) (p : Packet) (f : Found) → found_by r s p.attributes ≡ Some f → Keeps s (changed_by r s e p f)
+keeps_recast r s e p f is h =
+    let found = found_is r s p.attributes f is in
+    let w = wanted r.profiles p in
+    let k = lease_after f.lease w (place_of f.term.profile w) in
+    let n = f.term.term.session.0 in
+    let y : Session = record f.session { lease = Some k } in
+    let was = kept_at s n f.session found.at h in
+    let each = sessions_with s n y (record { phases = was.phases; lasting = λ l leased. was.lasting f.lease found.leased }) h in
+    record {
+      phases = λ m x at. (each m x at).phases;
+      lasting = λ m x l at leased. (each m x at).lasting l leased;
+      housed = houses_recast s n f.session.lease y (same_lease s n f.session found.at) f.lease k k.profile found.leased refl refl h.housed;
+    }
+
 keeps_walk : (r : Rules) → WalksBy r Keeps
 keeps_walk r = record {
   same = λ s s' e h. subst AreHoused (sym e) h;
   then = λ s s' s'' f g h. g (f h);
   timed = λ e s n x x' outs cause asked' at drives.
-      keeps_with s n x.lease cause x' asked' (same_lease s n x at) (lease_after r (at_of s e) s.asked x x' outs cause asked' (told r e Timer) drives)
+      keeps_with s n x.lease cause x' asked' (same_lease s n x at) (lease_driven r (at_of s e) s.asked x x' outs cause asked' (told r e Timer) drives)
       (λ h. driven_keeps r (at_of s e) s.asked x x' outs cause asked' (told r e Timer) drives
       (by_itself r.link Timer e.moment e.item.random drives.made.link drives.says drives.link refl drives.steps) (kept_at s n x at h));
   heard = λ octets e s n x x' outs cause asked' at drives.
-      keeps_with s n x.lease cause x' asked' (same_lease s n x at) (lease_after r (at_of s e) s.asked x x' outs cause asked' (hears r e octets) drives)
+      keeps_with s n x.lease cause x' asked' (same_lease s n x at) (lease_driven r (at_of s e) s.asked x x' outs cause asked' (hears r e octets) drives)
       (λ h. driven_keeps r (at_of s e) s.asked x x' outs cause asked' (hears r e octets) drives
       (by_itself r.link _ e.moment e.item.random drives.made.link drives.says drives.link refl (frame_steps r.link e.moment e.item.random drives.made.link drives.says drives.link octets drives.steps)) (kept_at s n x at h));
   made = λ e s n port mac host_uniq link x' outs cause asked' vacant new drives.
       keeps_with s n None cause x' asked' (λ x at. absurd (none_some x (sym vacant.vacant ∙ at)))
-      (lease_after r (at_of s e) s.asked (new_session n port mac host_uniq link) x' outs cause asked' (told r e Start) drives)
+      (lease_driven r (at_of s e) s.asked (new_session n port mac host_uniq link) x' outs cause asked' (told r e Start) drives)
       (λ h. driven_none r (at_of s e) s.asked (new_session n port mac host_uniq link) x' outs cause asked' (told r e Start) drives
       (by_itself r.link Start e.moment e.item.random drives.made.link drives.says drives.link refl drives.steps).phases refl (new_phases e.item.random link new));
   padt = λ s n x m at is. keeps_ended s n x user_request at;
@@ -297,9 +339,12 @@ keeps_walk r = record {
   looks = keeps_looked;
   lapses = λ e s n x x' outs cause none asked' at over drives.
       keeps_with s n x.lease (Some cause) x' asked' (same_lease s n x at)
-      (lease_after r (at_of s e) s.asked (lapsed x) x' outs none asked' (told r e Close) drives ∙ none_kept none)
+      (lease_driven r (at_of s e) s.asked (lapsed x) x' outs none asked' (told r e Close) drives ∙ none_kept none)
       (λ h. driven_none r (at_of s e) s.asked (lapsed x) x' outs none asked' (told r e Close) drives
       (λ keeps. phases_kept r.link e.moment e.item.random Close drives.made.link drives.says drives.link keeps drives.steps) refl (kept_at s n x at h).phases);
+  lapses_circuit = λ s n x over cause at is lapse.
+      keeps_with s n x.lease (Some cause) (lapsed x) s.asked (same_lease s n x at) refl
+      (λ h. record { phases = (kept_at s n x at h).phases; lasting = λ l leased. absurd (none_some l leased) });
   tells = λ s t h. record { phases = h.phases; lasting = h.lasting; housed = h.housed };
 }
 
@@ -379,7 +424,7 @@ module _ (r : Rules) (s : State) (limited : Bool) (d : Deed) (t : Told) (h : Jud
 
   none_begins : Keeps s (with_driven s d.entry.item.target None None h.after h.asked)
   none_begins = keeps_with s d.entry.item.target None None h.after h.asked had_none
-      (lease_after r (at_of s d.entry) s.asked h.x h.after h.outs h.cause h.asked Says h.drives ∙ ap (kept_lease h.cause) h.no_term ∙ none_kept h.cause)
+      (lease_driven r (at_of s d.entry) s.asked h.x h.after h.outs h.cause h.asked Says h.drives ∙ ap (kept_lease h.cause) h.no_term ∙ none_kept h.cause)
       after_keeps
 
   one_begins : (a : Ip4) → IsSound s → t.yes ≡ true → t.lease ≡ Some a → Keeps s (with_term s d.entry.item.target h.after h.asked (next_lease s t.plan t.limits d.entry.moment a) (next_term s h.x h.question t.plan t.class d.entry.moment a) (meters_of t.plan d.entry.moment))
@@ -406,4 +451,5 @@ module _ (r : Rules) (s : State) (limited : Bool) (d : Deed) (t : Told) (h : Jud
 pub housed_kept : (r : Rules) (s : State) (limited : Bool) (d : Deed) → Step r s limited d → IsSound s → AreHoused s → AreHoused d.next
 housed_kept r s limited d h sound =
     step_walks_by r Keeps (keeps_walk r) keeps_stops s limited d
-    (λ t decides j. judged_keeps r s limited d t j t.lease sound (λ a. decides_yes r limited d.entry.item.frame.payload d.entry.claim t a decides) refl) h
+    (λ t decides j. judged_keeps r s limited d t j t.lease sound (λ a. decides_yes r limited d.entry.item.frame.payload d.entry.claim t a decides) refl)
+    (λ is change. change_walks_by r Keeps (keeps_walk r) s limited d.entry d (λ p f found. keeps_recast r s d.entry p f found) change) h

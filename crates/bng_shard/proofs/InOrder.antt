@@ -182,19 +182,19 @@ both false b p q = p
 is_below : (x y : ℕ) → x < y → T (is_lt (nat_cmp x y))
 is_below x y lt = subst (λ o. T (is_lt o)) (nat_cmp_is x y Less lt) tt
 
-below : (x a k : ℕ) (cs : List Static) → x < a → Rising a cs → T (below_all nat_cmp x (numbered_after k cs))
-below x a k [] lt h = tt
-below x a k (c ∷ cs) lt h = both _ _ (is_below x (number c) (omega (arith, lt, h.0))) (below x (number c + 1) (k + 1) cs (omega (arith, lt, h.0)) h.1)
+below : (now x a k : ℕ) (cs : List Static) → x < a → Rising a cs → T (below_all nat_cmp x (numbered_after now k cs))
+below now x a k [] lt h = tt
+below now x a k (c ∷ cs) lt h = both _ _ (is_below x (number c) (omega (arith, lt, h.0))) (below now x (number c + 1) (k + 1) cs (omega (arith, lt, h.0)) h.1)
 
 -- by their numbers they make a map
-pub sorted : (a k : ℕ) (cs : List Static) → Rising a cs → T (is_sorted nat_cmp (numbered_after k cs))
-sorted a k [] h = tt
-sorted a k (c ∷ cs) h = both _ _ (below (number c) (number c + 1) (k + 1) cs (omega arith) h.1) (sorted (number c + 1) (k + 1) cs h.1)
+pub sorted : (now a k : ℕ) (cs : List Static) → Rising a cs → T (is_sorted nat_cmp (numbered_after now k cs))
+sorted now a k [] h = tt
+sorted now a k (c ∷ cs) h = both _ _ (below now (number c) (number c + 1) (k + 1) cs (omega arith) h.1) (sorted now (number c + 1) (k + 1) cs h.1)
 
 -- Their terms ----------------------------------------------------------------------------------------------------------
 
-pub opened_entries : (shard : ℕ) (cs : List Static) (now : ℕ) → Apart cs → entries (opened_slots shard [] cs now).sessions.by_number ≡ numbered_after 0 (in_order shard cs)
-opened_entries shard cs now apart = entries-from_sorted nat_cmp (numbered_after 0 (in_order shard cs)) (sorted (shard * 1024 + 1) 0 (in_order shard cs) (rising_in_order shard cs apart))
+pub opened_entries : (shard : ℕ) (cs : List Static) (now : ℕ) → Apart cs → entries (opened_slots shard [] cs now).sessions.by_number ≡ numbered_after now 0 (in_order shard cs)
+opened_entries shard cs now apart = entries-from_sorted nat_cmp (numbered_after now 0 (in_order shard cs)) (sorted now (shard * 1024 + 1) 0 (in_order shard cs) (rising_in_order shard cs apart))
 
 -- what the engine reads of a term does not tell when it began
 terms_numbered : (now : ℕ) (k : ℕ) (cs : List Static) → map term_in (tenures_after now k cs) ≡ map term_in (tenures_after 0 k cs)
@@ -202,5 +202,5 @@ terms_numbered now k [] = refl
 terms_numbered now k (c ∷ cs) = ap (λ (ts : List Term). term_in (tenure_from now c (k + 1)) ∷ ts) (terms_numbered now (k + 1) cs)
 
 -- the terms of a shard at its opening are those of its circuits
-pub opened_terms : (r : Rules) (shard : ℕ) (cs : List Static) (now : ℕ) → terms_of (record { rules = r; slots = opened_slots shard r.profiles cs now }) ≡ terms_of_circuits shard cs
+pub opened_terms : (r : Rules) (shard : ℕ) (cs : List Static) (now : ℕ) → terms_of (record { rules = r; slots = opened_slots shard r.profiles cs now; changed = [] }) ≡ terms_of_circuits shard cs
 opened_terms r shard cs now = terms_numbered now 0 (in_order shard cs)

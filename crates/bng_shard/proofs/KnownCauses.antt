@@ -14,7 +14,7 @@ use Rattle.bng_shard.specs.declared.rules.Rules.{Rules}
 use Rattle.bng_base.specs.declared.item.At.{At}
 use Rattle.bng_shard.specs.declared.session.Lease.{Lease}
 use Rattle.bng_shard.specs.declared.session.Session.{Session}
-use Rattle.bng_shard.specs.Lasting.{IsCause}
+use Rattle.bng_shard.specs.Lasting.{IsCause, IsLapse}
 use Rattle.bng_shard.specs.Link.{Drives, hears, told}
 use Rattle.bng_shard.specs.Passing.{cause_at, last_passed}
 use Rattle.bng_shard.proofs.LinkSteps.{frame_of, frame_steps}
@@ -66,14 +66,18 @@ module _ (r : Rules) (e : Entry) where
 
 -- Timeouts ---------------------------------------------------------------------------------------------------------------
 
-timeout_known : (idle session : Bool) → IsKnown (if idle then Some 4 else (if session then Some 5 else None))
-timeout_known true session = inr (inr (inl refl))
-timeout_known false true = inr (inr (inr (inl refl)))
-timeout_known false false = tt
+timeout_lapse : (idle session : Bool) → IfSome (if idle then Some 4 else (if session then Some 5 else None)) IsLapse
+timeout_lapse true session = inl refl
+timeout_lapse false true = inr (inl refl)
+timeout_lapse false false = tt
 
 -- a term that is over
-pub lapsed_known : (at : ℕ) (lease : Option Lease) (now cause : ℕ) → cause_at at lease now ≡ Some cause → IsCause cause
-lapsed_known at None now cause is = absurd (none_some cause is)
-lapsed_known at (Some l) now cause is =
+pub lapse_at : (at : ℕ) (lease : Option Lease) (now cause : ℕ) → cause_at at lease now ≡ Some cause → IsLapse cause
+lapse_at at None now cause is = absurd (none_some cause is)
+lapse_at at (Some l) now cause is =
     let limits = l.life.limits in
-    subst IsKnown is (timeout_known (is_over limits.idle_timeout (last_passed at l) now) (is_over limits.session_timeout l.life.began now))
+    subst (λ (o : Option ℕ). IfSome o IsLapse) is (timeout_lapse (is_over limits.idle_timeout (last_passed at l) now) (is_over limits.session_timeout l.life.began now))
+
+-- a term that ends without its subscriber ends by one of the causes that there are
+pub lapse_known : (cause : ℕ) → IsLapse cause → IsCause cause
+lapse_known cause lapse = inr (inr (inl lapse))

@@ -10,6 +10,9 @@ pub mod ListParts
 pub mod LeavingFirst
 pub mod Beginning
 pub mod Tunnelling
+pub mod Changing
+pub mod Obeying
+pub mod Recasting
 pub mod Walking
 pub mod SeenLeases
 pub mod Wishing

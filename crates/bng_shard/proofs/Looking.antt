@@ -1,8 +1,8 @@
 -- A session whose deadline has come: its link takes Timer, and then its live term is looked at.
-use Rattle.std.proofs.Common.{◌≡◌, ◌≤◌, ◌+◌, ◌++◌, ℕ, List, [], length, Option, Some, None, IsSome, is_some, option_map, inl, inr, refl, sym, ap, subst, ◌∙◌, append-nil, arith}
+use Rattle.std.proofs.Common.{◌≡◌, ◌≤◌, ◌+◌, ◌++◌, ℕ, List, [], length, Option, Some, None, IsSome, is_some, option_map, inl, inr, refl, sym, ap, subst, ◌∙◌, append-nil, length-append, arith}
 use Rattle.std.specs.Cmp.{nat_cmp_total}
 use Rattle.std.specs.FinMap.{get, same_map, nat_cmp-IsAntisymmetric}
-use Rattle.std.proofs.lemmas.Bool.{cases_eq}
+use Rattle.std.proofs.lemmas.Bool.{cases_eq, false≢true}
 use Rattle.bng_base.specs.declared.item.Entry.{Entry}
 use Rattle.bng_base.specs.declared.item.OutRecord.{OutRecord}
 use Rattle.bng_ppp.specs.declared.whole_input.WholeInput.{WholeInput}
@@ -13,6 +13,8 @@ use Rattle.bng_slots.proofs.SessionLaws.{value_at-with_value, value_at-with_othe
 use Rattle.bng_shard.specs.declared.rules.Rules.{Rules}
 use Rattle.bng_base.specs.declared.item.At.{At}
 use Rattle.bng_shard.specs.declared.session.Lease.{Lease}
+use Rattle.bng_shard.specs.declared.session.Service.{Service}
+use Rattle.bng_shard.specs.declared.session.Service.TheVariants.{Provisioned, Discovered}
 use Rattle.bng_shard.specs.declared.session.Session.{Session}
 use Rattle.bng_shard.specs.Deed.{at_of}
 use Rattle.bng_shard.specs.Driven.{Driven}
@@ -20,15 +22,71 @@ use Rattle.bng_shard.specs.Indexed.{address_of}
 use Rattle.bng_shard.specs.Link.{Drives, told}
 use Rattle.bng_shard.specs.Passing.{cause_at, lapsed, looked, looked_on, passed_at}
 use Rattle.bng_shard.specs.Running.{KeepSums, TermsView, closed_rows, whole}
-use Rattle.bng_shard.specs.State.{State, with_driven, with_session}
-use Rattle.bng_shard.specs.Timed.{LookedOnce}
-use Rattle.bng_shard.specs.Timers.{IsTimed, LooksAt}
-use Rattle.bng_shard.proofs.Replacing.{whole_driven}
+use Rattle.bng_shard.specs.Serving.{KeepsLease}
+use Rattle.bng_shard.specs.State.{State, made_one, with_driven, with_session}
+use Rattle.bng_shard.specs.Timed.{ClosedLink, LookedOnce, LostTerm, RemindedOnce}
+use Rattle.bng_shard.specs.Timers.{IsReminded, LooksAt, LosesTerm, TimesIn}
+use Rattle.bng_shard.specs.Tenures.{kept_lease}
+use Rattle.bng_shard.proofs.FewOuts.{leased_by_close}
+use Rattle.bng_shard.proofs.Replacing.{shares_kept, whole_driven}
 use Rattle.bng_shard.proofs.Serves.{none_kept, nothing_shared, shares_as}
 use Rattle.bng_shard.proofs.SumsKept.{closed_keeps, keeps_same}
 use Rattle.bng_shard.proofs.Timing.{more_sent}
 
 -- A session's term -----------------------------------------------------------------------------------------------------
+
+-- a link that took Close, where there is one, leaves the session on its port, without a lease
+module _ (r : Rules) (a : At) (now : ℕ) (random : List ℕ) (asked : ℕ) (x x' : Session) (asked' : ℕ) (outs outs' : List OutRecord) where
+  closed_port : (v : Service) → ClosedLink v r a now random asked x x' asked' outs outs' → x'.port ≡ x.port
+  closed_port (Provisioned over) h = ap (λ (y : Session). y.port) h.0
+  closed_port (Discovered m) (o, d) = ap (λ (y : Session). y.port) d.drives.session
+
+  closed_bare : (v : Service) → ClosedLink v r a now random asked x x' asked' outs outs' → x.lease ≡ None → x'.lease ≡ None
+  closed_bare (Provisioned over) h bare = ap (λ (y : Session). y.lease) h.0 ∙ bare
+  closed_bare (Discovered m) (o, d) bare = ap (λ (y : Session). y.lease) d.drives.session ∙ ap (kept_lease d.drives.says.term_ended) bare ∙ none_kept d.drives.says.term_ended
+
+-- where there is a link, what it did is this; where there is none, nothing was done
+module _ (r : Rules) (a : At) (now : ℕ) (random : List ℕ) (asked : ℕ) (x x' : Session) (asked' : ℕ) (outs outs' : List OutRecord) where
+  pub link_closed : (v : Service) → made_one v ≡ 1 → (o : Option ℕ) → Driven r a (PppSteps r.link Close now random) asked x o x' asked' outs outs' → ClosedLink v r a now random asked x x' asked' outs outs'
+  link_closed (Provisioned over) made o d = absurd (omega (arith, made))
+  link_closed (Discovered m) made o d = (o, d)
+
+  -- and it sent one frame at most, where a term had been live
+  pub closed_few : (v : Service) → KeepsLease x.service x.lease → IsSome x.lease → ClosedLink v r a now random asked (lapsed x) x' asked' outs outs' → length outs' ≤ length outs + 1
+  closed_few (Provisioned over) keeps some h = omega (arith, ap length h.2)
+  closed_few (Discovered m) keeps some (none, d) =
+      let most = leased_by_close r a now random asked (lapsed x) d.more none x' asked' d.drives x.lease keeps some in
+      omega (arith, most, length-append outs d.more, ap length d.outs_are)
+
+  pub link_reminded : (t t' : TermsView) (v : Service) → made_one v ≡ 1 → (cause : Option ℕ) × Driven r a (PppSteps r.link Timer now random) asked x cause x' asked' outs outs' × (t' ≡ record t { rows = closed_rows x.lease cause t.rows })
+      → RemindedOnce v r a now random asked x x' asked' t t' outs outs'
+  link_reminded t t' (Provisioned over) made h = absurd (omega (arith, made))
+  link_reminded t t' (Discovered m) made h = h
+
+module _ (r : Rules) (a : At) (now : ℕ) (random : List ℕ) (asked : ℕ) (x : Session) where
+  pub none_closed : (outs : List OutRecord) (v : Service) → made_one v ≡ 0 → ClosedLink v r a now random asked x x asked outs outs
+  none_closed outs (Provisioned over) none = (refl, refl, refl)
+  none_closed outs (Discovered m) none = absurd (omega (arith, none))
+
+  pub none_reminded : (t : TermsView) (outs : List OutRecord) (v : Service) → made_one v ≡ 0 → RemindedOnce v r a now random asked x x asked t t outs outs
+  none_reminded t outs (Provisioned over) none = (refl, refl, refl, refl)
+  none_reminded t outs (Discovered m) none = absurd (omega (arith, none))
+
+-- a session that lapses keeps its link, and needs no lease for it
+pub keeps_lapsed : (v : Service) (lease : Option Lease) → KeepsLease v lease → KeepsLease v None
+keeps_lapsed (Provisioned over) lease keeps = tt
+keeps_lapsed (Discovered m) lease keeps = (keeps.0, λ some. absurd (false≢true some))
+
+-- a term that ended leaves the session on its port, and the address with nobody
+module _ (r : Rules) (a : At) (now : ℕ) (random : List ℕ) (asked : ℕ) (x x' : Session) (asked' : ℕ) (t t' : TermsView) (outs outs' : List OutRecord) (cause : ℕ) where
+  pub lost_port : (v : Service) → LostTerm v cause r a now random asked x x' asked' t t' outs outs' → x'.port ≡ x.port
+  lost_port v h = closed_port r a now random asked (lapsed x) x' asked' outs outs' v h.0
+
+  pub lost_apart : (v : Service) (ss : Sessions Session) → LostTerm v cause r a now random asked x x' asked' t t' outs outs' → NoneShares address_of ss x'
+  lost_apart v ss h = nothing_shared ss x' (ap (option_map (λ (l : Lease). l.address)) (closed_bare r a now random asked (lapsed x) x' asked' outs outs' v h.0 refl))
+
+  pub lost_sums : (v : Service) → LostTerm v cause r a now random asked x x' asked' t t' outs outs' → KeepSums t t'
+  lost_sums v h = closed_keeps t t' x.lease (Some cause) h.1
 
 looked_address : (passed : ℕ) (lease : Option Lease) → option_map (λ (l : Lease). l.address) (looked_on passed lease) ≡ option_map (λ (l : Lease). l.address) lease
 looked_address passed None = refl
@@ -38,18 +96,17 @@ module _ (r : Rules) (a : At) (now : ℕ) (random : List ℕ) (passed asked : �
   -- a look leaves the session on its port
   pub looked_port : (k : Option ℕ) → LookedOnce k r a now random passed asked x x' asked' t t' outs outs' → x'.port ≡ x.port
   looked_port None h = ap (λ (y : Session). y.port) h.0
-  looked_port (Some cause) h = ap (λ (y : Session). y.port) h.1.drives.session
+  looked_port (Some cause) h = lost_port r a now random asked x x' asked' t t' outs outs' cause x.service h
 
   -- it shares no address where it shared none before
   pub looked_apart : (k : Option ℕ) (ss : Sessions Session) → LookedOnce k r a now random passed asked x x' asked' t t' outs outs' → NoneShares address_of ss x → NoneShares address_of ss x'
   looked_apart None ss h alone = shares_as ss x x' (ap address_of h.0 ∙ looked_address passed x.lease) alone
-  looked_apart (Some cause) ss h alone =
-      nothing_shared ss x' (ap address_of h.1.drives.session ∙ ap (option_map (λ (l : Lease). l.address)) (none_kept h.1.drives.says.term_ended))
+  looked_apart (Some cause) ss h alone = lost_apart r a now random asked x x' asked' t t' outs outs' cause x.service ss h
 
   -- the sums of the terms say the same
   pub looked_sums : (k : Option ℕ) → LookedOnce k r a now random passed asked x x' asked' t t' outs outs' → KeepSums t t'
   looked_sums None h = subst (λ (u : TermsView). KeepSums t u) (sym h.2) (keeps_same t)
-  looked_sums (Some cause) h = closed_keeps t t' x.lease (Some cause) h.2
+  looked_sums (Some cause) h = lost_sums r a now random asked x x' asked' t t' outs outs' cause x.service h
 
   -- Nothing goes out for a session without a lease. So three go out in all, where two went out before for one that has a lease.
   pub looked_few : (o : Option Lease) → x.lease ≡ o → (n : ℕ) → LookedOnce (cause_at passed x.lease now) r a now random passed asked x x' asked' t t' outs outs' → length outs ≤ n + 3 → (IsSome x.lease → length outs ≤ n + 2)
@@ -58,6 +115,20 @@ module _ (r : Rules) (a : At) (now : ℕ) (random : List ℕ) (passed asked : �
       let still = (subst (λ (l : Option Lease). LookedOnce (cause_at passed l now) r a now random passed asked x x' asked' t t' outs outs') e h).3 in
       omega (arith, few, ap length still)
   looked_few (Some l) e n h few fewer one = omega (arith, one, fewer (ap is_some e))
+
+-- so does a link that took Timer, where there is one
+module _ (r : Rules) (a : At) (now : ℕ) (random : List ℕ) (asked : ℕ) (x x' : Session) (asked' : ℕ) (t t' : TermsView) (outs outs' : List OutRecord) where
+  pub reminded_port : (v : Service) → RemindedOnce v r a now random asked x x' asked' t t' outs outs' → x'.port ≡ x.port
+  reminded_port (Provisioned over) h = ap (λ (y : Session). y.port) h.0
+  reminded_port (Discovered m) (cause, d, closes) = ap (λ (y : Session). y.port) d.drives.session
+
+  pub reminded_apart : (v : Service) (ss : Sessions Session) → RemindedOnce v r a now random asked x x' asked' t t' outs outs' → NoneShares address_of ss x → NoneShares address_of ss x'
+  reminded_apart (Provisioned over) ss h alone = shares_as ss x x' (ap address_of h.0) alone
+  reminded_apart (Discovered m) ss (cause, d, closes) alone = shares_kept ss x x' d.drives.says.term_ended (ap (λ (y : Session). y.lease) d.drives.session) alone
+
+  pub reminded_sums : (v : Service) → RemindedOnce v r a now random asked x x' asked' t t' outs outs' → KeepSums t t'
+  reminded_sums (Provisioned over) h = subst (λ (u : TermsView). KeepSums t u) (sym h.2) (keeps_same t)
+  reminded_sums (Discovered m) (cause, d, closes) = closed_keeps t t' x.lease cause closes
 
 -- The state then -------------------------------------------------------------------------------------------------------
 
@@ -80,6 +151,36 @@ drives_from r e a b what now random asked x x' cause asked' outs outs' d moment 
     (subst (λ (m : ℕ). Drives r a asked x (PppSteps r.link what m e.item.random) d.more cause x' asked') (sym moment)
     (subst (λ (o : List ℕ). Drives r a asked x (PppSteps r.link what now o) d.more cause x' asked') (sym octets) d.drives))
 
+-- the live term of a session that stands there ended
+module _ (r : Rules) (a : At) (now : ℕ) (random : List ℕ) (s s' : State) (t t' : TermsView) (n : ℕ) (x x' : Session) (asked' : ℕ) (outs outs' : List OutRecord) (next : s' ≡ record (with_session s n x') { asked = asked' }) where
+  pub loses : (v : Service) (cause : ℕ) → LostTerm v cause r a now random s.asked x x' asked' t t' outs outs'
+      → (more : List OutRecord) × ((e : Entry) → e.moment ≡ now → e.item.random ≡ random → at_of (whole s t) e ≡ a → LosesTerm v cause r e (whole s t) n x more (whole s' t')) × (outs' ≡ outs ++ more)
+  loses (Provisioned over) cause ((same, count, still), closes) =
+      let state : whole s' t' ≡ with_driven (whole s t) n x.lease (Some cause) (lapsed x) s.asked =
+      whole_driven s s' n x x' x.lease t t' refl (Some cause) asked' next closes
+      ∙ ap (λ (y : Session). with_driven (whole s t) n x.lease (Some cause) y asked') same
+      ∙ ap (λ (k : ℕ). with_driven (whole s t) n x.lease (Some cause) (lapsed x) k) count in
+      ([], λ e moment octets at. (refl, state), still ∙ sym (append-nil outs))
+  loses (Discovered m) cause ((none, d), closes) =
+      let state = whole_driven s s' n x x' x.lease t t' refl (Some cause) asked' next closes in (
+        d.more,
+        λ e moment octets at. (x', none, asked', drives_from r e a (at_of (whole s t) e) Close now random s.asked (lapsed x) x' none asked' outs outs' d moment octets at, state),
+        d.outs_are,
+      )
+
+  -- or was looked at
+  looks_there : (k : Option ℕ) → LookedOnce k r a now random (passed_at s.passed x.number) s.asked x x' asked' t t' outs outs'
+      → (more : List OutRecord) × ((e : Entry) → e.moment ≡ now → e.item.random ≡ random → at_of (whole s t) e ≡ a → LooksAt k r e (whole s t) n x more (whole s' t')) × (outs' ≡ outs ++ more)
+  looks_there None h =
+      let y : Session = looked (passed_at s.passed x.number) x in
+      let state : whole s' t' ≡ with_session (whole s t) n y =
+      ap (λ (q : State). whole q t') next
+      ∙ ap (λ (u : TermsView). whole (record (with_session s n x') { asked = asked' }) u) h.2
+      ∙ ap (λ (z : Session). whole (record (with_session s n z) { asked = asked' }) t) h.0
+      ∙ ap (λ (k : ℕ). whole (record (with_session s n y) { asked = k }) t) h.1 in
+      ([], λ e moment octets at. (refl, state), h.3 ∙ sym (append-nil outs))
+  looks_there (Some cause) h = loses x.service cause h
+
 module _ (r : Rules) (a : At) (now : ℕ) (random : List ℕ) (s s' : State) (t t₁ t₂ : TermsView) (n : ℕ) (x x₁ x₂ : Session) (cause : Option ℕ) (asked₁ asked₂ : ℕ) (outs outs₁ outs₂ : List OutRecord)
     (driven : Driven r a (PppSteps r.link Timer now random) s.asked x cause x₁ asked₁ outs outs₁) (closes : t₁ ≡ record t { rows = closed_rows x.lease cause t.rows }) (next : s' ≡ record (with_session s n x₂) { asked = asked₂ }) where
   -- once the link has taken Timer
@@ -92,38 +193,22 @@ module _ (r : Rules) (a : At) (now : ℕ) (random : List ℕ) (s s' : State) (t 
   reminded_is : whole served t₁ ≡ reminded
   reminded_is = whole_driven s served n x x₁ x.lease t t₁ refl cause asked₁ refl closes
 
+  again : s' ≡ record (with_session served n x₂) { asked = asked₂ }
+  again = next ∙ ap (λ (ss : Sessions Session). let q : State = record s { sessions = ss; asked = asked₂ } in q) (sym (with_twice s.sessions n x₁ x₂))
+
   looks : (k : Option ℕ) → LookedOnce k r a now random (passed_at s.passed x₁.number) asked₁ x₁ x₂ asked₂ t₁ t₂ outs₁ outs₂
       → (more : List OutRecord) × ((e : Entry) → e.moment ≡ now → e.item.random ≡ random → at_of (whole s t) e ≡ a → LooksAt k r e reminded n x₁ more (whole s' t₂)) × (outs₂ ≡ outs₁ ++ more)
-  looks None h =
-      let y : Session = looked (passed_at s.passed x₁.number) x₁ in
-      let state : whole s' t₂ ≡ with_session reminded n y =
-      ap (λ (q : State). whole q t₂) next
-      ∙ ap (λ (u : TermsView). whole (record (with_session s n x₂) { asked = asked₂ }) u) h.2
-      ∙ ap (λ (z : Session). whole (record (with_session s n z) { asked = asked₂ }) t₁) h.0
-      ∙ ap (λ (k : ℕ). whole (record (with_session s n y) { asked = k }) t₁) h.1
-      ∙ whole_driven s (record (with_session s n y) { asked = asked₁ }) n x y x.lease t t₁ refl cause asked₁ refl closes
-      ∙ ap (λ (ss : Sessions Session). let q : State = record reminded { sessions = ss } in q) (sym (with_twice s.sessions n x₁ y)) in
-      ([], λ e moment octets same. (refl, state), h.3 ∙ sym (append-nil outs₁))
-  looks (Some over) h =
-      let d = h.1 in
-      let again : s' ≡ record (with_session served n x₂) { asked = asked₂ } = next ∙ ap (λ (ss : Sessions Session). let q : State = record s { sessions = ss; asked = asked₂ } in q) (sym (with_twice s.sessions n x₁ x₂)) in
-      let state : whole s' t₂ ≡ with_driven reminded n x₁.lease (Some over) x₂ asked₂ =
-      whole_driven served s' n x₁ x₂ x₁.lease t₁ t₂ refl (Some over) asked₂ again h.2
-      ∙ ap (λ (q : State). with_driven q n x₁.lease (Some over) x₂ asked₂) reminded_is in (
-        d.more,
-        λ e moment octets same. (x₂, h.0, asked₂, drives_from r e a (at_of reminded e) Close now random asked₁ (lapsed x₁) x₂ h.0 asked₂ outs₁ outs₂ d moment octets same, state),
-        d.outs_are,
-      )
+  looks k h =
+      let (more, looks_so, sent) = looks_there r a now random served s' t₁ t₂ n x₁ x₂ asked₂ outs₁ outs₂ again k h in
+      (more, λ e moment octets same. subst (λ (q : State). LooksAt k r e q n x₁ more (whole s' t₂)) reminded_is (looks_so e moment octets same), sent)
 
-  -- a due deadline was handled
-  pub timed : value_at s.sessions n ≡ Some x → LookedOnce (cause_at (passed_at s.passed x₁.number) x₁.lease now) r a now random (passed_at s.passed x₁.number) asked₁ x₁ x₂ asked₂ t₁ t₂ outs₁ outs₂
-      → (more : List OutRecord) × ((e : Entry) → e.moment ≡ now → e.item.random ≡ random → at_of (whole s t) e ≡ a → IsTimed r e (whole s t) n more (whole s' t₂)) × (outs₂ ≡ outs ++ more)
-  timed found once =
+  -- the deadline of a link was handled
+  times : LookedOnce (cause_at (passed_at s.passed x₁.number) x₁.lease now) r a now random (passed_at s.passed x₁.number) asked₁ x₁ x₂ asked₂ t₁ t₂ outs₁ outs₂
+      → (more : List OutRecord) × ((e : Entry) → e.moment ≡ now → e.item.random ≡ random → at_of (whole s t) e ≡ a → IsReminded r e (whole s t) n x more (whole s' t₂)) × (outs₂ ≡ outs ++ more)
+  times once =
       let (last, looks_so, sent) = looks (cause_at (passed_at s.passed x₁.number) x₁.lease now) once in (
         driven.more ++ last,
         λ e moment octets same. record {
-          x = x;
-          found = found;
           first = driven.more;
           cause = cause;
           after = x₁;
@@ -134,4 +219,21 @@ module _ (r : Rules) (a : At) (now : ℕ) (random : List ℕ) (s s' : State) (t 
           outs_are = refl;
         },
         more_sent outs driven.more outs₁ last outs₂ driven.outs_are sent,
+      )
+
+module _ (r : Rules) (a : At) (now : ℕ) (random : List ℕ) (s s' : State) (t t₁ t₂ : TermsView) (n : ℕ) (x x₁ x₂ : Session) (asked₁ asked₂ : ℕ) (outs outs₁ outs₂ : List OutRecord) (next : s' ≡ record (with_session s n x₂) { asked = asked₂ }) where
+  -- a due deadline was handled
+  pub timed : (v : Service) → RemindedOnce v r a now random s.asked x x₁ asked₁ t t₁ outs outs₁
+      → LookedOnce (cause_at (passed_at s.passed x₁.number) x₁.lease now) r a now random (passed_at s.passed x₁.number) asked₁ x₁ x₂ asked₂ t₁ t₂ outs₁ outs₂
+      → (more : List OutRecord) × ((e : Entry) → e.moment ≡ now → e.item.random ≡ random → at_of (whole s t) e ≡ a → TimesIn v r e (whole s t) n x more (whole s' t₂)) × (outs₂ ≡ outs ++ more)
+  timed (Discovered m) (cause, driven, closes) once = times r a now random s s' t t₁ t₂ n x x₁ x₂ cause asked₁ asked₂ outs outs₁ outs₂ driven closes next once
+  timed (Provisioned over) (same, count, stay, still) once =
+      let by_session = subst (λ (z : Session). LookedOnce (cause_at (passed_at s.passed z.number) z.lease now) r a now random (passed_at s.passed z.number) asked₁ z x₂ asked₂ t₁ t₂ outs₁ outs₂) same once in
+      let by_count = subst (λ (k : ℕ). LookedOnce (cause_at (passed_at s.passed x.number) x.lease now) r a now random (passed_at s.passed x.number) k x x₂ asked₂ t₁ t₂ outs₁ outs₂) count by_session in
+      let by_terms = subst (λ (u : TermsView). LookedOnce (cause_at (passed_at s.passed x.number) x.lease now) r a now random (passed_at s.passed x.number) s.asked x x₂ asked₂ u t₂ outs₁ outs₂) stay by_count in
+      let here = subst (λ (os : List OutRecord). LookedOnce (cause_at (passed_at s.passed x.number) x.lease now) r a now random (passed_at s.passed x.number) s.asked x x₂ asked₂ t t₂ os outs₂) still by_terms in
+      let (more, looks_so, sent) = looks_there r a now random s s' t t₂ n x x₂ asked₂ outs outs₂ next (cause_at (passed_at s.passed x.number) x.lease now) here in (
+        more,
+        λ e moment octets at. subst (λ (m : ℕ). LooksAt (cause_at (passed_at s.passed x.number) x.lease m) r e (whole s t) n x more (whole s' t₂)) (sym moment) (looks_so e moment octets at),
+        sent,
       )

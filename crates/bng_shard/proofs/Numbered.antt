@@ -85,11 +85,11 @@ decided_whole r limited octets claim t (inr (inr (v, says, accepted, g, grants, 
 
 -- Terms side by side ---------------------------------------------------------------------------------------------------------
 
--- what holds of a term whatever its cause holds of each, whether it has ended meanwhile or not
-module _ (P : Tenure → Type 0) (over : (t : Tenure) (cause : ℕ) → P t → P (record t { cause = Some cause })) where
+-- what holds of a term whatever its profile and its cause holds of each, whether it has ended meanwhile or not
+module _ (P : Tenure → Type 0) (over : (t : Tenure) (place : ℕ) (cause : Option ℕ) → P t → P (record t { profile = place; cause = cause })) where
   one_still : (t u : Tenure) → Lasts AnyCause t u → P t → P u
   one_still t u (inl e) h = subst P (sym e) h
-  one_still t u (inr (live, cause, is, e)) h = subst P (sym e) (over t cause h)
+  one_still t u (inr (live, place, cause, is, e)) h = subst P (sym e) (over t place cause h)
 
   each_still : (ts us : List Tenure) → AllZip (Lasts AnyCause) ts us → All P ts → All P us
   each_still [] [] zip h = All-nil P
@@ -112,8 +112,8 @@ rise_still [] [] zip h = none_rise
 rise_still [] (u ∷ us) zip h = absurd zip
 rise_still (t ∷ ts) [] zip h = absurd zip
 rise_still (t ∷ ts) (u ∷ us) zip h =
-    let above = each_still (Precedes t) (λ v cause lt. lt) ts us zip.1 (first_precedes t ts h) in
-    let same : u.term.serial ≡ t.term.serial = one_still (λ (v : Tenure). v.term.serial ≡ t.term.serial) (λ v cause e. e) t u zip.0 refl in
+    let above = each_still (Precedes t) (λ v place cause lt. lt) ts us zip.1 (first_precedes t ts h) in
+    let same : u.term.serial ≡ t.term.serial = one_still (λ (v : Tenure). v.term.serial ≡ t.term.serial) (λ v place cause e. e) t u zip.0 refl in
     AllPairs-cons Precedes u us (subst (λ (n : ℕ). All (λ (v : Tenure). n < v.term.serial) us) (sym same) above) (rise_still ts us zip.1 (later_rise t ts h))
 
 -- a term of the shard is one later on, when others have begun
@@ -127,8 +127,8 @@ module _ (shard shard' begun begun' m n : ℕ) (same : shard' ≡ shard) (more :
   each_later : (ts : List Tenure) → All (IsTenureOf shard begun m) ts → All (IsTenureOf shard' begun' n) ts
   each_later ts h = All-weaker (IsTenureOf shard begun m) (IsTenureOf shard' begun' n) tenure_later ts h
 
-over_tenure : (shard begun n : ℕ) (t : Tenure) (cause : ℕ) → IsTenureOf shard begun n t → IsTenureOf shard begun n (record t { cause = Some cause })
-over_tenure shard begun n t cause h = record { session = h.session; number = h.number; began = h.began; classes = h.classes; class = h.class }
+over_tenure : (shard begun n : ℕ) (t : Tenure) (place : ℕ) (cause : Option ℕ) → IsTenureOf shard begun n t → IsTenureOf shard begun n (record t { profile = place; cause = cause })
+over_tenure shard begun n t place cause h = record { session = h.session; number = h.number; began = h.began; classes = h.classes; class = h.class }
 
 -- a term with the next number stands behind the others
 next_rise : (shard begun m : ℕ) (t : Tenure) (ts : List Tenure) → t.term.serial ≡ begun + 1 → All (IsTenureOf shard begun m) ts → AllPairs Precedes ts → AllPairs Precedes (ts ++ t ∷ [])

@@ -41,10 +41,13 @@ use Rattle.bng_ppp.specs.PppRelation.{PppSaid}
 use Rattle.bng_ppp.specs.PppState.{PppState}
 use Rattle.bng_ppp.proofs.WholeOutcome.{ppp_steps_one}
 use Rattle.bng_pppoe_wire.proofs.TagLaws.{one_tags}
+use Rattle.bng_radius_wire.specs.Grammar.{Packet}
+use Rattle.bng_radius_wire.proofs.Exact.{one_packet}
 use Rattle.bng_slots.specs.Sessions.{value_at, IsLowestVacant}
 use Rattle.bng_verdict.specs.Verdicts.{Saying, IsVerdict}
 use Rattle.bng_verdict.proofs.One.{one_verdict}
 use Rattle.bng_shard.specs.Made.{Made, Question}
+use Rattle.bng_shard.specs.declared.changes.Answer.{Answer as Answered}
 use Rattle.bng_shard.specs.declared.rules.Rules.{Rules}
 use Rattle.bng_base.specs.declared.item.At.{At}
 use Rattle.bng_shard.specs.declared.session.Lease.{Lease}
@@ -52,17 +55,18 @@ use Rattle.bng_shard.specs.declared.session.Service.{Service}
 use Rattle.bng_shard.specs.declared.session.Service.TheVariants.{Provisioned, Discovered}
 use Rattle.bng_shard.specs.declared.session.Session.{Session}
 use Rattle.bng_shard.specs.State.{State, port_at, session_of, with_driven, with_ended, with_tunnels}
+use Rattle.bng_shard.specs.Changes.{AnswersKind, AnswersRequest, Applies, Found, HearsChange, IsAnswerOf, Obeys, answer_to, found_by, refusal_of}
 use Rattle.bng_shard.specs.Deed.{Deed, at_of, out, frame_outs, only, handled, arrival_in}
 use Rattle.bng_shard.specs.Discovery.{Answers, Discovers, IsNewLink, IsVacancy, Makes, Repeats, host_uniq_of, new_session, repeated}
 use Rattle.bng_shard.specs.Frames.{charge_of, forwarded, found_up, found_down, GoesUp, GoesDown, HearsData, HearsPadt, HearsPpp, HearsControl, HearsIn, HearsFrame, HearsAccess, HearsPacket, HearsCore}
 use Rattle.bng_shard.specs.L2tp.{HearsAnswer, HearsMessage, HearsTunnel, heard_by, tunnel_outs, tunnels_most}
-use Rattle.bng_shard.specs.Link.{LinkStep, Drives, EndsWith, padt_outs, said_outs, asked_after, with_link, Told, told, hears, nas_request, settles, ended}
+use Rattle.bng_shard.specs.Link.{LinkStep, Drives, EndsWith, padt_outs, said_outs, admin_reset, asked_after, with_link, Told, told, hears, nas_request, settles, ended}
 use Rattle.bng_shard.specs.Metered.{meters_at, spent_input, spent_output}
 use Rattle.bng_shard.specs.Passing.{cause_at, lapsed, passed_at}
 use Rattle.bng_shard.specs.Protocol.{pppoe, refused_by}
 use Rattle.bng_shard.specs.Questions.{open_of}
 use Rattle.bng_shard.specs.Step.{Hears, Step}
-use Rattle.bng_shard.specs.Timers.{Ticks, Ends, HearsTick, HearsEnd, at_once, IsFirstDue, IsTimed, LooksAt, NoneIsDue, ComesFirst, IsLowest, NoneStays, StopsTunnels, TellsEnd}
+use Rattle.bng_shard.specs.Timers.{Ticks, Ends, HearsTick, HearsEnd, at_once, IsFirstDue, IsTimed, LooksAt, LosesTerm, TimesIn, NoneIsDue, ComesFirst, IsLowest, NoneStays, StopsTunnels, TellsEnd}
 use Rattle.bng_shard.specs.Verdicts.{HearsVerdict, Judges, settled_by}
 use Rattle.bng_shard.specs.Wishes.{Decides, refused_with, told_of}
 use Rattle.bng_shard.proofs.LinkSteps.{frame_of, verdict_of, frame_steps, verdict_steps}
@@ -157,28 +161,36 @@ driven_equal : (s : State) (n : ℕ) (lease : Option Lease) (cause cause' : Opti
 driven_equal s n lease cause cause' x y asked asked' causes same count =
     ap (λ (c : Option ℕ). with_driven s n lease c x asked) causes ∙ ap (λ (z : Session). with_driven s n lease cause' z asked) same ∙ ap (λ (m : ℕ). with_driven s n lease cause' y m) count
 
--- a session's live term is looked at in one way
+-- a session's live term ends in one way
+loses_one : (v : Service) (cause : ℕ) (r : Rules) (e : Entry) (s : State) (n : ℕ) (x : Session) (outs outs' : List OutRecord) (s' s'' : State) → LosesTerm v cause r e s n x outs s' → LosesTerm v cause r e s n x outs' s'' → (outs ≡ outs') × (s' ≡ s'')
+loses_one (Provisioned over) cause r e s n x outs outs' s' s'' h k = (h.0 ∙ sym k.0, h.1 ∙ sym k.1)
+loses_one (Discovered m) cause r e s n x outs outs' s' s'' (after, none, asked, drives, is) (after', none', asked', drives', is') =
+    let one = drives_one r (at_of s e) s.asked (told r e Close) (told_is_one r e Close) (lapsed x) outs outs' none none' after after' asked asked' drives drives' in
+    (one.0, is ∙ driven_equal s n x.lease (Some cause) (Some cause) after after' asked asked' refl one.1 one.2 ∙ sym is')
+
+-- and is looked at in one way
 looks_one : (over : Option ℕ) (r : Rules) (e : Entry) (s : State) (n : ℕ) (x : Session) (outs outs' : List OutRecord) (s' s'' : State) → LooksAt over r e s n x outs s' → LooksAt over r e s n x outs' s'' → (outs ≡ outs') × (s' ≡ s'')
 looks_one None r e s n x outs outs' s' s'' h k = (h.0 ∙ sym k.0, h.1 ∙ sym k.1)
-looks_one (Some over) r e s n x outs outs' s' s'' (after, none, asked, drives, is) (after', none', asked', drives', is') =
-    let one = drives_one r (at_of s e) s.asked (told r e Close) (told_is_one r e Close) (lapsed x) outs outs' none none' after after' asked asked' drives drives' in
-    (one.0, is ∙ driven_equal s n x.lease (Some over) (Some over) after after' asked asked' refl one.1 one.2 ∙ sym is')
+looks_one (Some over) r e s n x outs outs' s' s'' h k = loses_one x.service over r e s n x outs outs' s' s'' h k
 
 module _ (r : Rules) (e : Entry) where
   -- and so is a deadline handled
-  timed_one : (s : State) (n : ℕ) (outs outs' : List OutRecord) (s' s'' : State) → IsTimed r e s n outs s' → IsTimed r e s n outs' s'' → (outs ≡ outs') × (s' ≡ s'')
-  timed_one s n outs outs' s' s'' h k =
-      let same = same_found _ h.x k.x h.found k.found in
-      let moved : Drives r (at_of s e) s.asked h.x (told r e Timer) k.first k.cause k.after k.asked = subst (λ (z : Session). Drives r (at_of s e) s.asked z (told r e Timer) k.first k.cause k.after k.asked) (sym same) k.drives in
-      let one = drives_one r (at_of s e) s.asked (told r e Timer) (told_is_one r e Timer) h.x h.first k.first h.cause k.cause h.after k.after h.asked k.asked h.drives moved in
-      let driven : with_driven s n h.x.lease h.cause h.after h.asked ≡ with_driven s n k.x.lease k.cause k.after k.asked =
-      ap (λ (z : Session). with_driven s n z.lease h.cause h.after h.asked) same ∙ driven_equal s n k.x.lease h.cause k.cause h.after k.after h.asked k.asked one.3 one.1 one.2 in
+  times_one : (v : Service) (s : State) (n : ℕ) (x : Session) (outs outs' : List OutRecord) (s' s'' : State) → TimesIn v r e s n x outs s' → TimesIn v r e s n x outs' s'' → (outs ≡ outs') × (s' ≡ s'')
+  times_one (Provisioned over) s n x outs outs' s' s'' h k = looks_one (cause_at (passed_at s.passed x.number) x.lease e.moment) r e s n x outs outs' s' s'' h k
+  times_one (Discovered m) s n x outs outs' s' s'' h k =
+      let one = drives_one r (at_of s e) s.asked (told r e Timer) (told_is_one r e Timer) x h.first k.first h.cause k.cause h.after k.after h.asked k.asked h.drives k.drives in
+      let driven : with_driven s n x.lease h.cause h.after h.asked ≡ with_driven s n x.lease k.cause k.after k.asked =
+      driven_equal s n x.lease h.cause k.cause h.after k.after h.asked k.asked one.3 one.1 one.2 in
       let over : Session → Option ℕ = λ z. cause_at (passed_at s.passed z.number) z.lease e.moment in
-      let by_state : LooksAt (over k.after) r e (with_driven s n h.x.lease h.cause h.after h.asked) n k.after k.then s'' = subst (λ (t : State). LooksAt (over k.after) r e t n k.after k.then s'') (sym driven) k.looks in
-      let by_session : LooksAt (over h.after) r e (with_driven s n h.x.lease h.cause h.after h.asked) n h.after k.then s'' =
-      subst (λ (z : Session). LooksAt (over z) r e (with_driven s n h.x.lease h.cause h.after h.asked) n z k.then s'') (sym one.1) by_state in
-      let last = looks_one (over h.after) r e (with_driven s n h.x.lease h.cause h.after h.asked) n h.after h.then k.then s' s'' h.looks by_session in
+      let by_state : LooksAt (over k.after) r e (with_driven s n x.lease h.cause h.after h.asked) n k.after k.then s'' = subst (λ (t : State). LooksAt (over k.after) r e t n k.after k.then s'') (sym driven) k.looks in
+      let by_session : LooksAt (over h.after) r e (with_driven s n x.lease h.cause h.after h.asked) n h.after k.then s'' =
+      subst (λ (z : Session). LooksAt (over z) r e (with_driven s n x.lease h.cause h.after h.asked) n z k.then s'') (sym one.1) by_state in
+      let last = looks_one (over h.after) r e (with_driven s n x.lease h.cause h.after h.asked) n h.after h.then k.then s' s'' h.looks by_session in
       (h.outs_are ∙ ap (λ (os : List OutRecord). os ++ h.then) one.0 ∙ ap (λ (os : List OutRecord). k.first ++ os) last.0 ∙ sym k.outs_are, last.1)
+
+  timed_one : (s : State) (n : ℕ) (outs outs' : List OutRecord) (s' s'' : State) → IsTimed r e s n outs s' → IsTimed r e s n outs' s'' → (outs ≡ outs') × (s' ≡ s'')
+  timed_one s n outs outs' s' s'' (x, at, h) (y, at', k) =
+      times_one x.service s n x outs outs' s' s'' h (subst (λ (z : Session). TimesIn z.service r e s n z outs' s'') (sym (same_found _ x y at at')) k)
 
   tick_one : (k n : ℕ) → Alone (Ticks k r e) → Alone (TicksAt k n r e)
   tick_one k n alone s outs outs' s' s'' (first, next, timed, rest, more, are) (first', next', timed', rest', more', are') =
@@ -531,12 +543,32 @@ module _ (r : Rules) (s : State) (e : Entry) (d d' : Deed) where
   tunnel_one (inr (inr (m, is, h))) (inr (inl (m', is', k))) = absurd (not_both e.item.frame.payload m' m is'.message is.message)
   tunnel_one (inr (inr (m, is, h))) (inr (inr (m', is', k))) = same_deed _ h k
 
+  applies_one : (p : Packet) (f : Found) → Applies r s e p f d → Applies r s e p f d' → d ≡ d'
+  applies_one p f (inl (code, h)) (inl (code', k)) = same_deed _ h k
+  applies_one p f (inl (code, h)) (inr (other, outs, s', loses, k)) = absurd (other code)
+  applies_one p f (inr (other, outs, s', loses, h)) (inl (code, k)) = absurd (other code)
+  applies_one p f (inr (other, outs, s', loses, h)) (inr (other', outs', s'', loses', k)) =
+      same_handled outs outs' s' s'' (loses_one f.session.service admin_reset r e s f.term.term.session.0 f.session outs outs' s' s'' loses loses') h k
+
+  obeys_one : (cause : Option ℕ) (found : Option Found) (p : Packet) → Obeys cause found r s e p d → Obeys cause found r s e p d' → d ≡ d'
+  obeys_one (Some cause) found p h k = same_deed _ h k
+  obeys_one None None p h k = same_deed _ h k
+  obeys_one None (Some f) p h k = applies_one p f h k
+
+  change_one : HearsChange r s e d → HearsChange r s e d' → d ≡ d'
+  change_one (inl (none, h)) (inl (none', k)) = same_deed _ h k
+  change_one (inl (none, h)) (inr (p, is, k)) = absurd (none p is)
+  change_one (inr (p, is, h)) (inl (none, k)) = absurd (none p is)
+  change_one (inr (p, is, h)) (inr (q, is', k)) =
+      let same = one_packet p q e.item.frame.payload is.packet is'.packet in
+      obeys_one (refusal_of r p) (found_by r s p.attributes) p h (subst (λ (w : Packet). Obeys (refusal_of r w) (found_by r s w.attributes) r s e w d') (sym same) k)
+
   entry_one : (limited : Bool) (kind : ItemKind) → Hears kind r s limited e d → Hears kind r s limited e d' → d ≡ d'
   entry_one limited (Access number) h k = access_one number h k
   entry_one limited Core h k = core_one h k
   entry_one limited Tunnel h k = tunnel_one h k
   entry_one limited Verdict h k = verdict_entry limited h k
-  entry_one limited Change h k = same_deed _ h k
+  entry_one limited Change h k = change_one h k
   entry_one limited Tick h k = tick_entry h k
   entry_one limited End h k = end_entry h k
 
@@ -545,9 +577,28 @@ pub step_one : (r : Rules) (s : State) (limited : Bool) (d d' : Deed) → Step r
 step_one r s limited d d' h k same =
     entry_one r s d.entry d d' limited d.entry.item.kind h.hears (subst (λ (e : Entry). Hears e.item.kind r s limited e d') (sym same) k.hears)
 
+-- and so is what is answered
+request_one : (r : Rules) (s : State) (e : Entry) (a b : Option Answered) → AnswersRequest r s e a → AnswersRequest r s e b → a ≡ b
+request_one r s e a b (inl (none, h)) (inl (none', k)) = h ∙ sym k
+request_one r s e a b (inl (none, h)) (inr (p, is, k)) = absurd (none p is)
+request_one r s e a b (inr (p, is, h)) (inl (none, k)) = absurd (none p is)
+request_one r s e a b (inr (p, is, h)) (inr (q, is', k)) =
+    h ∙ ap (λ (w : Packet). Some (answer_to r s e w)) (one_packet p q e.item.frame.payload is.packet is'.packet) ∙ sym k
+
+answered_one : (kind : ItemKind) (r : Rules) (s : State) (e : Entry) (a b : Option Answered) → AnswersKind kind r s e a → AnswersKind kind r s e b → a ≡ b
+answered_one (Access number) r s e a b h k = h ∙ sym k
+answered_one Core r s e a b h k = h ∙ sym k
+answered_one Tunnel r s e a b h k = h ∙ sym k
+answered_one Verdict r s e a b h k = h ∙ sym k
+answered_one Change r s e a b h k = request_one r s e a b h k
+answered_one Tick r s e a b h k = h ∙ sym k
+answered_one End r s e a b h k = h ∙ sym k
+
 pub pppoe_alike : Alike pppoe
 pppoe_alike s d e h k entries limits =
     let again : Step s.rules s.slots d.limited e.deed = subst (λ (b : Bool). Step s.rules s.slots b e.deed) (sym limits) k.step in
     let deeds = step_one s.rules s.slots d.limited d.deed e.deed h.step again entries in
     let refused : d.refused ≡ e.refused = h.refused ∙ ap (λ (x : Entry). refused_by s.rules.pools x.claim) entries ∙ sym k.refused in
-    λ i. record { deed = deeds i; limited = limits i; refused = refused i }
+    let answers : d.answer ≡ e.answer =
+    answered_one d.deed.entry.item.kind s.rules s.slots d.deed.entry d.answer e.answer h.answered (subst (λ (x : Entry). IsAnswerOf s.rules s.slots x e.answer) (sym entries) k.answered) in
+    λ i. record { deed = deeds i; limited = limits i; refused = refused i; answer = answers i }

@@ -21,6 +21,7 @@ use Rattle.bng_engine.specs.Views.{Row, ShardView, new_row}
 use Rattle.bng_engine.proofs.Everywhere.{all_mapped}
 use Rattle.bng_slots.specs.Sessions.{IsNumberOf, Sessions}
 use Rattle.bng_slots.specs.Listed.{values}
+use Rattle.bng_shard.specs.declared.changes.Answer.{Answer}
 use Rattle.bng_shard.specs.declared.rules.Rules.{Rules}
 use Rattle.bng_shard.specs.declared.session.Lease.{Lease}
 use Rattle.bng_shard.specs.declared.session.Session.{Session}
@@ -48,38 +49,38 @@ module _ (r : Rules) where
   abbrev IsHere : Static → Type 0
   IsHere c = (1 ≤ c.port) × (c.port ≤ length r.access)
 
-  placed_in : (k : ℕ) (cs : List Static) (x : Session) → AllByRecursion IsHere cs → Contains (map (λ e. e.1) (numbered_after k cs)) x → (port : AccessPort) × (port_at r.access x.port ≡ Some port)
-  placed_in k [] x all (i, lt, is) = absurd (omega (arith, lt))
-  placed_in k (c ∷ cs) x all (zero, lt, is) =
+  placed_in : (now k : ℕ) (cs : List Static) (x : Session) → AllByRecursion IsHere cs → Contains (map (λ e. e.1) (numbered_after now k cs)) x → (port : AccessPort) × (port_at r.access x.port ≡ Some port)
+  placed_in now k [] x all (i, lt, is) = absurd (omega (arith, lt))
+  placed_in now k (c ∷ cs) x all (zero, lt, is) =
       let (port, at) = port_there r.access c.port all.0.0 all.0.1 in
       (port, ap (λ (y : Session). port_at r.access y.port) (sym is) ∙ at)
-  placed_in k (c ∷ cs) x all (suc i, lt, is) = placed_in (k + 1) cs x all.1 (i, omega (arith, lt), is)
+  placed_in now k (c ∷ cs) x all (suc i, lt, is) = placed_in now (k + 1) cs x all.1 (i, omega (arith, lt), is)
 
 -- Leases -----------------------------------------------------------------------------------------------------------------
 
 -- the lease of a circuit is that of its term
-tied_in : (now k : ℕ) (cs : List Static) (x : Session) (l : Lease) → x.lease ≡ Some l → Contains (map (λ e. e.1) (numbered_after k cs)) x → AnyOf (IsTermOf x l) (tenures_after now k cs)
+tied_in : (now k : ℕ) (cs : List Static) (x : Session) (l : Lease) → x.lease ≡ Some l → Contains (map (λ e. e.1) (numbered_after now k cs)) x → AnyOf (IsTermOf x l) (tenures_after now k cs)
 tied_in now k [] x l leases (i, lt, is) = absurd (omega (arith, lt))
 tied_in now k (c ∷ cs) x l leases (zero, lt, is) =
     let t = tenure_from now c (k + 1) in
-    let same : lease_from c (k + 1) ≡ l = same_some (lease_from c (k + 1)) l (ap (λ (y : Session). y.lease) is ∙ leases) in
-    let its : IsTermOf (provisioned c (k + 1)) (lease_from c (k + 1)) t = record { term = refl; circuit = refl; address = refl; profile = refl; live = refl } in
-    inl (subst (λ (y : Session). IsTermOf y l t) is (subst (λ (m : Lease). IsTermOf (provisioned c (k + 1)) m t) same its))
+    let same : lease_from now c (k + 1) ≡ l = same_some (lease_from now c (k + 1)) l (ap (λ (y : Session). y.lease) is ∙ leases) in
+    let its : IsTermOf (provisioned now c (k + 1)) (lease_from now c (k + 1)) t = record { term = refl; circuit = refl; address = refl; profile = refl; live = refl } in
+    inl (subst (λ (y : Session). IsTermOf y l t) is (subst (λ (m : Lease). IsTermOf (provisioned now c (k + 1)) m t) same its))
 tied_in now k (c ∷ cs) x l leases (suc i, lt, is) = inr (tied_in now (k + 1) cs x l leases (i, omega (arith, lt), is))
 
-module _ (shard : ℕ) (cs : List Static) (sessions : Sessions Session) (opened : sessions ≡ (opened_slots shard [] cs 0).sessions) (apart : AllPairs (λ a b. a.session ≢ b.session) cs) where
+module _ (now shard : ℕ) (cs : List Static) (sessions : Sessions Session) (opened : sessions ≡ (opened_slots shard [] cs now).sessions) (apart : AllPairs (λ a b. a.session ≢ b.session) cs) where
   -- each session is of a circuit
-  listed : (x : Session) → Contains (values sessions) x → Contains (map (λ e. e.1) (numbered_after 0 (in_order shard cs))) x
+  listed : (x : Session) → Contains (values sessions) x → Contains (map (λ e. e.1) (numbered_after now 0 (in_order shard cs))) x
   listed x h =
-      let same : values sessions ≡ map (λ e. e.1) (numbered_after 0 (in_order shard cs)) =
-      ap (λ (t : Sessions Session). values t) opened ∙ ap (λ es. map (λ e. e.1) es) (opened_entries shard cs 0 (apart_of cs apart)) in
+      let same : values sessions ≡ map (λ e. e.1) (numbered_after now 0 (in_order shard cs)) =
+      ap (λ (t : Sessions Session). values t) opened ∙ ap (λ es. map (λ e. e.1) es) (opened_entries shard cs now (apart_of cs apart)) in
       subst (λ (xs : List Session). Contains xs x) same h
 
   pub opened_placed : (r : Rules) → All (λ c. (1 ≤ c.port) × (c.port ≤ length r.access)) cs → ArePlaced r sessions
-  opened_placed r ports n x at = placed_in r 0 (in_order shard cs) x (all_in_order (IsHere r) shard cs (recursion_from_All (IsHere r) cs ports)) (listed x (stands sessions n x at))
+  opened_placed r ports n x at = placed_in r now 0 (in_order shard cs) x (all_in_order (IsHere r) shard cs (recursion_from_All (IsHere r) cs ports)) (listed x (stands sessions n x at))
 
-  pub opened_tied : (now : ℕ) (ts : List Tenure) → ts ≡ tenures_after now 0 (in_order shard cs) → AreTied sessions ts
-  opened_tied now ts are n x l at leases = subst (AnyOf (IsTermOf x l)) (sym are) (tied_in now 0 (in_order shard cs) x l leases (listed x (stands sessions n x at)))
+  pub opened_tied : (ts : List Tenure) → ts ≡ tenures_after now 0 (in_order shard cs) → AreTied sessions ts
+  opened_tied ts are n x l at leases = subst (AnyOf (IsTermOf x l)) (sym are) (tied_in now 0 (in_order shard cs) x l leases (listed x (stands sessions n x at)))
 
 -- Numbers ----------------------------------------------------------------------------------------------------------------
 
@@ -163,10 +164,10 @@ opened_whole shard now profiles cs s t opened are none = λ i. record {
 
 module _ (r : Rules) (shard : ℕ) (cs : List Static) (now : ℕ) where
   -- the fields of a shard
-  abbrev pub shown : State → List Row → List Book → List Entry → List OutRecord → ShardView ShardState Entry
-  shown s rows books journal outs = record {
+  abbrev pub shown : State → List Answer → List Row → List Book → List Entry → List OutRecord → ShardView ShardState Entry
+  shown s changed rows books journal outs = record {
     number = s.sessions.shard;
-    state = record { rules = r; slots = s };
+    state = record { rules = r; slots = s; changed = changed };
     rows = rows;
     books = books;
     allowance = 0;
@@ -179,6 +180,6 @@ module _ (r : Rules) (shard : ℕ) (cs : List Static) (now : ℕ) where
   }
 
   -- those of one that was opened
-  pub opened_view : (s : State) (rows : List Row) (books : List Book) (journal : List Entry) (outs : List OutRecord) → s ≡ opened_slots shard r.profiles cs now
-      → rows ≡ map new_row (keys (map term_in (tenures_after now 0 (in_order shard cs)))) → books ≡ replicate (length r.profiles) empty_book → journal ≡ [] → outs ≡ [] → shown s rows books journal outs ≡ opened_shard shard r cs now
-  opened_view s rows books journal outs opened are nothing none no_outs = λ i. shown (opened i) (are i) (nothing i) (none i) (no_outs i)
+  pub opened_view : (s : State) (changed : List Answer) (rows : List Row) (books : List Book) (journal : List Entry) (outs : List OutRecord) → s ≡ opened_slots shard r.profiles cs now → changed ≡ []
+      → rows ≡ map new_row (keys (map term_in (tenures_after now 0 (in_order shard cs)))) → books ≡ replicate (length r.profiles) empty_book → journal ≡ [] → outs ≡ [] → shown s changed rows books journal outs ≡ opened_shard shard r cs now
+  opened_view s changed rows books journal outs opened unchanged are nothing none no_outs = λ i. shown (opened i) (unchanged i) (are i) (nothing i) (none i) (no_outs i)

@@ -1,12 +1,12 @@
 -- The live terms that owe an Interim: the first of them, and those that are left once it is taken.
-use Rattle.std.proofs.Common.{◌≡◌, ◌≢◌, inl, inr, ℕ, ◌+◌, ◌-◌, ◌*◌, ◌%◌, ◌<◌, ◌≤◌, Bool, true, false, cond, T, List, [], ◌∷◌, map, Option, Some, None, refl, sym, ap, subst, ◌∙◌, arith}
+use Rattle.std.proofs.Common.{◌≡◌, ◌≢◌, inl, inr, ℕ, ◌+◌, ◌-◌, ◌*◌, ◌%◌, ◌<◌, ◌≤◌, Bool, true, false, not, cond, T, List, [], ◌∷◌, map, Option, Some, None, refl, sym, ap, subst, ◌∙◌, arith}
 use Rattle.std.specs.Prelude.{nat_le, filter, filter_map, is_some, IfSome}
 use Rattle.std.specs.List.{cons_option}
 use Rattle.std.specs.Option.{option_and_then, option_map_or}
 use Rattle.std.specs.Ordering.{nat_cmp, eq_by_cmp}
 use Rattle.std.specs.FinMap.{entries, entries_sorted, is_sorted, get-entries}
 use Rattle.std.specs.FinMap.{find as find_at}
-use Rattle.std.proofs.lemmas.Bool.{cases_eq}
+use Rattle.std.proofs.lemmas.Bool.{cases_eq, false≢true}
 use Rattle.std.proofs.lemmas.Bool.Decides.{nat_tests}
 use Rattle.std.proofs.lemmas.List.{get_or-set_other}
 use Rattle.std.proofs.lemmas.Nat.{mod-mul-add}
@@ -15,7 +15,7 @@ use Rattle.bng_engine.specs.Views.{Row}
 use Rattle.bng_slots.specs.Sessions.{Sessions, IsNumberOf, value_at}
 use Rattle.bng_slots.specs.Listed.{values}
 use Rattle.bng_shard.specs.declared.session.Session.{Session}
-use Rattle.bng_shard.specs.Interims.{interim_at, interim_in, owes, reported_at, row_in, with_report}
+use Rattle.bng_shard.specs.Interims.{are_none, interim_at, interim_in, owes, reported_at, row_in, with_report}
 use Rattle.bng_shard.specs.Passing.{place_in}
 use Rattle.bng_shard.specs.Serving.{AreOfShard, AreOwn}
 use Rattle.bng_shard.specs.State.{State}
@@ -182,3 +182,9 @@ module _ (s : State) (last : List ℕ) (now : ℕ) (n : SessionNo) (h : IsFirstO
         subst (λ (y : Session). IfSome (interim_at (with_report last now n) y) (λ at. next ≤ at)) same (at_least next now _ l spaced)
     | inr differ ↦ subst (λ o. IfSome o (λ at. next ≤ at)) (sym (other_reported last now n x (h.apart m x differ is))) (awaits m x is)
   ]
+
+-- What was answered --------------------------------------------------------------------------------------------------------
+
+pub no_answers : {X : Type 0} (xs : List X) → not (are_none xs) ≡ false → xs ≡ []
+no_answers [] e = refl
+no_answers (x ∷ xs) e = absurd (false≢true (sym e))

@@ -1,7 +1,7 @@
 -- The profile of a term that begins is one of the rules.
 use Rattle.std.proofs.Common.{◌≡◌, inl, inr, ℕ, ◌<◌, Bool, true, false, List, [], ◌∷◌, Option, Some, None, length, refl, sym, ap, subst, ◌∙◌, arith}
 use Rattle.std.specs.Option.{option_map}
-use Rattle.std.specs.Prelude.{slice_get}
+use Rattle.std.specs.Prelude.{position, slice_get}
 use Rattle.std.proofs.lemmas.List.Quantifiers.{position-Some}
 use Rattle.bng_base.specs.declared.address.Ip4.{Ip4}
 use Rattle.bng_base.specs.declared.book.Profile.{Profile}
@@ -18,12 +18,16 @@ use Rattle.bng_shard.proofs.Values.{none_some, same_some}
 
 -- Plans ------------------------------------------------------------------------------------------------------------------
 
--- a profile that was found stands in the list
+-- what was found stands in the list
+pub placed_within : (test : Profile → Bool) (profiles : List Profile) (k : ℕ) → position test profiles ≡ Some k → k < length profiles
+placed_within test [] k e = absurd (none_some k e)
+placed_within test (p ∷ ps) k e = (position-Some test (p ∷ ps) k p e).0
+
 place_within : (profiles : List Profile) (name : Option (List ℕ)) (k : ℕ) → place_for profiles name ≡ Some k → k < length profiles
 place_within [] None k e = absurd (none_some k e)
 place_within [] (Some name) k e = absurd (none_some k e)
 place_within (p ∷ ps) None k e = let first : 0 ≡ k = same_some 0 k e in omega (arith, first)
-place_within (p ∷ ps) (Some name) k e = (position-Some (is_called name) (p ∷ ps) k p e).0
+place_within (p ∷ ps) (Some name) k e = placed_within (is_called name) (p ∷ ps) k e
 
 profile_of : (place : ℕ) (o : Option Profile) → (plan_in place o).profile ≡ place
 profile_of place None = refl

@@ -13,6 +13,7 @@ use Rattle.bng_base.specs.declared.item.ItemKind.TheVariants.{Access, Core, Tunn
 use Rattle.bng_base.specs.declared.item.OutRecord.{OutRecord}
 use Rattle.bng_base.specs.declared.settings.AccessPort.{AccessPort}
 use Rattle.bng_base.specs.PppoeGrammar.{PppoeFrame, PppoeTag}
+use Rattle.bng_coa.specs.Wants.{wanted}
 use Rattle.bng_discovery.specs.declared.answers.Answer.{Answer}
 use Rattle.bng_discovery.specs.declared.answers.Answer.TheVariants.{Offer, Make, Again, Refuse, Ended, NoSession, Ignore}
 use Rattle.bng_discovery.specs.declared.port.PortRules.{PortRules}
@@ -36,20 +37,22 @@ use Rattle.bng_shard.specs.declared.session.Lease.{Lease}
 use Rattle.bng_shard.specs.declared.session.Service.{Service}
 use Rattle.bng_shard.specs.declared.session.Service.TheVariants.{Provisioned, Discovered}
 use Rattle.bng_shard.specs.declared.session.Session.{Session}
-use Rattle.bng_shard.specs.State.{State, session_of, with_session, with_driven, with_ended, with_tunnels}
+use Rattle.bng_shard.specs.State.{State, leaves, leaves_in, session_of, with_session, with_driven, with_ended, with_tunnels}
+use Rattle.bng_shard.specs.Changes.{changed_by, lease_after, place_of}
 use Rattle.bng_shard.specs.Deed.{Deed, at_of}
 use Rattle.bng_shard.specs.Discovery.{Answers, Makes, host_uniq_of, new_session}
 use Rattle.bng_shard.specs.Frames.{HearsData, HearsPpp, HearsControl, HearsIn, HearsFrame, HearsAccess, HearsCore}
 use Rattle.bng_shard.specs.L2tp.{HearsTunnel}
-use Rattle.bng_shard.specs.Link.{LinkStep, Drives, Told, asked_after, ended, ended_service, hears, nas_request, next_ask, question_after, settles, told, user_request, with_link}
+use Rattle.bng_shard.specs.Link.{LinkStep, Drives, Told, admin_reset, asked_after, ended, ended_service, hears, nas_request, next_ask, question_after, settles, told, user_request, with_link}
 use Rattle.bng_shard.specs.Metered.{meters_at, meters_of, spent_input, spent_output}
 use Rattle.bng_shard.specs.Passing.{cause_at, lapsed, looked, passed_at, place_in, with_passed}
 use Rattle.bng_shard.specs.Questions.{Asking, AsksOn, asked_in, asking_of, open_in, open_of, questions_of}
 use Rattle.bng_shard.specs.Step.{Hears, Step}
 use Rattle.bng_shard.specs.Tenures.{Tenure, closed, kept_lease}
-use Rattle.bng_shard.specs.Timers.{IsFirstDue, IsTimed, LooksAt, Ticks, Ends, HearsTick, HearsEnd, at_once, deadline_in, deadline_of, deadline_unless, lease_deadline, link_deadline}
+use Rattle.bng_shard.specs.Timers.{IsFirstDue, IsTimed, LooksAt, LosesTerm, TimesIn, Ticks, Ends, HearsTick, HearsEnd, at_once, deadline_in, deadline_of, deadline_unless, lease_deadline, link_deadline}
 use Rattle.bng_shard.specs.Verdicts.{HearsVerdict, Judges, next_lease, next_term, settled_by}
 use Rattle.bng_ppp.proofs.WholeQuestions.{only_frames_ask, open_was_asked}
+use Rattle.bng_shard.proofs.Changing.{Comes, change_comes}
 use Rattle.bng_shard.proofs.LinkSteps.{frame_of, verdict_of, frame_steps, verdict_steps}
 use Rattle.bng_shard.proofs.Naming.{at_number, next_of, same_made}
 use Rattle.bng_shard.proofs.Tunnelling.{tunnel_spoke}
@@ -283,6 +286,10 @@ live_of_open false still last n e = refl
 open_lives : (x : Session) (n : ℕ) → option_map (λ q. q.ask) (open_of x) ≡ Some n → (m : Made) → x.service ≡ Discovered m → m.ended ≡ false
 open_lives x n e m is = live_of_open m.ended (is_open m.link.auth) m.question n (ap (λ (v : Service). option_map (λ q. q.ask) (open_in v)) (sym is) ∙ e)
 
+-- so has one that stays
+staying : (x : Session) → leaves x ≡ false → (m : Made) → x.service ≡ Discovered m → m.ended ≡ false
+staying x stays m is = sym (ap leaves_in is) ∙ stays
+
 -- a session that ended asks nothing
 ended_silent : (v : Service) → open_in (ended_service v) ≡ None
 ended_silent (Provisioned l) = refl
@@ -351,27 +358,39 @@ module _ (r : Rules) (e : Entry) where
   told_silent : (what : WholeInput) → is_frame what ≡ false → (old : PppState) (says : PppSaid) (new : PppState) → told r e what old says new → says.asked ≡ None
   told_silent what other old says new h = only_frames_ask r.link e.moment e.item.random what old says new h other
 
-  -- the live term of a session whose link had taken Timer is looked at
-  looks_on : (o : Option ℕ) (s : State) (n : ℕ) (x : Session) (asked : ℕ) (terms : List Tenure) (outs : List OutRecord) (s' : State) → IsOpenIn s x → asked ≡ s.asked
-      → LooksAt o r e (state_with s n x asked s.begun terms s.news s.meters) n x outs s' → On s s'
-  looks_on None s n x asked terms outs s' was count (none, next) =
-      let y = looked (passed_at s.passed x.number) x in
-      let t = state_with s n x asked s.begun terms s.news s.meters in
-      subst (On s) (sym next) (still_on s (with_session t n y) n y (puts_again s.sessions n x y) was count)
-  looks_on (Some cause) s n x asked terms outs s' was count (y, none, asked', drives, next) =
-      let t = state_with s n x asked s.begun terms s.news s.meters in
+  -- The live term of a session ends, and its link takes Close, if it has one: in this state, or in one where the other sessions stand as
+  -- they stand in it.
+  loses_on : (v : Service) (cause : ℕ) (s t : State) (n : ℕ) (x : Session) (outs : List OutRecord) (s' : State) → ((y : Session) → Puts s.sessions (with_value t.sessions n y) n y) → IsOpenIn s x → t.asked ≡ s.asked
+      → LosesTerm v cause r e t n x outs s' → On s s'
+  loses_on (Provisioned over) cause s t n x outs s' puts was count (none, next) =
+      subst (On s) (sym next) (still_on s (with_driven t n x.lease (Some cause) (lapsed x) t.asked) n (lapsed x) (puts (lapsed x)) was count)
+  loses_on (Discovered m) cause s t n x outs s' puts was count (y, none, asked', drives, next) =
       let silent = told_silent Close refl drives.made.link drives.says drives.link drives.steps in
-      let stays = count_stays r (at_of t e) s asked (lapsed x) outs none y asked' (told r e Close) (told_opens r e Close) drives silent in
-      let opened = open_stays r (at_of t e) s asked (lapsed x) outs none y asked' (told r e Close) (told_opens r e Close) drives silent was in
-      subst (On s) (sym next) (still_on s (with_driven t n x.lease (Some cause) y asked') n y (puts_again s.sessions n x y) opened (stays ∙ count))
+      let stays = count_stays r (at_of t e) s t.asked (lapsed x) outs none y asked' (told r e Close) (told_opens r e Close) drives silent in
+      let opened = open_stays r (at_of t e) s t.asked (lapsed x) outs none y asked' (told r e Close) (told_opens r e Close) drives silent was in
+      subst (On s) (sym next) (still_on s (with_driven t n x.lease (Some cause) y asked') n y (puts y) opened (stays ∙ count))
+
+  -- it is looked at
+  looks_on : (o : Option ℕ) (s t : State) (n : ℕ) (x : Session) (outs : List OutRecord) (s' : State) → ((y : Session) → Puts s.sessions (with_value t.sessions n y) n y) → IsOpenIn s x → t.asked ≡ s.asked
+      → LooksAt o r e t n x outs s' → On s s'
+  looks_on None s t n x outs s' puts was count (none, next) =
+      let y = looked (passed_at t.passed x.number) x in
+      subst (On s) (sym next) (still_on s (with_session t n y) n y (puts y) was count)
+  looks_on (Some cause) s t n x outs s' puts was count h = loses_on x.service cause s t n x outs s' puts was count h
+
+  times_on : (v : Service) (s : State) (n : ℕ) (x : Session) (outs : List OutRecord) (s' : State) → value_at s.sessions n ≡ Some x → ((m : Made) → x.service ≡ Discovered m → m.ended ≡ false) → TimesIn v r e s n x outs s' → On s s'
+  times_on (Provisioned over) s n x outs s' at lives h =
+      looks_on (cause_at (passed_at s.passed x.number) x.lease e.moment) s s n x outs s' (puts_one s.sessions n) (was_open s n x at lives) refl h
+  times_on (Discovered m) s n x outs s' at lives h =
+      let silent = told_silent Timer refl h.drives.made.link h.drives.says h.drives.link h.drives.steps in
+      let count = count_stays r (at_of s e) s s.asked x h.first h.cause h.after h.asked (told r e Timer) (told_opens r e Timer) h.drives silent in
+      let opened = open_stays r (at_of s e) s s.asked x h.first h.cause h.after h.asked (told r e Timer) (told_opens r e Timer) h.drives silent (was_open s n x at lives) in
+      looks_on (cause_at (passed_at s.passed h.after.number) h.after.lease e.moment) s (with_driven s n x.lease h.cause h.after h.asked) n h.after h.then s' (puts_again s.sessions n h.after) opened count h.looks
 
   timed_on : (s : State) (n : ℕ) (outs : List OutRecord) (s' : State) → IsFirstDue s e.moment n → IsTimed r e s n outs s' → On s s'
-  timed_on s n outs s' due h =
-      let deadline : deadline_of h.x ≡ Some due.deadline = ap (option_and_then deadline_of) (sym h.found) ∙ due.is in
-      let silent = told_silent Timer refl h.drives.made.link h.drives.says h.drives.link h.drives.steps in
-      let count = count_stays r (at_of s e) s s.asked h.x h.first h.cause h.after h.asked (told r e Timer) (told_opens r e Timer) h.drives silent in
-      let opened = open_stays r (at_of s e) s s.asked h.x h.first h.cause h.after h.asked (told r e Timer) (told_opens r e Timer) h.drives silent (was_open s n h.x h.found (due_lives h.x due.deadline deadline)) in
-      looks_on (cause_at (passed_at s.passed h.after.number) h.after.lease e.moment) s n h.after h.asked (closed h.x.lease h.cause s.terms) h.then s' opened count h.looks
+  timed_on s n outs s' due (x, at, h) =
+      let deadline : deadline_of x ≡ Some due.deadline = ap (option_and_then deadline_of) (sym at) ∙ due.is in
+      times_on x.service s n x outs s' at (due_lives x due.deadline deadline) h
 
   ticks_on : (k : ℕ) (s : State) (outs : List OutRecord) (s' : State) → Ticks k r e s outs s' → On s s'
   ticks_on zero s outs s' h = same s s' h.1
@@ -476,6 +495,18 @@ module _ (r : Rules) (s : State) (limited : Bool) (e : Entry) (d : Deed) where
   ends : HearsEnd r s e d → On s d.next
   ends (first, next, all, rest, t, stops, h) = after (with_tunnels next t) _ h refl (chained s next (with_tunnels next t) (ends_on r e at_once s first next all) (tells_on next t))
 
+  -- a request for a change asks nothing
+  changes : Comes r s e d → On s d.next
+  changes (inl h) = kept _ h refl
+  changes (inr (inl (p, f, is, h))) =
+      let w = wanted r.profiles p in
+      let y : Session = record f.session { lease = Some (lease_after f.lease w (place_of f.term.profile w)) } in
+      let n = f.term.term.session.0 in
+      after (changed_by r s e p f) _ h refl (still_on s (changed_by r s e p f) n y (puts_one s.sessions n y) (was_open s n f.session is.at (staying f.session is.stays)) refl)
+  changes (inr (inr (p, f, is, outs, s', loses, h))) =
+      let n = f.term.term.session.0 in
+      after s' _ h refl (loses_on r e f.session.service admin_reset s s n f.session outs s' (puts_one s.sessions n) (was_open s n f.session is.at (staying f.session is.stays)) refl loses)
+
   tunnel : HearsTunnel r s e d → On s d.next
   tunnel h =
       let spoke = tunnel_spoke r s e d h in
@@ -486,7 +517,7 @@ module _ (r : Rules) (s : State) (limited : Bool) (e : Entry) (d : Deed) where
   hears_on Core h = core h
   hears_on Tunnel h = tunnel h
   hears_on Verdict h = judged h
-  hears_on Change h = kept _ h refl
+  hears_on Change h = changes (change_comes r s e d h)
   hears_on Tick h = tick h
   hears_on End h = ends h
 

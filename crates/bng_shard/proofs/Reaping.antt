@@ -13,6 +13,7 @@ use Rattle.bng_engine.specs.Terms.{ComesBefore, Key, Stop, Term}
 use Rattle.bng_engine.specs.Views.{ShardView, row_keys}
 use Rattle.bng_pool.specs.Tables.{Table, TableFrees, entry}
 use Rattle.bng_slots.specs.Sessions.{Sessions}
+use Rattle.bng_shard.specs.declared.changes.Answer.{Answer}
 use Rattle.bng_shard.specs.declared.rules.Rules.{Rules}
 use Rattle.bng_shard.specs.declared.session.Session.{Session}
 use Rattle.bng_shard.specs.declared.term.EndedTerm.{EndedTerm}
@@ -79,11 +80,11 @@ module _ (rows rows' : List Running) (r : Running) (shard : ℕ) (table : Table)
 pub tied_left : (sessions : Sessions Session) (rows rows' : List Running) (r : Running) → TakesFirst true rows r rows' → AreTied sessions (tenures_in rows) → AreTied sessions (tenures_in rows')
 tied_left sessions rows rows' r takes tied n x l at leased = left_live rows rows' r (IsTermOf x l) (λ t is. is.live) takes (tied n x l at leased)
 
-module _ (rules : Rules) (s : State) (books : List Book) (allowance : ℕ) (journal : List Entry) (outs : List OutRecord) where
+module _ (rules : Rules) (s : State) (changed : List Answer) (books : List Book) (allowance : ℕ) (journal : List Entry) (outs : List OutRecord) where
   abbrev pub shown : TermsView → ℕ → ShardView ShardState Entry
   shown t room = record {
     number = s.sessions.shard;
-    state = record { rules = rules; slots = whole s t };
+    state = record { rules = rules; slots = whole s t; changed = changed };
     rows = rows_in t.rows;
     books = books;
     allowance = allowance;
@@ -112,6 +113,7 @@ module _ (rules : Rules) (s : State) (books : List Book) (allowance : ℕ) (jour
         rules = refl;
         slots = ap (λ (v : TermsView). reaped (whole s (record v { rows = rows' }))) others
             ∙ ap (λ (ts : List Tenure). let u : State = record (reaped (whole s t)) { terms = ts } in u) (left_lives rows rows' r takes);
+        changed = refl;
         number = refl;
         books = refl;
         allowance = refl;
@@ -139,7 +141,7 @@ module _ (rules : Rules) (s : State) (books : List Book) (allowance : ℕ) (jour
     others = ap (λ (v : TermsView). let u : State = record s { terms = tenures_in v.rows; news = tenures_in t'.news } in u) others;
   }
 
-  pub told_shown : (t t' : TermsView) (room : ℕ) → t' ≡ record t { news = t'.news } → shown t' room ≡ record (shown t room) { state = record { rules = rules; slots = whole s t' } }
+  pub told_shown : (t t' : TermsView) (room : ℕ) → t' ≡ record t { news = t'.news } → shown t' room ≡ record (shown t room) { state = record { rules = rules; slots = whole s t'; changed = changed } }
   told_shown t t' room others = ap (λ (v : TermsView). let w : ShardView ShardState Entry = record (shown t' room) { rows = rows_in v.rows } in w) others
 
 -- None is left --------------------------------------------------------------------------------------------------------------
@@ -149,11 +151,11 @@ reaped_whole s s' t next none =
     ap (λ (u : State). whole u t) next
     ∙ ap (λ (ts : List Tenure). let u : State = record (whole s t) { sessions = (reaped s).sessions; terms = ts } in u) (sym (all_are_live t.rows none))
 
-pub reaped_shown : (rules : Rules) (s : State) (books : List Book) (allowance : ℕ) (journal : List Entry) (outs : List OutRecord) (t t' : TermsView) (s' : State) (room : ℕ)
+pub reaped_shown : (rules : Rules) (s : State) (changed : List Answer) (books : List Book) (allowance : ℕ) (journal : List Entry) (outs : List OutRecord) (t t' : TermsView) (s' : State) (room : ℕ)
     → filter has_ended t.rows ≡ [] → t' ≡ t → s' ≡ record s { sessions = (reaped s).sessions }
-    → shown rules s' books allowance journal outs t' 0 ≡ record (shown rules s books allowance journal outs t room) { state = record { rules = rules; slots = reaped (whole s t) }; room = 0 }
-reaped_shown rules s books allowance journal outs t t' s' room none same next =
-    let view : State → TermsView → State → ShardView ShardState Entry = λ u v w. record (shown rules u books allowance journal outs v 0) { state = record { rules = rules; slots = w } } in
+    → shown rules s' changed books allowance journal outs t' 0 ≡ record (shown rules s changed books allowance journal outs t room) { state = record { rules = rules; slots = reaped (whole s t); changed = changed }; room = 0 }
+reaped_shown rules s changed books allowance journal outs t t' s' room none same next =
+    let view : State → TermsView → State → ShardView ShardState Entry = λ u v w. record (shown rules u changed books allowance journal outs v 0) { state = record { rules = rules; slots = w; changed = changed } } in
     ap (λ (v : TermsView). view s' v (whole s' v)) same
     ∙ ap (λ (w : State). view s' t w) (reaped_whole s s' t next none)
     ∙ ap (λ (u : State). view u t (reaped (whole s t))) next

@@ -36,12 +36,13 @@ use Rattle.bng_shard.specs.Deed.{Deed, at_of, out, frame_outs, is_forwarded, arr
 use Rattle.bng_shard.specs.Discovery.{Answers, Discovers}
 use Rattle.bng_shard.specs.Frames.{charge_of, HearsData, HearsPpp, HearsControl, HearsIn, HearsFrame, HearsAccess, HearsCore}
 use Rattle.bng_shard.specs.L2tp.{HearsTunnel, TellInTurn, TellsIts, tunnels_most}
-use Rattle.bng_shard.specs.Link.{Drives, EndsWith, Told, told, hears, settles, ended, nas_request}
+use Rattle.bng_shard.specs.Link.{Drives, EndsWith, Told, admin_reset, told, hears, settles, ended, nas_request}
 use Rattle.bng_shard.specs.Passing.{cause_at, lapsed, passed_at}
 use Rattle.bng_shard.specs.Reader.{IsInDirection}
 use Rattle.bng_shard.specs.Step.{Hears, Step}
-use Rattle.bng_shard.specs.Timers.{Ticks, Ends, IsTimed, LooksAt, StopsTunnels, TellsEnd, at_once, HearsTick, HearsEnd}
+use Rattle.bng_shard.specs.Timers.{Ticks, Ends, IsTimed, LooksAt, LosesTerm, TimesIn, StopsTunnels, TellsEnd, at_once, HearsTick, HearsEnd}
 use Rattle.bng_shard.specs.Verdicts.{HearsVerdict}
+use Rattle.bng_shard.proofs.Changing.{Comes, change_comes}
 use Rattle.bng_shard.proofs.LinkSteps.{frame_of, verdict_of, frame_steps, verdict_steps}
 use Rattle.bng_shard.proofs.Packets.{spelled_up, short_up, spelled_down}
 use Rattle.bng_shard.proofs.Spelling.{IsControl, AreControl, discovery_control, padt_control, said_control, tunnel_control}
@@ -89,16 +90,24 @@ module _ (r : Rules) (e : Entry) (a : At) (asked : ℕ) (x : Session) (outs : Li
       subst (λ (os : List OutRecord). AreControl a.seat os) (sym h.outs_are)
       (said_control a x h.port h.offers h.says (ppp_steps_written r.link e.moment e.item.random (verdict_of t) h.made.link h.says h.link (verdict_steps r.link e.moment e.item.random h.made.link h.says h.link t h.steps)))
 
--- where a term is over, its session's link takes Close
+-- where a term is over, its session's link takes Close, if it has one
+loses_control : (v : Service) (cause : ℕ) (r : Rules) (e : Entry) (s : State) (n : ℕ) (x : Session) (outs : List OutRecord) (s' : State) → LosesTerm v cause r e s n x outs s' → AreControl e.seat outs
+loses_control (Provisioned over) cause r e s n x outs s' h = subst (λ (os : List OutRecord). AreControl e.seat os) (sym h.0) tt
+loses_control (Discovered m) cause r e s n x outs s' (after, none, asked, drives, is) = told_control r e (at_of s e) s.asked (lapsed x) outs none after asked Close drives
+
 looks_control : (over : Option ℕ) (r : Rules) (e : Entry) (s : State) (n : ℕ) (x : Session) (outs : List OutRecord) (s' : State) → LooksAt over r e s n x outs s' → AreControl e.seat outs
 looks_control None r e s n x outs s' h = subst (λ (os : List OutRecord). AreControl e.seat os) (sym h.0) tt
-looks_control (Some over) r e s n x outs s' (after, none, asked, drives, is) = told_control r e (at_of s e) s.asked (lapsed x) outs none after asked Close drives
+looks_control (Some cause) r e s n x outs s' h = loses_control x.service cause r e s n x outs s' h
+
+times_control : (v : Service) (r : Rules) (e : Entry) (s : State) (n : ℕ) (x : Session) (outs : List OutRecord) (s' : State) → TimesIn v r e s n x outs s' → AreControl e.seat outs
+times_control (Provisioned over) r e s n x outs s' h = looks_control (cause_at (passed_at s.passed x.number) x.lease e.moment) r e s n x outs s' h
+times_control (Discovered m) r e s n x outs s' h =
+    subst (λ (os : List OutRecord). AreControl e.seat os) (sym h.outs_are)
+    (all_append (IsControl e.seat) h.first h.then (told_control r e (at_of s e) s.asked x h.first h.cause h.after h.asked Timer h.drives)
+    (looks_control (cause_at (passed_at s.passed h.after.number) h.after.lease e.moment) r e (with_driven s n x.lease h.cause h.after h.asked) n h.after h.then s' h.looks))
 
 timed_control : (r : Rules) (e : Entry) (s : State) (n : ℕ) (outs : List OutRecord) (s' : State) → IsTimed r e s n outs s' → AreControl e.seat outs
-timed_control r e s n outs s' h =
-    subst (λ (os : List OutRecord). AreControl e.seat os) (sym h.outs_are)
-    (all_append (IsControl e.seat) h.first h.then (told_control r e (at_of s e) s.asked h.x h.first h.cause h.after h.asked Timer h.drives)
-    (looks_control (cause_at (passed_at s.passed h.after.number) h.after.lease e.moment) r e (with_driven s n h.x.lease h.cause h.after h.asked) n h.after h.then s' h.looks))
+timed_control r e s n outs s' (x, at, h) = times_control x.service r e s n x outs s' h
 
 ticks_control : (n : ℕ) (r : Rules) (e : Entry) (s : State) (outs : List OutRecord) (s' : State) → Ticks n r e s outs s' → AreControl e.seat outs
 ticks_control zero r e s outs s' h = subst (λ (os : List OutRecord). AreControl e.seat os) (sym h.0) tt
@@ -235,6 +244,11 @@ module _ (r : Rules) (s : State) (e : Entry) (d : Deed) where
   ends (first, next, all, rest, t, stops, h) =
       none s e d _ h (all_append (IsControl e.seat) first rest (ends_control at_once r e s first next all) (stops_control (at_of next e) e.moment next rest t stops)) refl
 
+  changes : Comes r s e d → Sends
+  changes (inl h) = none s e d _ h tt refl
+  changes (inr (inl (p, f, is, h))) = none s e d _ h tt refl
+  changes (inr (inr (p, f, is, outs, s', loses, h))) = none s e d _ h (loses_control f.session.service admin_reset r e s f.term.term.session.0 f.session outs s' loses) refl
+
   tunnel : HearsTunnel r s e d → Sends
   tunnel h =
       let spoke = tunnel_spoke r s e d h in
@@ -245,7 +259,7 @@ module _ (r : Rules) (s : State) (e : Entry) (d : Deed) where
   hears_sends Core limited h = core h
   hears_sends Tunnel limited h = tunnel h
   hears_sends Verdict limited h = judged limited h
-  hears_sends Change limited h = none s e d _ h tt refl
+  hears_sends Change limited h = changes (change_comes r s e d h)
   hears_sends Tick limited h = tick h
   hears_sends End limited h = ends h
 

@@ -25,7 +25,7 @@ use Rattle.bng_shard.specs.Step.{Step}
 use Rattle.bng_shard.proofs.Reading.{whole_read}
 use Rattle.bng_shard.proofs.Sends.{SendsNone, SendsOne, step_sends}
 use Rattle.bng_shard.proofs.Spelling.{IsControl, AreControl}
-use Rattle.bng_shard.proofs.TermLaws.{AnyCause, Moves, settled_terms, step_moves, terms_there, zip_keys, zip_profiles}
+use Rattle.bng_shard.proofs.TermLaws.{AnyCause, Moves, settled_terms, step_moves, terms_there, zip_keys}
 
 -- Terms -----------------------------------------------------------------------------------------------------------------
 
@@ -64,7 +64,7 @@ none_limited r s limited d (inr (a, is, may, m)) over = absurd (false≢true (sy
 
 -- a term that begins has a profile of the rules
 profiled : (r : Rules) (s : State) (limited : Bool) (d : Deed) → Moves r s limited d → HaveProfiles (length r.profiles) (terms_there s) → HaveProfiles (length r.profiles) (terms_there d.next)
-profiled r s limited d (inl (none, m)) have = zip_profiles AnyCause (length r.profiles) s.terms d.next.terms m.terms have
+profiled r s limited d (inl (none, m)) have = m.profiles have
 profiled r s limited d (inr (a, is, may, m)) have =
     subst (λ (ts : List Tenure). HaveProfiles (length r.profiles) (map term_in ts)) (sym m.terms) (profiles_more (length r.profiles) s.terms m.one have m.profile)
 

@@ -1,6 +1,6 @@
 -- What is kept of a shard's fields, and what a caller sees of a step.
-use Rattle.std.proofs.Common.{◌≡◌, ◌≢◌, ◌⊎◌, ⊎_elim, inl, inr, ℕ, ◌+◌, ◌-◌, ◌≤◌, ◌==◌, Bool, true, false, ◌||◌, cond, List, [], ◌∷◌, ◌++◌, map, length, length-append, append-nil, Some, take, drop, refl, sym, ap, subst, ◌∙◌, arith}
-use Rattle.std.specs.Prelude.{nat_le}
+use Rattle.std.proofs.Common.{◌≡◌, ◌≢◌, ◌⊎◌, ⊎_elim, inl, inr, ℕ, ◌+◌, ◌-◌, ◌≤◌, ◌==◌, Bool, true, false, ◌||◌, cond, List, [], ◌∷◌, ◌++◌, map, length, length-append, append-nil, None, Some, take, drop, refl, sym, ap, subst, ◌∙◌, arith}
+use Rattle.std.specs.Prelude.{Option, nat_le, option_to_list}
 use Rattle.std.specs.List.{AllByRecursion, flat_map, list_any}
 use Rattle.std.proofs.lemmas.Bool.{eq-eqb, ne_eqb}
 use Rattle.std.proofs.lemmas.Bool.Decides.{nat_tests}
@@ -24,7 +24,9 @@ use Rattle.bng_engine.specs.Views.{Row, ShardView, row_keys}
 use Rattle.bng_engine.proofs.SameLists.{same_equal}
 use Rattle.bng_pool.specs.Plain.{PlainView}
 use Rattle.bng_pool.specs.Tables.{Puts, Table, entry}
+use Rattle.bng_shard.specs.declared.changes.Answer.{Answer}
 use Rattle.bng_shard.specs.declared.rules.Rules.{Rules}
+use Rattle.bng_shard.specs.Changes.{IsAnswerOf}
 use Rattle.bng_shard.specs.Hearing.{Does, outs_most}
 use Rattle.bng_shard.specs.Protocol.{AnswersClaim, AreHeld, Handles, ShardState, Handled, claimed_by, key_in, pppoe, refused_by}
 use Rattle.bng_shard.specs.Room.{is_tick, is_end, has_tick, has_end}
@@ -85,10 +87,10 @@ owed_more journal e tick end =
 -- a step as a caller sees it -----------------------------------------------------------------------------------------------
 
 -- the fields of a shard that is in a round
-abbrev pub view : Rules → State → List Row → List Book → ℕ → List Entry → List OutRecord → ℕ → ShardView ShardState Entry
-view r s rows books allowance journal outs room = record {
+abbrev pub view : Rules → State → List Answer → List Row → List Book → ℕ → List Entry → List OutRecord → ℕ → ShardView ShardState Entry
+view r s changed rows books allowance journal outs room = record {
   number = s.sessions.shard;
-  state = record { rules = r; slots = s };
+  state = record { rules = r; slots = s; changed = changed };
   rows = rows;
   books = books;
   allowance = allowance;
@@ -198,20 +200,21 @@ module _ (r : Rules) (s s' : State) (outs outs' : List OutRecord) (e : Entry) (l
   pub moved_held : (pool' : PlainView) → AreHeld s.sessions.shard (terms_there s') pool'.table → AreHeld s'.sessions.shard (terms_there s') pool'.table
   moved_held pool' h = subst (λ (n : ℕ). AreHeld n (terms_there s') pool'.table) (sym moved_shard) h
 
-  module _ (rows rows' : List Row) (books books' : List Book) (allowance left room : ℕ) (journal journal' : List Entry) (counted : left + begun_in journal ≡ allowance) (is_limited : limited ≡ (left == 0))
+  module _ (changed changed' : List Answer) (answer : Option Answer) (is_answer : IsAnswerOf r s does.deed.entry answer) (pushed : changed' ≡ changed ++ option_to_list answer) (rows rows' : List Row) (books books' : List Book) (allowance left room : ℕ) (journal journal' : List Entry) (counted : left + begun_in journal ≡ allowance) (is_limited : limited ≡ (left == 0))
       (fit : row_keys rows' ≡ keys (terms_there s')) (sums : SayTheSame rows rows') where
     abbrev effect : Handled
-    effect = record { deed = does.deed; limited = limited; refused = refused_by r.pools e.claim }
+    effect = record { deed = does.deed; limited = limited; refused = refused_by r.pools e.claim; answer = answer }
 
     one_handled : BooksRise books does.deed.outs books' → (es : List Handled) → map (λ (h : Handled). h.deed.entry) es ≡ journal
-        → EngineHandles pppoe (with_journal (view r s rows books allowance journal outs room) es) effect (with_journal (view r s' rows' books' allowance journal' outs' (room - 1)) (es ++ effect ∷ []))
+        → EngineHandles pppoe (with_journal (view r s changed rows books allowance journal outs room) es) effect (with_journal (view r s' changed' rows' books' allowance journal' outs' (room - 1)) (es ++ effect ∷ []))
     one_handled rise es same = record {
-      is_step = record { step = does.says; refused = ap (refused_by r.pools) (sym claim_is) };
+      is_step = record { step = does.says; refused = ap (refused_by r.pools) (sym claim_is); answered = is_answer };
       limited = is_limited ∙ limit_is left (begun_in journal) allowance counted
           ∙ ap (λ (xs : List ℕ). nat_le allowance (length xs)) (ap (flat_map (λ (x : Entry). claimed_by x.claim)) (sym same) ∙ claims_same es);
       number = moved_shard;
       allowance = refl;
-      state = ap (λ (t : State). let x : ShardState = record { rules = r; slots = t } in x) (sym does.next);
+      state = ap (λ (t : State). let x : ShardState = record { rules = r; slots = t; changed = changed' } in x) (sym does.next)
+          ∙ ap (λ (answers : List Answer). let x : ShardState = record { rules = r; slots = does.deed.next; changed = answers } in x) pushed;
       fit = same_equal (row_keys rows') (keys (terms_there s')) fit;
       rows = sums;
       books = rise;
@@ -225,7 +228,7 @@ module _ (r : Rules) (s s' : State) (outs outs' : List OutRecord) (e : Entry) (l
 
     pub handles : (e0 : Entry) (claim : Claim) → e ≡ record e0 { claim = claim } → (pool pool' : PlainView) → AnswersClaim s.sessions.shard claim pool pool' → AreHeld s'.sessions.shard (terms_there s') pool'.table
         → (tally tally' : Book) → journal' ≡ journal ++ e ∷ [] → length e.item.frame.payload ≤ 4096 → BooksRise books does.deed.outs books' → Rises tally does.deed.outs tally' → length does.deed.outs ≤ outs_most e0.item.kind
-        → Handles (view r s rows books allowance journal outs room) (view r s' rows' books' allowance journal' outs' (room - 1)) pool pool' e0 fate tally tally'
+        → Handles (view r s changed rows books allowance journal outs room) (view r s' changed' rows' books' allowance journal' outs' (room - 1)) pool pool' e0 fate tally tally'
     handles e0 claim with_claim pool pool' answers held tally tally' is short rise rises few = record {
       claim = claim;
       shown = record { effect = effect; entry = does.entry ∙ with_claim; journal = is ∙ ap (λ (x : Entry). journal ++ x ∷ []) with_claim; handles = one_handled rise };
@@ -236,6 +239,11 @@ module _ (r : Rules) (s s' : State) (outs outs' : List OutRecord) (e : Entry) (l
       few = few;
       tallied = rises;
     }
+
+-- an entry has one answer at most
+pub few_answers : (o : Option Answer) → length (option_to_list o) ≤ 1
+few_answers None = omega arith
+few_answers (Some a) = omega arith
 
 -- what stands after some outs
 drop_front : (xs ys : List OutRecord) → drop (length xs) (xs ++ ys) ≡ ys

@@ -1,5 +1,5 @@
 -- What a step does to the terms of a shard: it may end some, and a verdict may begin one. Each session is on a port that is there.
-use Rattle.std.proofs.Common.{◌≡◌, ◌⊎◌, ⊎_elim, inl, inr, ℕ, ◌+◌, ◌<◌, Bool, true, false, not, ◌&&◌, ◌==◌, List, [], length, ◌∷◌, ◌++◌, map, filter, Option, Some, None, is_some, cond, if◌then◌else◌, refl, sym, ap, subst, ◌∙◌}
+use Rattle.std.proofs.Common.{IfSome, ◌≡◌, ◌⊎◌, ⊎_elim, inl, inr, ℕ, ◌+◌, ◌<◌, Bool, true, false, not, ◌&&◌, ◌==◌, List, [], length, ◌∷◌, ◌++◌, map, filter, Option, Some, None, is_some, cond, if◌then◌else◌, refl, sym, ap, subst, ◌∙◌}
 use Rattle.std.specs.List.{AllZip, list_any}
 use Rattle.std.proofs.lemmas.Bool.{cases_eq}
 use Rattle.bng_base.specs.declared.address.Ip4.{Ip4}
@@ -15,6 +15,8 @@ use Rattle.bng_engine.specs.Protocol.{HaveProfiles}
 use Rattle.bng_engine.specs.Terms.{Term, is_ended, is_live, keys}
 use Rattle.bng_grant.specs.Grants.{Gift}
 use Rattle.bng_ppp.specs.declared.whole_input.WholeInput.TheVariants.{Close}
+use Rattle.bng_coa.specs.Wants.{wanted}
+use Rattle.bng_radius_wire.specs.Grammar.{Packet}
 use Rattle.bng_slots.specs.Sessions.{value_at, with_value}
 use Rattle.bng_slots.proofs.SessionLaws.{value_at-with_value, value_at-with_other}
 use Rattle.bng_shard.specs.declared.meters.Plan.{Plan}
@@ -23,6 +25,7 @@ use Rattle.bng_base.specs.declared.item.At.{At}
 use Rattle.bng_shard.specs.declared.session.Lease.{Lease}
 use Rattle.bng_shard.specs.declared.session.Session.{Session}
 use Rattle.bng_shard.specs.State.{State, port_at, settled, with_session, with_driven, with_ended}
+use Rattle.bng_shard.specs.Changes.{Found, changed_by, found_by, lease_after, place_of, recast_by}
 use Rattle.bng_shard.specs.Deed.{Deed, at_of, handled, ignored}
 use Rattle.bng_shard.specs.Fits.{ArePlaced}
 use Rattle.bng_shard.specs.Link.{LinkStep, Drives, Told, ended, nas_request, settles, told, user_request}
@@ -34,10 +37,11 @@ use Rattle.bng_shard.specs.Tenures.{Tenure, closed, is_over, over_by}
 use Rattle.bng_shard.specs.Verdicts.{HearsVerdict, Judges, next_lease, next_term, settled_by, with_term}
 use Rattle.bng_shard.specs.declared.wish.Wish.TheVariants.{Nothing, Address}
 use Rattle.bng_shard.specs.Wishes.{Decides, IsAnswerTo, is_within, pool_for, refused_with, told_at, told_by, told_if, told_in, told_of, wish_among, wish_at, wish_if, wish_in}
+use Rattle.bng_shard.proofs.Changing.{found_is, place_there, recast_below}
 use Rattle.bng_shard.proofs.Naming.{next_of}
 use Rattle.bng_shard.proofs.Planning.{decided_placed}
 use Rattle.bng_shard.proofs.Values.{none_some, same_some}
-use Rattle.bng_shard.proofs.Walking.{Walks, end_walks, hears_walks}
+use Rattle.bng_shard.proofs.Walking.{Walks, change_walks, end_walks, hears_walks}
 
 -- the terms of a state, as the engine reads them
 abbrev pub terms_there : State → List Term
@@ -45,9 +49,9 @@ terms_there s = map term_in s.terms
 
 -- Terms side by side ---------------------------------------------------------------------------------------------------------
 
--- a term is as it was, or was live and has ended by a cause of which this holds
+-- a term is as it was, or was live, is under some profile, and may have ended by a cause of which this holds
 abbrev pub Lasts : (ℕ → Type 0) → Tenure → Tenure → Type 0
-Lasts C t t' = (t' ≡ t) ⊎ ((t.cause ≡ None) × (cause : ℕ) × C cause × (t' ≡ record t { cause = Some cause }))
+Lasts C t t' = (t' ≡ t) ⊎ ((t.cause ≡ None) × (place : ℕ) × (cause : Option ℕ) × IfSome cause C × (t' ≡ record t { profile = place; cause = cause }))
 
 -- whatever the cause
 abbrev pub AnyCause : ℕ → Type 0
@@ -60,8 +64,9 @@ module _ (C : ℕ → Type 0) where
 
   lasts_then : (t u v : Tenure) → Lasts C t u → Lasts C u v → Lasts C t v
   lasts_then t u v (inl e) h = subst (λ (w : Tenure). Lasts C w v) e h
-  lasts_then t u v (inr (live, cause, is, e)) (inl f) = inr (live, cause, is, f ∙ e)
-  lasts_then t u v (inr (live, cause, is, e)) (inr (again, other, was, f)) = absurd (none_some cause (sym again ∙ ap (λ (w : Tenure). w.cause) e))
+  lasts_then t u v (inr (live, place, cause, is, e)) (inl f) = inr (live, place, cause, is, f ∙ e)
+  lasts_then t u v (inr (live, place, cause, is, e)) (inr (again, other, later, was, f)) =
+      inr (live, other, later, was, f ∙ ap (λ (w : Tenure). let x : Tenure = record w { profile = other; cause = later } in x) e)
 
   pub zip_then : (ts us vs : List Tenure) → AllZip (Lasts C) ts us → AllZip (Lasts C) us vs → AllZip (Lasts C) ts vs
   zip_then [] [] [] g h = tt
@@ -72,7 +77,7 @@ module _ (C : ℕ → Type 0) where
   zip_then (t ∷ ts) (u ∷ us) (v ∷ vs) g h = (lasts_then t u v g.0 h.0, zip_then ts us vs g.1 h.1)
 
   one_over : (b : Bool) (o : Option ℕ) (cause : ℕ) (t : Tenure) → C cause → t.cause ≡ o → Lasts C t (cond (b && not (is_some o)) (record t { cause = Some cause }) t)
-  one_over true None cause t is e = inr (e, cause, is, refl)
+  one_over true None cause t is e = inr (e, t.profile, Some cause, is, refl)
   one_over true (Some k) cause t is e = inl refl
   one_over false o cause t is e = inl refl
 
@@ -86,9 +91,19 @@ module _ (C : ℕ → Type 0) where
   closed_last (Some l) None ts is = each_lasts ts
   closed_last (Some l) (Some c) ts is = each_over l.serial c ts (is c refl)
 
+  -- terms of which one is under another profile
+  one_recast : (b : Bool) (o : Option ℕ) (place : ℕ) (t : Tenure) → t.cause ≡ o → Lasts C t (cond (b && not (is_some o)) (record t { profile = place }) t)
+  one_recast true None place t e = inr (e, place, None, tt, λ i. record t { profile = place; cause = e i })
+  one_recast true (Some k) place t e = inl refl
+  one_recast false o place t e = inl refl
+
+  pub recast_last : (serial place : ℕ) (ts : List Tenure) → AllZip (Lasts C) ts (map (recast_by serial place) ts)
+  recast_last serial place [] = tt
+  recast_last serial place (t ∷ ts) = (one_recast (t.term.serial == serial) t.cause place t refl, recast_last serial place ts)
+
   one_key : (t u : Tenure) → Lasts C t u → (term_in u).key ≡ (term_in t).key
   one_key t u (inl e) = ap (λ (w : Tenure). (term_in w).key) e
-  one_key t u (inr (live, cause, is, e)) = ap (λ (w : Tenure). (term_in w).key) e
+  one_key t u (inr (live, place, cause, is, e)) = ap (λ (w : Tenure). (term_in w).key) e
 
   -- they keep their keys
   pub zip_keys : (ts us : List Tenure) → AllZip (Lasts C) ts us → keys (map term_in us) ≡ keys (map term_in ts)
@@ -100,16 +115,20 @@ module _ (C : ℕ → Type 0) where
       let rest = zip_keys ts us h.1 in
       λ i. key i ∷ rest i
 
-  one_profile : (t u : Tenure) → Lasts C t u → u.profile ≡ t.profile
-  one_profile t u (inl e) = ap (λ (w : Tenure). w.profile) e
-  one_profile t u (inr (live, cause, is, e)) = ap (λ (w : Tenure). w.profile) e
+-- The profiles of terms of which one ended --------------------------------------------------------------------------------------
 
-  -- and their profiles
-  pub zip_profiles : (n : ℕ) (ts us : List Tenure) → AllZip (Lasts C) ts us → HaveProfiles n (map term_in ts) → HaveProfiles n (map term_in us)
-  zip_profiles n [] [] h have = tt
-  zip_profiles n [] (u ∷ us) h have = absurd h
-  zip_profiles n (t ∷ ts) [] h have = absurd h
-  zip_profiles n (t ∷ ts) (u ∷ us) h have = (subst (λ (k : ℕ). k < n) (sym (one_profile t u h.0)) have.0, zip_profiles n ts us h.1 have.1)
+one_below : (n : ℕ) (b : Bool) (cause : ℕ) (t : Tenure) → t.profile < n → (cond b (record t { cause = Some cause }) t).profile < n
+one_below n true cause t low = low
+one_below n false cause t low = low
+
+over_below : (n serial cause : ℕ) (ts : List Tenure) → HaveProfiles n (map term_in ts) → HaveProfiles n (map term_in (map (over_by serial cause) ts))
+over_below n serial cause [] have = tt
+over_below n serial cause (t ∷ ts) have = (one_below n ((t.term.serial == serial) && not (is_over t)) cause t have.0, over_below n serial cause ts have.1)
+
+closed_below : (n : ℕ) (lease : Option Lease) (cause : Option ℕ) (ts : List Tenure) → HaveProfiles n (map term_in ts) → HaveProfiles n (map term_in (closed lease cause ts))
+closed_below n None cause ts have = have
+closed_below n (Some l) None ts have = have
+closed_below n (Some l) (Some cause) ts have = over_below n l.serial cause ts have
 
 one_left : (b : Bool) (t : Tenure) (ts : List Tenure) → map term_in (cond (not b) (t ∷ ts) ts) ≡ cond (not b) (term_in t ∷ map term_in ts) (map term_in ts)
 one_left true t ts = refl
@@ -135,14 +154,15 @@ all_live (t ∷ ts) h =
 
 -- States ---------------------------------------------------------------------------------------------------------------------
 
--- No term began: each is as it was, or has ended by a cause of which C holds. The number is that of s, and each session is on a port
--- where each of s was.
+-- No term began: each is as it was, or is under another profile, or has ended by a cause of which C holds. The number is that of s. Each
+-- session is on a port where each of s was, and each term is under a profile of the rules where each of s was.
 pub record Remains (C : ℕ → Type 0) (r : Rules) (s s' : State) : Type 0 where
   pub shard : s'.sessions.shard ≡ s.sessions.shard
   pub begun : s'.begun ≡ s.begun
   pub terms : AllZip (Lasts C) s.terms s'.terms
   pub news : s'.news ≡ s.news
   pub placed : ArePlaced r s.sessions → ArePlaced r s'.sessions
+  pub profiles : HaveProfiles (length r.profiles) (terms_there s) → HaveProfiles (length r.profiles) (terms_there s')
 
 -- one term began, with this address; the others are as they were
 pub record Begins (r : Rules) (s s' : State) (a : Ip4) : Type 0 where
@@ -182,6 +202,7 @@ module _ (r : Rules) where
       terms = subst (λ (ts : List Tenure). AllZip (Lasts C) s.terms ts) (sym (ap (λ (t : State). t.terms) e)) (each_lasts C s.terms);
       news = ap (λ (t : State). t.news) e;
       placed = λ h. subst (λ (t : State). ArePlaced r t.sessions) (sym e) h;
+      profiles = λ h. subst (λ (t : State). HaveProfiles (length r.profiles) (terms_there t)) (sym e) h;
     }
 
     remain_then : (s s' s'' : State) → Remains C r s s' → Remains C r s' s'' → Remains C r s s''
@@ -191,16 +212,39 @@ module _ (r : Rules) where
       terms = zip_then C s.terms s'.terms s''.terms g.terms h.terms;
       news = h.news ∙ g.news;
       placed = λ p. h.placed (g.placed p);
+      profiles = λ p. h.profiles (g.profiles p);
     }
 
     -- a session is another one, and a term may have ended
     remain_with : (s : State) (n : ℕ) (lease : Option Lease) (cause : Option ℕ) (y : Session) (asked : ℕ) → ((c : ℕ) → cause ≡ Some c → C c) → (ArePlaced r s.sessions → IsThere r y)
         → Remains C r s (with_driven s n lease cause y asked)
-    remain_with s n lease cause y asked is there = record { shard = refl; begun = refl; terms = closed_last C lease cause s.terms is; news = refl; placed = placed_with s n y there }
+    remain_with s n lease cause y asked is there = record {
+      shard = refl;
+      begun = refl;
+      terms = closed_last C lease cause s.terms is;
+      news = refl;
+      placed = placed_with s n y there;
+      profiles = closed_below (length r.profiles) lease cause s.terms;
+    }
 
     -- its live term goes on
     remain_looked : (s : State) (n at : ℕ) (x : Session) → value_at s.sessions n ≡ Some x → Remains C r s (with_session s n (looked at x))
-    remain_looked s n at x found = record { shard = refl; begun = refl; terms = each_lasts C s.terms; news = refl; placed = placed_with s n (looked at x) (λ p. p n x found) }
+    remain_looked s n at x found = record { shard = refl; begun = refl; terms = each_lasts C s.terms; news = refl; placed = placed_with s n (looked at x) (λ p. p n x found); profiles = λ h. h }
+
+    -- it is under another profile, and within other limits
+    remain_recast : (s : State) (e : Entry) (p : Packet) (f : Found) → found_by r s p.attributes ≡ Some f → Remains C r s (changed_by r s e p f)
+    remain_recast s e p f is =
+        let w = wanted r.profiles p in
+        let place = place_of f.term.profile w in
+        let n = f.term.term.session.0 in
+        record {
+          shard = refl;
+          begun = refl;
+          terms = recast_last C f.lease.serial place s.terms;
+          news = refl;
+          placed = placed_with s n (record f.session { lease = Some (lease_after f.lease w place) }) (λ all. all n f.session (found_is r s p.attributes f is).at);
+          profiles = λ have. recast_below (length r.profiles) f.lease.serial place s.terms (place_there r s p f is have) have;
+        }
 
     remain_ended : (s : State) (n : ℕ) (x : Session) (cause : ℕ) → C cause → value_at s.sessions n ≡ Some x → Remains C r s (with_ended s n x.lease cause (ended x))
     remain_ended s n x cause is at = record {
@@ -209,6 +253,7 @@ module _ (r : Rules) where
       terms = closed_last C x.lease (Some cause) s.terms (λ c e. subst C (same_some cause c e) is);
       news = refl;
       placed = placed_with s n (ended x) (λ p. p n x at);
+      profiles = closed_below (length r.profiles) x.lease (Some cause) s.terms;
     }
 
   remains_walk : Walks r (Remains AnyCause r)
@@ -218,11 +263,12 @@ module _ (r : Rules) where
     driven = λ Steps e s n x x' outs cause asked' at drives. remain_with AnyCause s n x.lease cause x' asked' (λ c is. tt) (λ p. drives_there (at_of s e) s.asked x x' outs cause asked' Steps drives);
     made = λ Steps e s n x x' outs cause asked' none drives. remain_with AnyCause s n None cause x' asked' (λ c is. tt) (λ p. drives_there (at_of s e) s.asked x x' outs cause asked' Steps drives);
     padt = λ s n x m at is. remain_ended AnyCause s n x user_request tt at;
-    passes = λ s n moment ms. record { shard = refl; begun = refl; terms = each_lasts AnyCause s.terms; news = refl; placed = λ p. p };
+    passes = λ s n moment ms. record { shard = refl; begun = refl; terms = each_lasts AnyCause s.terms; news = refl; placed = λ p. p; profiles = λ h. h };
     looks = remain_looked AnyCause;
     lapses = λ e s n x x' outs cause none asked' at over drives.
         remain_with AnyCause s n x.lease (Some cause) x' asked' (λ c is. tt) (λ p. drives_there (at_of s e) s.asked (lapsed x) x' outs none asked' (told r e Close) drives);
-    tells = λ s t. record { shard = refl; begun = refl; terms = each_lasts AnyCause s.terms; news = refl; placed = λ p. p };
+    lapses_circuit = λ s n x over cause at is lapse. remain_with AnyCause s n x.lease (Some cause) (lapsed x) s.asked (λ c e. tt) (λ p. p n x at);
+    tells = λ s t. record { shard = refl; begun = refl; terms = each_lasts AnyCause s.terms; news = refl; placed = λ p. p; profiles = λ h. h };
   }
 
 -- Verdicts -------------------------------------------------------------------------------------------------------------------
@@ -343,8 +389,11 @@ module _ (r : Rules) (s : State) (limited : Bool) (d : Deed) (h : Step r s limit
       let judge : d.entry.item.kind ≡ Verdict → Moves r s limited d = λ is. verdict_moves r s limited d (subst (λ (kind : ItemKind). Hears kind r s limited d.entry d) is h.hears) in
       let stop : d.entry.item.kind ≡ End → Remains AnyCause r s d.next = λ is.
       end_walks r (Remains AnyCause r) (remains_walk r) s limited d.entry d (λ s' n x at. remain_ended r AnyCause s' n x nas_request tt at) (subst (λ (kind : ItemKind). Hears kind r s limited d.entry d) is h.hears) in
+      let change : d.entry.item.kind ≡ Change → Remains AnyCause r s d.next = λ is.
+      change_walks r (Remains AnyCause r) (remains_walk r) s limited d.entry d (λ p f found. remain_recast r AnyCause s d.entry p f found) (subst (λ (kind : ItemKind). Hears kind r s limited d.entry d) is h.hears) in
       ⊎_elim judge
       (λ (none : d.entry.claim ≡ NoClaim). ⊎_elim judge
-      (λ (rest : (d.entry.item.kind ≡ End) ⊎ Remains AnyCause r s d.next). inl (ap claimed_by none, ⊎_elim stop (λ (m : Remains AnyCause r s d.next). m) rest))
+      (λ (rest : (d.entry.item.kind ≡ End) ⊎ ((d.entry.item.kind ≡ Change) ⊎ Remains AnyCause r s d.next)).
+      inl (ap claimed_by none, ⊎_elim stop (λ (last : (d.entry.item.kind ≡ Change) ⊎ Remains AnyCause r s d.next). ⊎_elim change (λ (m : Remains AnyCause r s d.next). m) last) rest))
       (hears_walks r (Remains AnyCause r) (remains_walk r) s limited d.entry d d.entry.item.kind h.hears))
       (claim_or d.entry.item.kind d.entry.claim h.claim)

@@ -6,10 +6,13 @@ use Rattle.bng_lns.specs.Timed.{reminded}
 use Rattle.bng_lns.specs.Tunnels.{TunnelsState}
 use Rattle.bng_shard.specs.declared.rules.Rules.{Rules}
 use Rattle.bng_base.specs.declared.item.At.{At}
+use Rattle.bng_shard.specs.declared.session.Service.{Service}
+use Rattle.bng_shard.specs.declared.session.Service.TheVariants.{Provisioned, Discovered}
 use Rattle.bng_shard.specs.declared.session.Session.{Session}
-use Rattle.bng_shard.specs.State.{State, with_tunnels}
+use Rattle.bng_shard.specs.State.{State, with_driven, with_tunnels}
 use Rattle.bng_shard.specs.Deed.{at_of}
-use Rattle.bng_shard.specs.Timers.{Ticks, Ends, TellsEnd, IsFirstDue, IsTimed, LooksAt, NoneIsDue, StopsTunnels, at_once}
+use Rattle.bng_shard.specs.Passing.{cause_at, passed_at}
+use Rattle.bng_shard.specs.Timers.{Ticks, Ends, TellsEnd, IsFirstDue, IsTimed, LooksAt, LosesTerm, TimesIn, NoneIsDue, StopsTunnels, at_once}
 use Rattle.bng_shard.specs.Timed.{TickedOnce, EndedOnce, Ticked, Ended, TickDone, EndDone, ToldInTurn}
 
 -- whose outs they are stays while the shard's number stays
@@ -23,13 +26,22 @@ few_more outs₀ sent outs most e few = omega (arith, length-append outs₀ sent
 pub more_sent : (outs₀ sent outs first outs₁ : List OutRecord) → outs ≡ outs₀ ++ sent → outs₁ ≡ outs ++ first → outs₁ ≡ outs₀ ++ (sent ++ first)
 more_sent outs₀ sent outs first outs₁ e f = f ∙ ap (λ (front : List OutRecord). front ++ first) e ∙ append_assoc outs₀ sent first
 
--- a look keeps the shard's number, and so does the handling of a deadline
+-- an end of a term keeps the shard's number, and so does a look, and the handling of a deadline
+loses_number : (v : Service) (cause : ℕ) (r : Rules) (e : Entry) (s : State) (n : ℕ) (x : Session) (outs : List OutRecord) (s' : State) → LosesTerm v cause r e s n x outs s' → s'.sessions.shard ≡ s.sessions.shard
+loses_number (Provisioned over) cause r e s n x outs s' h = ap (λ (q : State). q.sessions.shard) h.1
+loses_number (Discovered m) cause r e s n x outs s' h = ap (λ (q : State). q.sessions.shard) h.4
+
 looks_number : (k : Option ℕ) (r : Rules) (e : Entry) (s : State) (n : ℕ) (x : Session) (outs : List OutRecord) (s' : State) → LooksAt k r e s n x outs s' → s'.sessions.shard ≡ s.sessions.shard
 looks_number None r e s n x outs s' h = ap (λ (q : State). q.sessions.shard) h.1
-looks_number (Some cause) r e s n x outs s' h = ap (λ (q : State). q.sessions.shard) h.4
+looks_number (Some cause) r e s n x outs s' h = loses_number x.service cause r e s n x outs s' h
+
+times_number : (v : Service) (r : Rules) (e : Entry) (s : State) (n : ℕ) (x : Session) (outs : List OutRecord) (s' : State) → TimesIn v r e s n x outs s' → s'.sessions.shard ≡ s.sessions.shard
+times_number (Provisioned over) r e s n x outs s' h = looks_number (cause_at (passed_at s.passed x.number) x.lease e.moment) r e s n x outs s' h
+times_number (Discovered m) r e s n x outs s' h =
+    looks_number (cause_at (passed_at s.passed h.after.number) h.after.lease e.moment) r e (with_driven s n x.lease h.cause h.after h.asked) n h.after h.then s' h.looks
 
 timed_number : (r : Rules) (e : Entry) (s : State) (n : ℕ) (outs : List OutRecord) (s' : State) → IsTimed r e s n outs s' → s'.sessions.shard ≡ s.sessions.shard
-timed_number r e s n outs s' h = looks_number _ r e _ n h.after h.then s' h.looks
+timed_number r e s n outs s' (x, at, h) = times_number x.service r e s n x outs s' h
 
 -- After n deadlines this is the state and this is what was sent: whatever Ticks go on from there are so many more from the first
 -- state on.

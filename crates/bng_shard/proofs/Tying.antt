@@ -1,20 +1,25 @@
 -- Each session's lease stays that of a live term over a step, as no two terms have one number.
-use Rattle.std.proofs.Common.{◌≡◌, ◌≢◌, inl, inr, ℕ, ◌+◌, ◌<◌, ◌≤◌, Bool, true, false, cond, not, ◌&&◌, ◌==◌, List, [], ◌∷◌, ◌++◌, Option, Some, None, map, refl, sym, ap, subst, ◌∙◌, arith}
+use Rattle.std.proofs.Common.{◌≡◌, ◌≢◌, inl, inr, ℕ, ◌+◌, ◌<◌, ◌≤◌, Bool, true, false, cond, not, ◌&&◌, ◌==◌, List, [], ◌∷◌, ◌++◌, Option, Some, None, is_some, map, refl, sym, ap, subst, ◌∙◌, arith}
 use Rattle.std.specs.List.{AllByRecursion}
-use Rattle.std.proofs.lemmas.Bool.{cases_eq}
+use Rattle.std.proofs.lemmas.Bool.{cases_eq, eq-eqb, ne_eqb}
 use Rattle.bng_base.specs.declared.address.Ip4.{Ip4}
 use Rattle.bng_base.specs.declared.address.SessionNo.{SessionNo}
 use Rattle.bng_base.specs.declared.circuit.Circuit.TheVariants.{Pppoe}
 use Rattle.bng_base.specs.declared.circuit.TermId.{TermId}
+use Rattle.bng_base.specs.declared.item.Entry.{Entry}
 use Rattle.bng_base.specs.declared.item.OutRecord.{OutRecord}
+use Rattle.bng_coa.specs.Wants.{wanted}
 use Rattle.bng_engine.specs.Lists.{AnyOf}
+use Rattle.bng_radius_wire.specs.Grammar.{Packet}
 use Rattle.bng_slots.specs.Sessions.{value_at, with_value}
 use Rattle.bng_slots.proofs.SessionLaws.{value_at-with_value, value_at-with_other}
 use Rattle.bng_term.specs.declared.limits.Limits.{Limits}
 use Rattle.bng_shard.specs.Made.{Question}
-use Rattle.bng_shard.specs.Passing.{looked}
+use Rattle.bng_shard.specs.Changes.{Found, changed_by, found_by, lease_after, meters_after, place_of, recast_by, with_change}
+use Rattle.bng_shard.specs.Passing.{lapsed, looked}
 use Rattle.bng_shard.specs.Serving.{AreOwn}
 use Rattle.bng_base.specs.declared.item.At.{At}
+use Rattle.bng_shard.specs.declared.meters.Meters.{Meters}
 use Rattle.bng_shard.specs.declared.meters.Plan.{Plan}
 use Rattle.bng_shard.specs.declared.rules.Rules.{Rules}
 use Rattle.bng_shard.specs.declared.session.Lease.{Lease}
@@ -28,11 +33,12 @@ use Rattle.bng_shard.specs.Step.{Step}
 use Rattle.bng_shard.specs.Tenures.{Tenure, closed, is_over, kept_lease, over_by}
 use Rattle.bng_shard.specs.Verdicts.{Judges, next_lease, next_term, settled_by, with_term}
 use Rattle.bng_shard.proofs.Beginning.{any_closed}
+use Rattle.bng_shard.proofs.Changing.{found_is}
 use Rattle.bng_shard.proofs.ListParts.{any_last, any_more}
 use Rattle.bng_shard.proofs.SeenLeases.{looked_was, seen_at}
 use Rattle.bng_shard.proofs.Serves.{none_kept}
 use Rattle.bng_shard.proofs.Values.{none_some, same_some}
-use Rattle.bng_shard.proofs.Walking.{Walks, step_walks_by, walks_by}
+use Rattle.bng_shard.proofs.Walking.{Walks, change_walks, step_walks_by, walks_by}
 
 -- no two terms have one number
 abbrev pub HaveOwn : List Tenure → Type 0
@@ -86,6 +92,22 @@ closed_all P None cause ts h = h
 closed_all P (Some l) None ts h = h
 closed_all P (Some l) (Some cause) ts h = over_all P l.serial cause ts h
 
+-- or are under another profile
+serial_recast : (serial place : ℕ) (t : Tenure) → (recast_by serial place t).term.serial ≡ t.term.serial
+serial_recast serial place t =
+    elim ((t.term.serial == serial) && not (is_over t)) as (λ b. (cond b (record t { profile = place }) t).term.serial ≡ t.term.serial) [ true ↦ refl | false ↦ refl ]
+
+recast_all : (P : ℕ → Type 0) (serial place : ℕ) (ts : List Tenure) → AllByRecursion (λ (u : Tenure). P u.term.serial) ts → AllByRecursion (λ (u : Tenure). P u.term.serial) (map (recast_by serial place) ts)
+recast_all P serial place [] h = tt
+recast_all P serial place (t ∷ ts) h = (subst P (sym (serial_recast serial place t)) h.0, recast_all P serial place ts h.1)
+
+recast_own : (serial place : ℕ) (ts : List Tenure) → HaveOwn ts → HaveOwn (map (recast_by serial place) ts)
+recast_own serial place [] h = tt
+recast_own serial place (t ∷ ts) h = (
+  subst (λ (m : ℕ). AllByRecursion (λ (u : Tenure). m ≢ u.term.serial) (map (recast_by serial place) ts)) (sym (serial_recast serial place t)) (recast_all (λ (k : ℕ). t.term.serial ≢ k) serial place ts h.0),
+  recast_own serial place ts h.1,
+)
+
 -- one more, with a number above all
 all_last : (P : Tenure → Type 0) (ts : List Tenure) (t : Tenure) → AllByRecursion P ts → P t → AllByRecursion P (ts ++ t ∷ [])
 all_last P [] t h is = (is, tt)
@@ -118,6 +140,16 @@ same_term x y l t number port mac is =
 looked_term : (at : ℕ) (x : Session) (k l : Lease) (t : Tenure) → l ≡ seen_at at k → IsTermOf x k t → IsTermOf (looked at x) l t
 looked_term at x k l t same is =
     subst (λ (j : Lease). IsTermOf (looked at x) j t) (sym same) (record { term = is.term; circuit = is.circuit; address = is.address; profile = is.profile; live = is.live })
+
+-- and of one under the profile of its term
+recast_is : (x : Session) (l k : Lease) (t : Tenure) → k.serial ≡ l.serial → k.address ≡ l.address → IsTermOf x l t → IsTermOf (record x { lease = Some k }) k (record t { profile = k.profile })
+recast_is x l k t serial address is = record {
+  term = is.term ∙ ap (λ (m : ℕ). let t : TermId = record { session = x.number; serial = m } in t) (sym serial);
+  circuit = is.circuit;
+  address = is.address ∙ sym address;
+  profile = refl;
+  live = is.live;
+}
 
 any_of : (P Q : Tenure → Type 0) (ts : List Tenure) → ((t : Tenure) → P t → Q t) → AnyOf P ts → AnyOf Q ts
 any_of P Q [] f any = any
@@ -211,6 +243,52 @@ module _ (s : State) (h : Holds s) where
         numbered = h.numbered;
       }
 
+  -- once its live term is under another profile, and within other limits
+  recast_ties : (n : ℕ) (x : Session) (l k : Lease) (meters : List Meters) → value_at s.sessions n ≡ Some x → x.lease ≡ Some l → k.serial ≡ l.serial → k.address ≡ l.address
+      → Holds (with_change s n x k meters)
+  recast_ties n x l k meters at leased serial address =
+      let x' : Session = record x { lease = Some k } in
+      let stands : (m : ℕ) (y : Session) → m ≡ n → value_at (with_value s.sessions n x') m ≡ Some y → y ≡ x' = λ m y e there.
+      same_some y x' (sym there ∙ ap (λ (j : ℕ). value_at (with_value s.sessions n x') j) e ∙ value_at-with_value s.sessions n x') in
+      record {
+        own = λ m y j there its. elim (cases_eq m n) [
+          | inl e ↦ ap (λ (z : Session). z.number.0) (stands m y e there) ∙ h.own n x l at leased ∙ sym e
+          | inr d ↦ h.own m y j (sym (value_at-with_other s.sessions n x' m d) ∙ there) its
+        ];
+        tied = λ m y j there its. elim (cases_eq m n) [
+          | inl e ↦
+              let it = stands m y e there in
+              let same : k ≡ j = same_some k j (ap (λ (z : Session). z.lease) (sym it) ∙ its) in
+              subst (λ (z : Session). AnyOf (IsTermOf z j) (map (recast_by k.serial k.profile) s.terms)) (sym it)
+              (subst (λ (i : Lease). AnyOf (IsTermOf x' i) (map (recast_by k.serial k.profile) s.terms)) same (its_recast s.terms (h.tied n x l at leased)))
+          | inr d ↦
+              let old = sym (value_at-with_other s.sessions n x' m d) ∙ there in
+              other_recast y j s.terms (λ t is same. apart_serials m n y x j l d old its at leased (sym (ap (λ (i : TermId). i.serial) is.term) ∙ same ∙ serial)) (h.tied m y j old its)
+        ];
+        apart = recast_own k.serial k.profile s.terms h.apart;
+        numbered = recast_all (λ (i : ℕ). i ≤ s.begun) k.serial k.profile s.terms h.numbered;
+      }
+    where
+      -- the term of the lease is under the profile
+      one_recast : (t : Tenure) → IsTermOf x l t → recast_by k.serial k.profile t ≡ record t { profile = k.profile }
+      one_recast t is =
+          ap (λ (b : Bool). cond (b && not (is_over t)) (record t { profile = k.profile }) t) (eq-eqb t.term.serial k.serial (ap (λ (i : TermId). i.serial) is.term ∙ sym serial))
+          ∙ ap (λ (o : Option ℕ). cond (not (is_some o)) (record t { profile = k.profile }) t) is.live
+
+      its_recast : (ts : List Tenure) → AnyOf (IsTermOf x l) ts → AnyOf (IsTermOf (record x { lease = Some k }) k) (map (recast_by k.serial k.profile) ts)
+      its_recast [] any = absurd any
+      its_recast (t ∷ ts) (inl is) = inl (subst (IsTermOf (record x { lease = Some k }) k) (sym (one_recast t is)) (recast_is x l k t serial address is))
+      its_recast (t ∷ ts) (inr any) = inr (its_recast ts any)
+
+      -- another one is as it was
+      stays_as : (t : Tenure) → t.term.serial ≢ k.serial → t ≡ recast_by k.serial k.profile t
+      stays_as t ne = sym (ap (λ (b : Bool). cond (b && not (is_over t)) (record t { profile = k.profile }) t) (ne_eqb t.term.serial k.serial ne))
+
+      other_recast : (y : Session) (j : Lease) (ts : List Tenure) → ((t : Tenure) → IsTermOf y j t → t.term.serial ≢ k.serial) → AnyOf (IsTermOf y j) ts → AnyOf (IsTermOf y j) (map (recast_by k.serial k.profile) ts)
+      other_recast y j [] other any = absurd any
+      other_recast y j (t ∷ ts) other (inl is) = inl (subst (IsTermOf y j) (stays_as t (other t is)) is)
+      other_recast y j (t ∷ ts) other (inr any) = inr (other_recast y j ts other any)
+
   -- once a term of it has begun
   term_ties : (n : ℕ) (x x' : Session) (asked : ℕ) (plan : Plan) (limits : Limits) (a : Ip4) (q : Question) (class : List ℕ) (moment : ℕ) → x.number.0 ≡ n → x'.number ≡ x.number → x'.port ≡ x.port → x'.mac ≡ x.mac
       → Holds (with_term s n x' asked (next_lease s plan limits moment a) (next_term s x q plan class moment a) (meters_of plan moment))
@@ -264,8 +342,17 @@ ties_walk r = record {
   lapses = λ e s n x x' outs cause none asked' at over d h.
       let bare : x'.lease ≡ None = ap (λ (y : Session). y.lease) d.session ∙ none_kept d.says.term_ended in
       holds_with s h n x x.lease (λ k is. (at, is)) (Some cause) x' asked' (λ l its. absurd (none_some l (sym bare ∙ its)));
+  lapses_circuit = λ s n x over cause at is lapse h. holds_with s h n x x.lease (λ k is. (at, is)) (Some cause) (lapsed x) s.asked (λ l its. absurd (none_some l its));
   tells = λ s t h. record { own = h.own; tied = h.tied; apart = h.apart; numbered = h.numbered };
 }
+
+-- so it is where a request changes a term
+ties_recast : (r : Rules) (s : State) (e : Entry) (p : Packet) (f : Found) → found_by r s p.attributes ≡ Some f → Ties s (changed_by r s e p f)
+ties_recast r s e p f is h =
+    let found = found_is r s p.attributes f is in
+    let w = wanted r.profiles p in
+    let k = lease_after f.lease w (place_of f.term.profile w) in
+    recast_ties s h f.term.term.session.0 f.session f.lease k (meters_after r s f.session.number e.moment f.term.profile (place_of f.term.profile w)) found.at found.leased refl refl
 
 module _ (r : Rules) (s : State) (limited : Bool) (d : Deed) (own : AreOwn s.sessions) where
   settled_ties : (t : Told) (j : Judges r s d.entry t d) → (lease : Option Ip4) → Ties s (settled_by s d.entry.item.target j.x j.question t d.entry.moment j.after j.asked lease)
@@ -280,4 +367,5 @@ module _ (r : Rules) (s : State) (limited : Bool) (d : Deed) (own : AreOwn s.ses
   -- so it is after a step
   pub step_ties : Holds s → Step r s limited d → Holds d.next
   step_ties h step =
-      step_walks_by r Ties (walks_by r Ties (ties_walk r)) (λ s' n x at k. ended_ties s' k n x nas_request at) s limited d (λ t decides j. settled_ties t j t.lease) step h
+      step_walks_by r Ties (walks_by r Ties (ties_walk r)) (λ s' n x at k. ended_ties s' k n x nas_request at) s limited d (λ t decides j. settled_ties t j t.lease)
+      (λ is heard. change_walks r Ties (ties_walk r) s limited d.entry d (λ p f found. ties_recast r s d.entry p f found) heard) step h

@@ -1,5 +1,5 @@
 -- What the fields of a shard keep.
-use Rattle.std.specs.Prelude.{◌≡◌, ◌≢◌, ℕ, ◌+◌, ◌*◌, ◌^◌, ◌<◌, ◌≤◌, Some, cond, List, length}
+use Rattle.std.specs.Prelude.{◌≡◌, ◌≢◌, ℕ, ◌+◌, ◌*◌, ◌^◌, ◌<◌, ◌≤◌, Some, cond, List, length, vec_capacity}
 use Rattle.std.specs.List.{All, AllPairs, flat_map}
 use Rattle.bng_base.specs.declared.item.Entry.{Entry}
 use Rattle.bng_base.specs.declared.settings.AccessPort.{AccessPort}
@@ -29,7 +29,7 @@ begun_in journal = length (flat_map (λ (e : Entry). claimed_by e.claim) journal
 -- No term has a number above those that began, no two have one address, and each session's lease is that of a live term. As long as a
 -- round goes on, as many terms may begin still as the allowance is above those that began in it. At most 16 pools, a way to authenticate,
 -- and what each access port offers. At most 16 profiles, and of each its name and a book, in their order. Where a round has room for an
--- entry, there is room for it, for its outs, and for a term that it begins.
+-- entry, there is room for it, for its outs, for a term that it begins, and for what it is answered.
 pub record Fits (a : Inside) : Type 0 where
   pub numbered : All (λ (r : Running). r.term.serial ≤ a.served.begun) a.terms.rows
   pub numbered_news : All (λ (r : Running). r.term.serial ≤ a.served.begun) a.terms.news
@@ -47,3 +47,4 @@ pub record Fits (a : Inside) : Type 0 where
   pub journal_room : length a.journal.items + a.room ≤ a.journal.room
   pub outs_room : 0 < a.room → length a.outs.items + 10 * a.room + owed a.journal.items + 5 ≤ a.outs.room
   pub terms_room : a.room ≤ a.terms.room
+  pub changed_room : length a.changed.items + a.room ≤ vec_capacity a.changed

@@ -1,5 +1,5 @@
 -- Interims (RFC 2869 section 5.16): which live terms owe one, and which were taken.
-use Rattle.std.specs.Prelude.{ℕ, ◌≡◌, ◌≤◌, ◌==◌, max, Bool, false, nat_le, List, Option, Some, None, IfSome, filter, filter_map, find, replicate, slice_index_or, slice_set}
+use Rattle.std.specs.Prelude.{ℕ, ◌≡◌, ◌≤◌, ◌==◌, max, Bool, false, true, nat_le, List, [], ◌∷◌, Option, Some, None, IfSome, filter, filter_map, find, replicate, slice_index_or, slice_set}
 use Rattle.std.specs.Option.{option_map_or, option_and_then}
 use Rattle.bng_base.specs.declared.address.SessionNo.{SessionNo}
 use Rattle.bng_engine.specs.Views.{Row, ShardView}
@@ -55,6 +55,10 @@ owed v last now = filter_map (row_in v.rows) (filter (owes last now) (values v.s
 -- no Interim is due before the moment that is kept for that
 abbrev pub AwaitsInterims : State → Reports → Type 0
 AwaitsInterims s r = (n : ℕ) (x : Session) → value_at s.sessions n ≡ Some x → IfSome (interim_at r.last x) (λ at. r.next ≤ at)
+
+abbrev pub are_none : {X : Type 0} → List X → Bool
+are_none [] = true
+are_none (x ∷ xs) = false
 
 -- what is told of a term
 abbrev pub row_told : ReportedTerm → Row

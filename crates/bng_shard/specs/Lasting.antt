@@ -9,7 +9,7 @@ use Rattle.bng_shard.specs.declared.session.Service.{Service}
 use Rattle.bng_shard.specs.declared.session.Service.TheVariants.{Provisioned, Discovered}
 use Rattle.bng_shard.specs.declared.session.Session.{Session}
 use Rattle.bng_shard.specs.Deed.{Deed}
-use Rattle.bng_shard.specs.Link.{nas_request, user_request}
+use Rattle.bng_shard.specs.Link.{admin_reset, nas_request, user_request}
 use Rattle.bng_shard.specs.Protocol.{claimed_by, key_in}
 use Rattle.bng_shard.specs.State.{State, made_one}
 use Rattle.bng_shard.specs.Tenures.{Tenure}
@@ -46,18 +46,26 @@ pub record AreTenures (moment : ℕ) (s : State) : Type 0 where
   pub each_new : All (IsTenureOf s.sessions.shard s.begun moment) s.news
   pub rising_new : AllPairs Precedes s.news
 
--- the causes by which terms end (RFC 2866 section 5.10): User Request, Lost Carrier, Idle Timeout, Session Timeout, and the gateway's own
--- stop, NAS Request
-abbrev pub IsCause : ℕ → Type 0
-IsCause cause = (cause ≡ user_request) ⊎ ((cause ≡ 2) ⊎ ((cause ≡ 4) ⊎ ((cause ≡ 5) ⊎ (cause ≡ nas_request))))
+-- the causes by which a term is ended that no subscriber ends (RFC 2866 section 5.10): Idle Timeout, Session Timeout, and Admin Reset, by a
+-- Disconnect-Request
+abbrev pub IsLapse : ℕ → Type 0
+IsLapse cause = (cause ≡ 4) ⊎ ((cause ≡ 5) ⊎ (cause ≡ admin_reset))
 
--- The first so many terms are those of provisioned circuits: they end by the gateway's own stop alone (NAS Request, RFC 2866 section
--- 5.10). The lease of each session that discovery made is that of a later term. Each term that has ended has one of the causes that there
--- are.
+-- those by which the term of a provisioned circuit ends: these, and the gateway's own stop, NAS Request
+abbrev pub IsCircuitCause : ℕ → Type 0
+IsCircuitCause cause = IsLapse cause ⊎ (cause ≡ nas_request)
+
+-- and those by which terms end: User Request and Lost Carrier too
+abbrev pub IsCause : ℕ → Type 0
+IsCause cause = (cause ≡ user_request) ⊎ ((cause ≡ 2) ⊎ IsCircuitCause cause)
+
+-- The first so many terms are those of provisioned circuits: no subscriber ends them, but their timeouts, a Disconnect-Request and the
+-- gateway's own stop do. The lease of each session that discovery made is that of a later term. Each term that has ended has one of the
+-- causes that there are.
 pub record CircuitsLast (circuits : ℕ) (s : State) : Type 0 where
   pub few : circuits ≤ s.begun
   pub later : (n : ℕ) (x : Session) (l : Lease) → value_at s.sessions n ≡ Some x → made_one x.service ≡ 1 → x.lease ≡ Some l → circuits < l.serial
-  pub causes : All (λ (t : Tenure). t.term.serial ≤ circuits → (t.cause ≡ None) ⊎ (t.cause ≡ Some nas_request)) s.terms
+  pub causes : All (λ (t : Tenure). t.term.serial ≤ circuits → IfSome t.cause IsCircuitCause) s.terms
   pub known : All (λ (t : Tenure). IfSome t.cause IsCause) s.terms
 
 -- the link of a session keeps its phases, and as long as the session has a lease, its term is live and the session has not ended

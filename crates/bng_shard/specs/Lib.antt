@@ -19,6 +19,7 @@ pub mod Verdicts
 pub mod Discovery
 pub mod Frames
 pub mod Timers
+pub mod Changes
 pub mod Step
 pub mod Whose
 pub mod Sums

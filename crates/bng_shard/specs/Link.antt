@@ -76,9 +76,13 @@ with_link x made asked says link = record x {
   lease = kept_lease says.term_ended x.lease;
 }
 
--- the causes of an end (RFC 2866 section 5.10): by the subscriber's PADT, User Request; by the gateway's own stop, NAS Request
+-- the causes of an end (RFC 2866 section 5.10): by the subscriber's PADT, User Request; by a Disconnect-Request, Admin Reset; by the
+-- gateway's own stop, NAS Request
 abbrev pub user_request : ℕ
 user_request = 1
+
+abbrev pub admin_reset : ℕ
+admin_reset = 6
 
 abbrev pub nas_request : ℕ
 nas_request = 10

@@ -16,24 +16,24 @@ use Rattle.bng_shard.specs.Tenures.{Tenure}
 use Rattle.bng_shard.specs.Limited.{no_limits}
 use Rattle.bng_term.specs.Lifetimes.{leased}
 
--- what a circuit leases, by a term with this number; it has no timeouts, so that no moment counts for it
-abbrev pub lease_from : Static → ℕ → Lease
-lease_from c serial = record { serial = serial; address = c.address; profile = c.profile; life = leased no_limits 0 }
+-- what a circuit leases from this moment on, by a term with this number; it has no timeouts
+abbrev pub lease_from : ℕ → Static → ℕ → Lease
+lease_from now c serial = record { serial = serial; address = c.address; profile = c.profile; life = leased no_limits now }
 
--- the session of a provisioned circuit, whose term has this number
-abbrev pub provisioned : Static → ℕ → Session
-provisioned c serial = record {
+-- the session of a provisioned circuit, whose term has this number and began at this moment
+abbrev pub provisioned : ℕ → Static → ℕ → Session
+provisioned now c serial = record {
   number = c.session;
   port = c.port;
   mac = c.mac;
   service = Provisioned false;
-  lease = Some (lease_from c serial);
+  lease = Some (lease_from now c serial);
 }
 
 -- these, by their session numbers, with their terms numbered on after n
-abbrev pub numbered_after : ℕ → List Static → List (ℕ × Session)
-numbered_after n [] = []
-numbered_after n (c ∷ cs) = (c.session.0, provisioned c (n + 1)) ∷ numbered_after (n + 1) cs
+abbrev pub numbered_after : ℕ → ℕ → List Static → List (ℕ × Session)
+numbered_after now n [] = []
+numbered_after now n (c ∷ cs) = (c.session.0, provisioned now c (n + 1)) ∷ numbered_after now (n + 1) cs
 
 -- the circuit with this session number, if there is one
 abbrev pub circuit_at : List Static → ℕ → List Static
@@ -81,7 +81,7 @@ no_tunnels number = record { shard = number; places = [] }
 -- what stands in a shard at its opening, which is at this moment: of each term a Start is formed then
 abbrev pub opened_slots : ℕ → List Profile → List Static → ℕ → State
 opened_slots number profiles circuits now = record {
-  sessions = record { shard = number; by_number = from_sorted (numbered_after 0 (in_order number circuits)) };
+  sessions = record { shard = number; by_number = from_sorted (numbered_after now 0 (in_order number circuits)) };
   begun = length circuits;
   asked = 0;
   terms = tenures_after now 0 (in_order number circuits);

@@ -1,5 +1,5 @@
 -- The protocol of a shard, as the engine reads it.
-use Rattle.std.specs.Prelude.{◌≡◌, ℕ, ◌+◌, ◌≤◌, ◌==◌, Bool, List, [], ◌∷◌, ◌++◌, Option, Some, None, filter, length, map, find, replicate, slice_get, sum_by}
+use Rattle.std.specs.Prelude.{◌≡◌, ℕ, ◌+◌, ◌≤◌, ◌==◌, Bool, List, [], ◌∷◌, ◌++◌, Option, Some, None, filter, length, map, find, replicate, slice_get, sum_by, option_to_list}
 use Rattle.std.specs.List.{range_with_len, All, AllByRecursion}
 use Rattle.bng_base.specs.declared.address.Ip4.{Ip4}
 use Rattle.bng_base.specs.declared.book.Book.{Book}
@@ -21,11 +21,13 @@ use Rattle.bng_engine.specs.Views.{ShardView, Row, new_row, row_keys, rows_where
 use Rattle.bng_pool.specs.Plain.{PlainView}
 use Rattle.bng_pool.specs.Ranges.{InRange, size_of}
 use Rattle.bng_pool.specs.Tables.{Table, IsTaken, Puts, entry}
+use Rattle.bng_shard.specs.declared.changes.Answer.{Answer}
 use Rattle.bng_shard.specs.declared.rules.Rules.{Rules}
 use Rattle.bng_shard.specs.declared.term.EndedTerm.{EndedTerm}
 use Rattle.bng_shard.specs.declared.term.LiveTerm.{LiveTerm}
 use Rattle.bng_shard.specs.State.{State, count_in, reaped, settled}
 use Rattle.bng_shard.specs.Tenures.{LeavesTerms, Tenure, is_over}
+use Rattle.bng_shard.specs.Changes.{IsAnswerOf}
 use Rattle.bng_shard.specs.Deed.{Deed}
 use Rattle.bng_shard.specs.Due.{due_of}
 use Rattle.bng_shard.specs.Hearing.{outs_most}
@@ -34,17 +36,19 @@ use Rattle.bng_shard.specs.Reader.{pppoe_reader, tells_pppoe}
 use Rattle.bng_shard.specs.Step.{Step}
 use Rattle.bng_shard.specs.Sums.{Rises}
 
--- a shard's rules, and what it serves by them
+-- a shard's rules, what it serves by them, and what it answered to requests for changes and did not hand out yet, in the order of its entries
 pub record ShardState : Type 0 where
   pub rules : Rules
   pub slots : State
+  pub changed : List Answer
 
--- an entry as it was handled: what it did, whether it found the shard's allowance of new terms used up, and the addresses that it was told
--- to be held
+-- an entry as it was handled: what it did, whether it found the shard's allowance of new terms used up, the addresses that it was told to
+-- be held, and what it was answered, if it was a request for a change
 pub record Handled : Type 0 where
   pub deed : Deed
   pub limited : Bool
   pub refused : List ℕ
+  pub answer : Option Answer
 
 -- the cause of its end, 0 as long as it is live
 abbrev pub cause_in : Option ℕ → ℕ
@@ -91,10 +95,11 @@ refused_by pools (Claimed a) = []
 refused_by pools (Held a) = a.0 ∷ []
 refused_by pools (Exhausted k) = addresses_in (slice_get pools k)
 
--- by these rules an entry was handled in this state: it is a step, and these addresses it was told to be held
+-- by these rules an entry was handled in this state: it is a step, these addresses it was told to be held, and this it was answered
 pub record HandlesStep (r : Rules) (s : State) (h : Handled) : Type 0 where
   pub step : Step r s h.limited h.deed
   pub refused : h.refused ≡ refused_by r.pools h.deed.entry.claim
+  pub answered : IsAnswerOf r s h.deed.entry h.answer
 
 abbrev pub pppoe : Protocol ShardState Handled
 pppoe = record {
@@ -108,7 +113,7 @@ pppoe = record {
   refused = λ h. h.refused;
   is_step = λ s h. HandlesStep s.rules s.slots h;
   outs = λ s h. h.deed.outs;
-  next = λ s h. record s { slots = h.deed.next };
+  next = λ s h. record s { slots = h.deed.next; changed = s.changed ++ option_to_list h.answer };
   packet_in = pppoe_reader;
   tells_circuit = tells_pppoe;
 }
@@ -158,8 +163,8 @@ pub record Handles (v v' : ShardView ShardState Entry) (pool pool' : PlainView) 
 abbrev pub opened : ℕ → Rules → List Static → ℕ → ShardView ShardState Entry
 opened number rules circuits now = record {
   number = number;
-  state = record { rules = rules; slots = opened_slots number rules.profiles circuits now };
-  rows = map new_row (keys (terms_of (record { rules = rules; slots = opened_slots number rules.profiles circuits now })));
+  state = record { rules = rules; slots = opened_slots number rules.profiles circuits now; changed = [] };
+  rows = map new_row (keys (terms_of (record { rules = rules; slots = opened_slots number rules.profiles circuits now; changed = [] })));
   books = replicate (length rules.profiles) empty_book;
   allowance = 0;
   journal = [];
@@ -206,6 +211,7 @@ pub record Leaves (v v' : ShardView ShardState Entry) (s : Stop) : Type 0 where
   pub are : row_keys v'.rows ≡ before ++ after
   pub rules : v'.state.rules ≡ v.state.rules
   pub slots : reaped v'.state.slots ≡ reaped v.state.slots
+  pub changed : v'.state.changed ≡ v.state.changed
   pub number : v'.number ≡ v.number
   pub books : v'.books ≡ v.books
   pub allowance : v'.allowance ≡ v.allowance

@@ -97,6 +97,13 @@ closed_rows None cause rows = rows
 closed_rows (Some lease) None rows = rows
 closed_rows (Some lease) (Some cause) rows = map (row_over_by lease.serial cause) rows
 
+-- a row, once its term is under the profile at this place, and once that with this number is; one that has ended stays under its own
+abbrev pub recast : ℕ → Running → Running
+recast place r = cond (has_ended r) r (record r { profile = place })
+
+abbrev pub row_recast_by : ℕ → ℕ → Running → Running
+row_recast_by serial place r = cond (r.term.serial == serial) (recast place r) r
+
 -- of the rows those of ended terms alone are meant, or all
 abbrev pub is_meant : Bool → Running → Bool
 is_meant true r = has_ended r

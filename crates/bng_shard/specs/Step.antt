@@ -7,19 +7,20 @@ use Rattle.bng_base.specs.declared.item.ItemKind.{ItemKind}
 use Rattle.bng_base.specs.declared.item.ItemKind.TheVariants.{Access, Core, Tunnel, Verdict, Change, Tick, End}
 use Rattle.bng_shard.specs.declared.rules.Rules.{Rules}
 use Rattle.bng_shard.specs.State.{State}
-use Rattle.bng_shard.specs.Deed.{Deed, ignored}
+use Rattle.bng_shard.specs.Changes.{HearsChange}
+use Rattle.bng_shard.specs.Deed.{Deed}
 use Rattle.bng_shard.specs.Frames.{HearsAccess, HearsCore}
 use Rattle.bng_shard.specs.L2tp.{HearsTunnel}
 use Rattle.bng_shard.specs.Timers.{HearsTick, HearsEnd}
 use Rattle.bng_shard.specs.Verdicts.{HearsVerdict}
 
--- by the kind of the item, and whether the shard's allowance of new terms is used up; a kind that no protocol here hears does nothing
+-- by the kind of the item, and whether the shard's allowance of new terms is used up
 abbrev pub Hears : ItemKind → Rules → State → Bool → Entry → Deed → Type 0
 Hears (Access number) r s limited e d = HearsAccess r s e number d
 Hears Core r s limited e d = HearsCore r s e d
 Hears Tunnel r s limited e d = HearsTunnel r s e d
 Hears Verdict r s limited e d = HearsVerdict r s e limited d
-Hears Change r s limited e d = d ≡ ignored s e
+Hears Change r s limited e d = HearsChange r s e d
 Hears Tick r s limited e d = HearsTick r s e d
 Hears End r s limited e d = HearsEnd r s e d
 

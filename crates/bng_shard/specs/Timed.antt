@@ -2,13 +2,15 @@
 use Rattle.std.specs.Prelude.{◌≡◌, ℕ, ◌≤◌, Bool, true, false, List, ◌++◌, Option, Some, None, length}
 use Rattle.bng_base.specs.declared.item.Entry.{Entry}
 use Rattle.bng_base.specs.declared.item.OutRecord.{OutRecord}
-use Rattle.bng_ppp.specs.declared.whole_input.WholeInput.TheVariants.{Close}
+use Rattle.bng_ppp.specs.declared.whole_input.WholeInput.TheVariants.{Close, Timer}
 use Rattle.bng_lns.specs.Timed.{Timed, reminded}
 use Rattle.bng_lns.specs.Tunnels.{TunnelsState}
 use Rattle.bng_ppp.specs.PppRelation.{PppSteps}
 use Rattle.bng_slots.specs.Sessions.{value_at}
 use Rattle.bng_shard.specs.declared.rules.Rules.{Rules}
 use Rattle.bng_base.specs.declared.item.At.{At}
+use Rattle.bng_shard.specs.declared.session.Service.{Service}
+use Rattle.bng_shard.specs.declared.session.Service.TheVariants.{Provisioned, Discovered}
 use Rattle.bng_shard.specs.declared.session.Session.{Session}
 use Rattle.bng_shard.specs.State.{State, with_ended, with_tunnels}
 use Rattle.bng_shard.specs.Deed.{at_of}
@@ -25,13 +27,27 @@ TickedOnce false r a now random s s' outs outs' = NoneIsDue s now × (s' ≡ s) 
 TickedOnce true r a now random s s' outs outs' =
     (n : ℕ) × IsFirstDue s now n × (more : List OutRecord) × ((e : Entry) → e.moment ≡ now → e.item.random ≡ random → at_of s e ≡ a → IsTimed r e s n more s') × (outs' ≡ outs ++ more)
 
--- A session's live term was looked at, whose last packet passed at this moment: it ended by this cause, and the session's link took Close;
--- or it goes on.
+-- The link of a session took Close; a provisioned circuit has no link.
+abbrev pub ClosedLink : Service → Rules → At → ℕ → List ℕ → ℕ → Session → Session → ℕ → List OutRecord → List OutRecord → Type 0
+ClosedLink (Provisioned over) r a now random asked x x' asked' outs outs' = (x' ≡ x) × (asked' ≡ asked) × (outs' ≡ outs)
+ClosedLink (Discovered m) r a now random asked x x' asked' outs outs' = (none : Option ℕ) × Driven r a (PppSteps r.link Close now random) asked x none x' asked' outs outs'
+
+-- A session's live term ended by this cause, and its link took Close, if it has one.
+abbrev pub LostTerm : Service → ℕ → Rules → At → ℕ → List ℕ → ℕ → Session → Session → ℕ → TermsView → TermsView → List OutRecord → List OutRecord → Type 0
+LostTerm v cause r a now random asked x x' asked' t t' outs outs' =
+    ClosedLink v r a now random asked (lapsed x) x' asked' outs outs' × (t' ≡ record t { rows = closed_rows x.lease (Some cause) t.rows })
+
+-- A session's live term was looked at, whose last packet passed at this moment: it ended by this cause; or it goes on.
 abbrev pub LookedOnce : Option ℕ → Rules → At → ℕ → List ℕ → ℕ → ℕ → Session → Session → ℕ → TermsView → TermsView → List OutRecord → List OutRecord → Type 0
 LookedOnce None r a now random passed asked x x' asked' t t' outs outs' = (x' ≡ looked passed x) × (asked' ≡ asked) × (t' ≡ t) × (outs' ≡ outs)
-LookedOnce (Some cause) r a now random passed asked x x' asked' t t' outs outs' =
-    (none : Option ℕ) × Driven r a (PppSteps r.link Close now random) asked (lapsed x) none x' asked' outs outs'
-    × (t' ≡ record t { rows = closed_rows x.lease (Some cause) t.rows })
+LookedOnce (Some cause) r a now random passed asked x x' asked' t t' outs outs' = LostTerm x.service cause r a now random asked x x' asked' t t' outs outs'
+
+-- A session's link took Timer, if it has one.
+abbrev pub RemindedOnce : Service → Rules → At → ℕ → List ℕ → ℕ → Session → Session → ℕ → TermsView → TermsView → List OutRecord → List OutRecord → Type 0
+RemindedOnce (Provisioned over) r a now random asked x x' asked' t t' outs outs' = (x' ≡ x) × (asked' ≡ asked) × (t' ≡ t) × (outs' ≡ outs)
+RemindedOnce (Discovered m) r a now random asked x x' asked' t t' outs outs' =
+    (cause : Option ℕ) × Driven r a (PppSteps r.link Timer now random) asked x cause x' asked' outs outs'
+    × (t' ≡ record t { rows = closed_rows x.lease cause t.rows })
 
 -- The session with the lowest number ended; or all had ended, and all is as before.
 abbrev pub EndedOnce : Bool → Rules → At → State → State → List OutRecord → List OutRecord → Type 0

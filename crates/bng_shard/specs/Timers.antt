@@ -39,10 +39,10 @@ abbrev pub made_deadline : Made → Option Lease → Option ℕ
 made_deadline m lease = deadline_unless m.ended (earliest (link_deadline m.link) (lease_deadline lease))
 
 abbrev pub deadline_in : Service → Option Lease → Option ℕ
-deadline_in (Provisioned p) lease = None
+deadline_in (Provisioned over) lease = deadline_unless over (lease_deadline lease)
 deadline_in (Discovered m) lease = made_deadline m lease
 
--- the deadline of a session, of its link or of its live term; a provisioned circuit has none, and one that has ended has none
+-- the deadline of a session, of its link, which a provisioned circuit has not, or of its live term; one that has ended has none
 abbrev pub deadline_of : Session → Option ℕ
 deadline_of x = deadline_in x.service x.lease
 
@@ -64,18 +64,20 @@ pub record IsFirstDue (s : State) (now n : ℕ) : Type 0 where
 abbrev pub NoneIsDue : State → ℕ → Type 0
 NoneIsDue s now = (n deadline : ℕ) → due_at s n ≡ Some deadline → now < deadline
 
--- The live term of the session is looked at. Where one of its timeouts is over it ends by that cause, and the session's link takes Close;
--- else it goes on.
-abbrev pub LooksAt : Option ℕ → Rules → Entry → State → ℕ → Session → List OutRecord → State → Type 0
-LooksAt None r e s n x outs s' = (outs ≡ []) × (s' ≡ with_session s n (looked (passed_at s.passed x.number) x))
-LooksAt (Some cause) r e s n x outs s' =
+-- The live term of the session ends by this cause, and its link takes Close. A provisioned circuit has no link.
+abbrev pub LosesTerm : Service → ℕ → Rules → Entry → State → ℕ → Session → List OutRecord → State → Type 0
+LosesTerm (Provisioned over) cause r e s n x outs s' = (outs ≡ []) × (s' ≡ with_driven s n x.lease (Some cause) (lapsed x) s.asked)
+LosesTerm (Discovered m) cause r e s n x outs s' =
     (after : Session) × (none : Option ℕ) × (asked : ℕ) × Drives r (at_of s e) s.asked (lapsed x) (told r e Close) outs none after asked
     × (s' ≡ with_driven s n x.lease (Some cause) after asked)
 
--- A due deadline of the session with this number: its link takes Timer, and then its term, if one is live still, is looked at.
-pub record IsTimed (r : Rules) (e : Entry) (s : State) (n : ℕ) (outs : List OutRecord) (s' : State) : Type 0 where
-  pub x : Session
-  pub found : value_at s.sessions n ≡ Some x
+-- The live term of the session is looked at. Where one of its timeouts is over it ends by that cause; else it goes on.
+abbrev pub LooksAt : Option ℕ → Rules → Entry → State → ℕ → Session → List OutRecord → State → Type 0
+LooksAt None r e s n x outs s' = (outs ≡ []) × (s' ≡ with_session s n (looked (passed_at s.passed x.number) x))
+LooksAt (Some cause) r e s n x outs s' = LosesTerm x.service cause r e s n x outs s'
+
+-- The link of the session takes Timer, and then its term, if one is live still, is looked at.
+pub record IsReminded (r : Rules) (e : Entry) (s : State) (n : ℕ) (x : Session) (outs : List OutRecord) (s' : State) : Type 0 where
   pub first : List OutRecord
   pub cause : Option ℕ
   pub after : Session
@@ -84,6 +86,15 @@ pub record IsTimed (r : Rules) (e : Entry) (s : State) (n : ℕ) (outs : List Ou
   pub then : List OutRecord
   pub looks : LooksAt (cause_at (passed_at s.passed after.number) after.lease e.moment) r e (with_driven s n x.lease cause after asked) n after then s'
   pub outs_are : outs ≡ first ++ then
+
+-- the term of a provisioned circuit is looked at alone
+abbrev pub TimesIn : Service → Rules → Entry → State → ℕ → Session → List OutRecord → State → Type 0
+TimesIn (Provisioned over) r e s n x outs s' = LooksAt (cause_at (passed_at s.passed x.number) x.lease e.moment) r e s n x outs s'
+TimesIn (Discovered m) r e s n x outs s' = IsReminded r e s n x outs s'
+
+-- a due deadline of the session with this number
+abbrev pub IsTimed : Rules → Entry → State → ℕ → List OutRecord → State → Type 0
+IsTimed r e s n outs s' = (x : Session) × (value_at s.sessions n ≡ Some x) × TimesIn x.service r e s n x outs s'
 
 -- So many due deadlines at most, the earliest first.
 abbrev pub Ticks : ℕ → Rules → Entry → State → List OutRecord → State → Type 0

@@ -10,6 +10,10 @@ use Rattle.bng_base.specs.declared.item.ItemKind.{ItemKind}
 use Rattle.bng_base.specs.declared.item.ItemKind.TheVariants.{Access, Core, Tunnel, Verdict, Change, Tick, End}
 use Rattle.bng_base.specs.FateOf.{arrival_of}
 use Rattle.bng_base.specs.PppoeGrammar.{PppoeFrame}
+use Rattle.bng_coa.specs.Admission.{IsRequestIn}
+use Rattle.bng_coa.specs.declared.lead.Lead.{Lead}
+use Rattle.bng_coa.specs.declared.lead.Lead.TheVariants.{Session, Address, Nowhere}
+use Rattle.bng_coa.specs.Leads.{lead_of}
 use Rattle.bng_forward.specs.Fates.{IsFrame, NamesSession, IsCorePacket}
 use Rattle.bng_l2tp_wire.specs.Messages.{ControlMessage, DataMessage}
 use Rattle.bng_l2tp_wire.specs.View.{control_of, data_of}
@@ -17,6 +21,7 @@ use Rattle.bng_lns.specs.Datagrams.{IsControlIn, IsDataIn, IsNeither}
 use Rattle.bng_lns.specs.declared.datagram.TunnelDatagram.{TunnelDatagram}
 use Rattle.bng_lns.specs.declared.datagram.TunnelDatagram.TheVariants.{Control, Data}
 use Rattle.bng_pool.specs.Tables.{Table, entry}
+use Rattle.bng_radius_wire.specs.Grammar.{Packet}
 use Rattle.bng_shard.specs.declared.rules.Rules.{Rules}
 use Rattle.bng_shard.specs.declared.whose.Whose.{Whose}
 use Rattle.bng_shard.specs.declared.whose.Whose.TheVariants.{Loose, Stands}
@@ -75,6 +80,24 @@ IsForDatagram r item whose =
     ⊎ (((m : ControlMessage) × IsControlIn item.cut item.frame.payload m × IsForMessage r item.from m whose)
     ⊎ ((m : DataMessage) × IsDataIn item.cut item.frame.payload m × IsForNumber r m.session whose))
 
+-- A request is for the shard of the session number that it names, and one that names an address for the shard that holds it.
+abbrev pub IsForNumbered : Rules → ℕ → Whose → Type 0
+IsForNumbered r number whose = ((number / 1024 < r.shards) × (whose ≡ Stands (number / 1024))) ⊎ ((r.shards ≤ number / 1024) × (whose ≡ Loose Consumed))
+
+abbrev pub IsForAddress : Option ℕ → Whose → Type 0
+IsForAddress None whose = whose ≡ Loose Consumed
+IsForAddress (Some shard) whose = whose ≡ Stands shard
+
+abbrev pub IsForLead : Rules → Table → Lead → Whose → Type 0
+IsForLead r table (Session number) whose = IsForNumbered r number whose
+IsForLead r table (Address address) whose = IsForAddress (entry table address.0) whose
+IsForLead r table Nowhere whose = whose ≡ Loose Consumed
+
+abbrev pub IsForRequest : Rules → Table → Item → Whose → Type 0
+IsForRequest r table item whose =
+    (((p : Packet) → ¬ (IsRequestIn p item.frame.payload)) × (whose ≡ Loose Consumed))
+    ⊎ ((p : Packet) × IsRequestIn p item.frame.payload × IsForLead r table (lead_of p) whose)
+
 -- By the kind of the item. What is outside its grammar is loose, and so is what leads to no shard.
 abbrev pub IsForKind : ItemKind → Rules → Table → Item → Whose → Type 0
 IsForKind (Access number) r table item whose =
@@ -85,7 +108,7 @@ IsForKind Core r table item whose =
     ⊎ ((v : Ipv4) × IsCorePacket r.core_peer (arrival_of item) v × IsForHolder (entry table v.dst.0) whose)
 IsForKind Tunnel r table item whose = IsForDatagram r item whose
 IsForKind Verdict r table item whose = IsForSession r item.target whose
-IsForKind Change r table item whose = whose ≡ Loose Consumed
+IsForKind Change r table item whose = IsForRequest r table item whose
 IsForKind Tick r table item whose = IsForTarget r item.target whose
 IsForKind End r table item whose = IsForTarget r item.target whose
 

@@ -1,8 +1,11 @@
 //! One item, by its kind.
-ghost use Rattle.std.specs.Prelude.{◌≡◌, ◌<◌, ◌≤◌, ◌+◌, ◌^◌, length};
+ghost use Rattle.std.specs.Prelude.{◌≡◌, ◌<◌, ◌≤◌, ◌+◌, ◌^◌, ◌++◌, Option as Maybe, length, option_to_list, vec_capacity};
 ghost use Rattle.bng_base.specs.FateOf.{arrival_of};
+ghost use Rattle.bng_base.specs.declared.item.Entry.{Entry as EntryOf};
 ghost use Rattle.bng_pppoe_wire.specs.View.{frame_of};
 ghost use Rattle.bng_forward.specs.Fates.{IsFrame};
+ghost use Rattle.bng_shard.specs.Changes.{IsAnswerOf};
+ghost use Rattle.bng_shard.specs.declared.changes.Answer.{Answer as AnswerOf};
 ghost use Rattle.bng_shard.specs.Doing.{DoesWith};
 ghost use Rattle.bng_shard.specs.Fits.{ArePlaced};
 ghost use Rattle.bng_shard.specs.Frames.{HearsAccess, HearsFrame};
@@ -13,6 +16,7 @@ ghost use Rattle.bng_shard.specs.Running.{AreTied, KeepSums, MayBegin, SumsStay,
 ghost use Rattle.bng_shard.specs.Step.{Step};
 ghost use Rattle.bng_shard.specs.Wished.{IsAnswered};
 
+use crate::changes::{Answer, hear_change};
 use crate::data::{hear_core, hear_data};
 use crate::discover::hear_discovery;
 use crate::frames::hear_control;
@@ -90,13 +94,14 @@ fn hear_access(
 }
 
 /// Handles an item, with what was answered where it asked for an address, and answers its fate. What is to be sent for it stands
-/// after what stood in `outs`, of which no memory is taken.
+/// after what stood in `outs`, and what a request for a change is answered after what stood in `answers`, of which no memory is taken.
 pub(crate) fn hear(
     served: &mut Served,
     terms: &mut Terms,
     incoming: &Incoming<'_>,
     claim: Claim,
     limited: bool,
+    answers: &mut Vec<Answer>,
     outs: &mut Batch<OutRecord>,
 ) -> Fate
     requires moment { incoming.now.moment < 2 ^ 60 }
@@ -110,7 +115,10 @@ pub(crate) fn hear(
     requires place { incoming.now.at.shard ≡ served.old.sessions.shard }
     requires asked { IsAnswered incoming.now.rules.now served.old incoming.now.item.now limited claim }
     requires begins { (a : Address) → claim ≡ Claim.Claimed a → MayBegin a served.old terms.old }
+    requires answers_room { length answers.old.items < vec_capacity answers.old }
     requires room { length outs.old.items + outs_most incoming.now.item.now.kind + 5 ≤ outs.old.room }
+    ensures answered { (e : EntryOf) → e.item ≡ incoming.now.item.now → (answer : Maybe AnswerOf) × IsAnswerOf incoming.now.rules.now (whole served.old terms.old) e answer × (answers.new.items ≡ answers.old.items ++ option_to_list answer) }
+    ensures answers_capacity { vec_capacity answers.new ≡ vec_capacity answers.old }
     ensures sums { SumsStay terms.old terms.new }
     ensures does { Does (Step incoming.now.rules.now (whole served.old terms.old) limited) (outs_most incoming.now.item.now.kind) (whole served.old terms.old) (whole served.new terms.new) outs.old.items outs.new.items (entry_with claim incoming.now.at.seat incoming.now.at.place incoming.now.moment incoming.now.item.now) result }
     ensures capacity { outs.new.room ≡ outs.old.room }
@@ -120,7 +128,7 @@ pub(crate) fn hear(
         ItemKind::Core => hear_core(served, terms, incoming, outs),
         ItemKind::Tunnel => hear_tunnel(served, incoming, outs),
         ItemKind::Verdict => hear_verdict(served, terms, incoming, claim, limited, outs),
-        ItemKind::Change => Fate::Consumed,
+        ItemKind::Change => hear_change(served, terms, incoming, answers, outs),
         ItemKind::Tick => {
             tick(served, terms, incoming, outs);
             Fate::Consumed

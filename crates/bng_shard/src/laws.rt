@@ -1,5 +1,5 @@
 //! The laws that the steps of a shard meet.
-ghost use Rattle.std.specs.Prelude.{◌≡◌, ◌≢◌, ◌⊎◌, ◌+◌, ◌-◌, ◌^◌, ◌/◌, ◌<◌, ◌≤◌, ◌++◌, ℕ, Bool, List, [], Some, count_by, is_some, length, if◌then◌else◌};
+ghost use Rattle.std.specs.Prelude.{find, IsSome, None, ◌≡◌, ◌≢◌, ◌⊎◌, ◌+◌, ◌-◌, ◌^◌, ◌/◌, ◌<◌, ◌≤◌, ◌++◌, ℕ, Bool, List, [], Some, count_by, is_some, length, if◌then◌else◌};
 ghost use Rattle.bng_base.specs.declared.item.ItemKind.TheVariants.{End};
 ghost use Rattle.bng_engine.specs.Protocol.{Alike, StepLaws};
 ghost use Rattle.bng_engine.specs.Views.{row_keys};
@@ -12,6 +12,8 @@ ghost use Rattle.bng_slots.specs.Sessions.{IsNumberOf};
 ghost use Rattle.bng_shard.specs.declared.rules.Rules.{Rules};
 ghost use Rattle.bng_shard.specs.Deed.{Deed, is_forwarded};
 ghost use Rattle.bng_shard.specs.Protocol.{ShardState, Handled, opened, pppoe, packet_octets, sessions_of};
+ghost use Rattle.bng_radius_wire.specs.Attributes.{Field};
+ghost use Rattle.bng_shard.specs.Changes.{found_by, is_asked_for};
 ghost use Rattle.bng_shard.specs.Claiming.{IsAskedBy};
 ghost use Rattle.bng_shard.specs.Interims.{AwaitsInterims, Reports};
 ghost use Rattle.bng_shard.specs.Lasting.{AreHoused, AreTenures, BeginsByClaims, CircuitsLast};
@@ -61,8 +63,9 @@ pub fn terms_are_numbered()
     ensures later { (m n : ℕ) (s : State) → m ≤ n → AreTenures m s → AreTenures n s }
 {}
 
-/// The term of a provisioned circuit ends by the gateway's own stop alone. Each term ends by one of the causes that there are: User
-/// Request, Lost Carrier, Idle Timeout, Session Timeout, NAS Request (RFC 2866 section 5.10). It is so at the opening, and from then on.
+/// The term of a provisioned circuit ends by a timeout, by a Disconnect-Request or by the gateway's own stop, and by no subscriber. Each term
+/// ends by one of the causes that there are: User Request, Lost Carrier, Idle Timeout, Session Timeout, Admin Reset, NAS Request (RFC 2866
+/// section 5.10). It is so at the opening, and from then on.
 pub fn circuits_last()
     ensures opened { (number : ℕ) (profiles : List Profile) (circuits : List Static) (now : ℕ) → number < 64 → All (λ c. IsNumberOf number c.session.0) circuits → AllPairs (λ a b. a.session ≢ b.session) circuits
         → CircuitsLast (length circuits) (opened_slots number profiles circuits now) }
@@ -81,11 +84,17 @@ pub fn terms_are_housed()
 {}
 
 /// No Interim falls due sooner than a minute after a term's lease, since an Acct-Interim-Interval is at least that (RFC 2869 section 5.16),
-/// and no step brings one forward. So where none was due before a moment that is at most a minute away, none is due before it after a
-/// step, or once a round was settled.
+/// and no step brings one forward but that of a request for a change, which is answered. So where none was due before a moment that is at
+/// most a minute away, none is due before it after a step that answered none, or once a round was settled.
 pub fn interims_are_awaited()
-    ensures kept { (r : Rules) (s : State) (limited : Bool) (d : Deed) (t : Reports) → Step r s limited d → t.next ≤ d.entry.moment + 60000 → AwaitsInterims s t → AwaitsInterims d.next t }
+    ensures kept { (s : ShardState) (h : Handled) (t : Reports) → (pppoe).is_step s h → h.answer ≡ None → t.next ≤ h.deed.entry.moment + 60000 → AwaitsInterims s.slots t → AwaitsInterims h.deed.next t }
     ensures settled { (s : State) (t : Reports) → AwaitsInterims s t → AwaitsInterims (settled s) t }
+{}
+
+/// A live term is found by a request for a change that names its values: where no term outlasts its session, a request is answered that no
+/// live term has all the values that it names (RFC 5176 section 3.5) only where none has.
+pub fn requests_find_live_terms()
+    ensures { (r : Rules) (s : State) (fs : List Field) (t : Tenure) → IsSound s → AreHoused s → find (is_asked_for r fs) s.terms ≡ Some t → IsSome (found_by r s fs) }
 {}
 
 /// A peer is told that it is accepted, by Success of CHAP (RFC 1994 section 4.2) or Authenticate-Ack of PAP (RFC 1334 section 2.2.2),

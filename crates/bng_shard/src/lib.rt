@@ -1,11 +1,13 @@
 //! One shard of the gateway: the sessions that discovery made, the provisioned circuits and the L2TP tunnels of its numbers, stepped one
 //! item at a time. `Shard::step` is a step of the protocol of `specs/Step.antt` (PPPoE discovery by RFC 2516, PPP by RFC 1661, the peer's
 //! authentication by RFC 1334 and RFC 1994, forwarding by RFC 791, tunnels by RFC 2661), and appends one entry to the journal of the round.
-//! An Access-Accept begins a term of a session, with an address of a pool, and the term ends with the link, by a PADT or by an End.
-//! `whose_is` says which shard an item is for. `open` and `prepare` alone take memory.
+//! An Access-Accept begins a term of a session, with an address of a pool. The term ends with the link, by a PADT, by its timeouts, by a
+//! Disconnect-Request (RFC 5176) or by an End; a CoA-Request changes its profile and its timeouts. `whose_is` says which shard an item is
+//! for. `open` and `prepare` alone take memory.
 #![tactic(auto)]
 
 mod answering;
+mod changes;
 mod claim;
 mod data;
 mod discover;
@@ -17,6 +19,7 @@ mod in_turn;
 mod incoming;
 mod interims;
 mod l2tp;
+mod lapsing;
 mod laws;
 mod leaving;
 mod limited;
@@ -41,6 +44,7 @@ mod whose;
 mod wish;
 mod young;
 
+pub use crate::changes::Answer;
 pub use crate::interims::Reports;
 pub use crate::laws::{
     interims_are_awaited, questions_are_heard, steps_meet_laws, terms_of_circuits_are_apart,

@@ -1,4 +1,4 @@
-use bng_base::{AccessPort, Lac, Listed, NamedRange, Peer, Profile};
+use bng_base::{AccessPort, Ip4, Lac, Listed, NamedRange, Peer, Profile};
 use bng_discovery::PortRules;
 use bng_ppp::LinkRules;
 
@@ -23,6 +23,12 @@ pub struct Rules {
     pub lacs: Listed<Lac>,
     /// Whether the gateway has an end for L2TP tunnels. No step of a shard looks at it.
     pub serves_tunnels: bool,
+    /// The NAS-IP-Address (RFC 2865 section 5.4) by which requests for changes name the gateway.
+    pub nas_ip: Ip4,
+    /// The second at which the run opened, by which records name terms.
+    pub wall: u64,
+    /// Whether the gateway has an end for requests for changes. No step of a shard looks at it.
+    pub serves_changes: bool,
 }
 
 impl Drop for Rules {
@@ -37,6 +43,9 @@ impl Drop for Rules {
             link: _,
             lacs: _,
             serves_tunnels: _,
+            nas_ip: _,
+            wall: _,
+            serves_changes: _,
         } = self;
     }
 }

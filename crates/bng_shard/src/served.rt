@@ -102,9 +102,10 @@ pub(crate) enum Survey {
     None { until: u64 },
 }
 
-// The session of a provisioned circuit, whose term has this number.
-fn provisioned(circuit: &Static, serial: u64) -> Session
-    ensures { result ≡ provisioned_at circuit.now serial }
+// The session of a provisioned circuit, whose term has this number and began at this moment, in milliseconds.
+fn provisioned(circuit: &Static, serial: u64, now: u64) -> Session
+    requires moment { now < 2 ^ 60 }
+    ensures { result ≡ provisioned_at now circuit.now serial }
 {
     Session {
         number: circuit.session,
@@ -115,7 +116,7 @@ fn provisioned(circuit: &Static, serial: u64) -> Session
             serial,
             address: circuit.address,
             profile: circuit.profile,
-            life: Lifetime::new(NO_LIMITS, 0),
+            life: Lifetime::new(NO_LIMITS, now),
         }),
     }
 }
@@ -130,6 +131,7 @@ impl Served {
         circuits: &[Static],
         now: u64,
     ) -> Result<Served, AllocError>
+        requires moment { now < 2 ^ 60 }
         requires number { number < 64 }
         requires own { All (λ c. IsNumberOf number c.session.0) circuits.now }
         requires sessions { AllPairs (λ a b. a.session ≢ b.session) circuits.now }
@@ -150,7 +152,7 @@ impl Served {
         for n in first..first + NUMBERS {
             if let Some(circuit) = circuit_with(circuits, SessionNo(n)) {
                 begun += 1;
-                sessions.put(SessionNo(n), provisioned(circuit, begun));
+                sessions.put(SessionNo(n), provisioned(circuit, begun, now));
             }
         }
         Ok(Served {

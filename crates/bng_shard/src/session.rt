@@ -116,7 +116,12 @@ impl Slotted for Session {
 
     fn deadline(&self) -> Option<u64> {
         match &self.service {
-            Service::Provisioned { .. } => None,
+            Service::Provisioned { ended } => {
+                if *ended {
+                    return None;
+                }
+                lease_deadline(self.lease)
+            }
             Service::Discovered(made) => made.deadline(self.lease),
         }
     }

@@ -19,6 +19,7 @@ ghost use Rattle.bng_shard.specs.State.{reaped};
 ghost use Rattle.bng_shard.specs.Tenures.{LeavesTerms, Tenure};
 ghost use Rattle.bng_shard.specs.Sums.{charged_as, AreCovered, AreLow, IsLow, RowsAreLow};
 
+use crate::changes::Answer;
 use crate::claim::{ask, left_after};
 use crate::hear::hear;
 use crate::incoming::Incoming;
@@ -31,6 +32,7 @@ use crate::term_rows::stop_from;
 use crate::terms::Terms;
 use crate::wish::wish_for;
 use bng_base::{At, Batch, Book, Entry, Fate, Item, LONGEST, OutRecord, SessionNo, Static};
+use bng_coa::ChangeVerdict;
 use bng_pool::PlainPool;
 use bng_profile::Profiles;
 use std::alloc::{AllocError, Global};
@@ -44,8 +46,9 @@ pub enum ShardError {
 }
 
 /// The sessions and the L2TP tunnels of one shard, with the provisioned circuits whose numbers are the shard's. Contracts see it as the
-/// engine does: its rules and what it serves by them, a row for each term with what it carried, a book for each profile, and of a round
-/// that is going on its allowance of new terms, the journal, what is to be sent, and for how many items more there is room.
+/// engine does: its rules, what it serves by them and what it answered to requests for changes, a row for each term with what it carried, a
+/// book for each profile, and of a round that is going on its allowance of new terms, the journal, what is to be sent, and for how many
+/// items more there is room.
 pub struct Shard {
     rules: Rules,
     pub(crate) served: Served,
@@ -56,6 +59,7 @@ pub struct Shard {
     left: u32,
     journal: Batch<Entry>,
     outs: Batch<OutRecord>,
+    pub(crate) changed: Vec<Answer>,
     room: usize,
 }
 
@@ -70,6 +74,7 @@ impl Drop for Shard {
             left: _,
             journal: _,
             outs: _,
+            changed: _,
             room: _,
         } = self;
     }
@@ -90,7 +95,7 @@ impl Model for Shard {
     ghost use Rattle.bng_shard.specs.Running.{rows_in, whole};
     ghost use Rattle.bng_shard.specs.Fits.{Fits};
 
-    ghost view = { λ a. record { number = a.served.sessions.shard; state = record { rules = a.rules; slots = whole a.served a.terms }; rows = rows_in a.terms.rows; books = a.profiles.books; allowance = a.allowance; journal = a.journal.items; outs = a.outs.items; sends = []; stops = []; starts = []; room = a.room } };
+    ghost view = { λ a. record { number = a.served.sessions.shard; state = record { rules = a.rules; slots = whole a.served a.terms; changed = a.changed.items }; rows = rows_in a.terms.rows; books = a.profiles.books; allowance = a.allowance; journal = a.journal.items; outs = a.outs.items; sends = []; stops = []; starts = []; room = a.room } };
 
     ghost invariant = { Fits };
 }
@@ -158,6 +163,7 @@ impl Shard {
         circuits: &[Static],
         now: u64,
     ) -> Result<Shard, ShardError>
+        requires moment { now < 2 ^ 60 }
         requires number { number < 64 }
         requires auth { 0 < length rules.link.auth.items }
         requires offers { length rules.offers ≡ length rules.access }
@@ -191,6 +197,7 @@ impl Shard {
             left: 0,
             journal: Batch::new(alloc),
             outs: Batch::new(alloc),
+            changed: Vec::new(alloc),
             room: 0,
         })
     }
@@ -217,6 +224,9 @@ impl Shard {
             return Err(ShardError::OutOfMemory);
         }
         if !self.terms.reserve(items) {
+            return Err(ShardError::OutOfMemory);
+        }
+        if self.changed.reserve(items).is_err() {
             return Err(ShardError::OutOfMemory);
         }
         self.room = items;
@@ -270,6 +280,7 @@ impl Shard {
             &incoming,
             claim,
             limited,
+            &mut self.changed,
             &mut self.outs,
         );
         self.left = left_after(self.left, claim);
@@ -329,21 +340,37 @@ impl Shard {
         Some(row.shown())
     }
 
+    /// Hands out what the first of the requests for changes was answered that were not told yet, in the order of the journal: the number of
+    /// its item, and the verdict. None exactly where all were told.
+    pub fn changed(&mut self) -> Option<(u64, ChangeVerdict)>
+        ensures first { result ≡ option_map (λ a. (a.ask, a.verdict)) (slice_get self.old.state.changed 0) }
+        ensures after { self.new ≡ record self.old { state = record self.old.state { changed = drop 1 self.old.state.changed }; room = 0 } }
+    {
+        self.room = 0;
+        if self.changed.is_empty() {
+            return None;
+        }
+        let answer = self.changed.remove(0);
+        Some((answer.ask, answer.verdict))
+    }
+
     /// Hands out the live term of the lowest session number whose Interim (RFC 2869 section 5.16) is due at this moment, in milliseconds, and
     /// takes that Interim: the next one counts from this moment. None exactly where none is due. Which were taken is kept in `reports`, which
-    /// is this shard's alone. Until one may be due it looks at no session. It is called once the Stops of a round were formed.
+    /// is this shard's alone. Until one may be due it looks at no session, unless requests for changes were answered that were not told yet:
+    /// they may have brought one forward. It is called once the Stops of a round were formed.
     pub fn interim(&self, reports: &mut Reports, now: u64) -> Option<ReportedTerm>
         requires moment { now < 2 ^ 60 }
-        requires awaits { AwaitsInterims self.now.state.slots reports.old }
+        requires awaits { self.now.state.changed ≡ [] → AwaitsInterims self.now.state.slots reports.old }
         ensures first { option_map row_told result ≡ slice_get (owed self.now reports.old.last now) 0 }
         ensures rest { owed self.now reports.new.last now ≡ drop 1 (owed self.now reports.old.last now) }
         ensures taken { IfSome result (λ t. reports.new.last ≡ with_report reports.old.last now t.term.term.session) }
         ensures kept { IfNone result (reports.new.last ≡ reports.old.last) }
         ensures says { IfSome result (λ t. AnyOf (SaysOf t.term.user.items t.term.class.items t.term.began (key_of t.term)) self.now.state.slots.terms) }
-        ensures awaits { AwaitsInterims self.now.state.slots reports.new }
+        ensures awaits { self.now.state.changed ≡ [] → AwaitsInterims self.now.state.slots reports.new }
+        ensures all { IfNone result (AwaitsInterims self.now.state.slots reports.new) }
         ensures soon { (reports.new.next ≡ reports.old.next) ⊎ (reports.new.next ≤ now + 60000) }
     {
-        if !reports.may_be_due(now) {
+        if !self.may_report(reports, now) {
             return None;
         }
         match self.served.survey(reports, now) {

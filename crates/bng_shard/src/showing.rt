@@ -1,10 +1,10 @@
 //! What a shard shows of its terms and sessions, of its sums and of what waits in it.
-ghost use Rattle.std.specs.Prelude.{ℕ, Bool, List, [], IsSome, IfSome, IfNone, ◌≡◌, ◌≢◌, ◌≤◌, ◌<◌, ◌^◌, true, false, drop, slice_get, length, nat_le, option_map};
+ghost use Rattle.std.specs.Prelude.{ℕ, Bool, List, [], IsSome, IfSome, IfNone, ◌≡◌, ◌≢◌, ◌≤◌, ◌<◌, ◌^◌, true, false, drop, slice_get, length, nat_le, option_map, not, ◌||◌};
 ghost use Rattle.bng_engine.specs.Books.{book_at};
 ghost use Rattle.bng_engine.specs.Lists.{AnyOf};
 ghost use Rattle.bng_engine.specs.Quantities.{Quantity, in_book};
 ghost use Rattle.bng_engine.specs.Views.{row_keys};
-ghost use Rattle.bng_shard.specs.Interims.{AwaitsInterims, owed};
+ghost use Rattle.bng_shard.specs.Interims.{AwaitsInterims, are_none, owed};
 ghost use Rattle.bng_shard.specs.Live.{live_in};
 ghost use Rattle.bng_shard.specs.Protocol.{SaysOf, deadline_of, ended_terms, key_of, row_at, sessions_of};
 ghost use Rattle.bng_shard.specs.Questions.{asking_from, handed_after, open_ask_at, waiting};
@@ -114,14 +114,24 @@ impl Shard {
     }
 
     /// Whether an Interim may be due at this moment, in milliseconds: `interim` hands out none where none may be. Which were taken is kept
-    /// in `reports`, which is this shard's alone.
+    /// in `reports`, which is this shard's alone. Where requests for changes were answered that were not told yet, one may be.
     pub fn may_report(&self, reports: &Reports, now: u64) -> bool
         requires moment { now < 2 ^ 60 }
-        requires awaits { AwaitsInterims self.now.state.slots reports.now }
-        ensures may { result ≡ nat_le reports.now.next now }
+        requires awaits { self.now.state.changed ≡ [] → AwaitsInterims self.now.state.slots reports.now }
+        ensures may { result ≡ (not (are_none self.now.state.changed) || nat_le reports.now.next now) }
+        ensures awaits { result ≡ false → AwaitsInterims self.now.state.slots reports.now }
         ensures none { result ≡ false → owed self.now reports.now.last now ≡ [] }
     {
-        reports.may_be_due(now)
+        let answered = self.has_changed();
+        let comes = reports.may_be_due(now);
+        answered || comes
+    }
+
+    /// Whether requests for changes were answered that were not told yet: `changed` hands out none exactly where none were.
+    pub fn has_changed(&self) -> bool
+        ensures some { result ≡ not (are_none self.now.state.changed) }
+    {
+        !self.changed.is_empty()
     }
 
     /// Whether nothing that ended is still there, no term and no session: `reap` hands out none then, and lets no session leave.

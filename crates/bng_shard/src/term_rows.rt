@@ -6,17 +6,22 @@ ghost use Rattle.bng_engine.specs.Calls.{SayMore};
 ghost use Rattle.bng_engine.specs.Lists.{AnyOf};
 ghost use Rattle.bng_engine.specs.Protocol.{HasKey};
 ghost use Rattle.bng_engine.specs.Views.{row_keys};
+ghost use Rattle.bng_radius_wire.specs.Grammar.{whole as packet_of};
+ghost use Rattle.bng_shard.specs.Changes.{asked, is_asked_for};
 ghost use Rattle.bng_shard.specs.Interims.{row_told};
 ghost use Rattle.bng_shard.specs.Protocol.{key_of, row_at, stop_of, SaysOf};
-ghost use Rattle.bng_shard.specs.Running.{ended_by, has_ended, is_meant, key_from, row_over_by, rows_in, tenure_in, tenures_in, AreRising, HasSerial, IsFirstOf, IsPlaceOf, NoneIsMeant, TakesFirst};
+ghost use Rattle.bng_shard.specs.Running.{ended_by, has_ended, recast, row_recast_by, is_meant, key_from, row_over_by, rows_in, tenure_in, tenures_in, AreRising, HasSerial, IsFirstOf, IsPlaceOf, NoneIsMeant, TakesFirst};
 ghost use Rattle.bng_shard.specs.Sums.{traffic_in, IsLow, IsMore, RowsAreLow};
 ghost use Rattle.bng_shard.specs.Tenures.{has_kept};
 
+use crate::rules::Rules;
 use crate::sums::{Traffic, enter};
 use crate::term::{EndedTerm, LiveTerm, ReportedTerm};
-use crate::terms::Running;
+use crate::terms::{Asked, Running};
 use arrayvec::ArrayVec;
 use bng_base::{Book, Charge, Ip4};
+use bng_coa::{Identity, names};
+use bng_radius_wire::Radius;
 
 /// A copy of a list of octets. It takes no memory.
 pub(crate) fn copied<const N: usize>(octets: &ArrayVec<u8, N>) -> ArrayVec<u8, N>
@@ -184,6 +189,52 @@ pub(crate) fn close(rows: &mut Vec<Running>, serial: u64, cause: u8) -> bool
         Some(place) => end(&mut rows[place], cause),
         None => false,
     }
+}
+
+// A term is under the profile at this place from then on, if it is live.
+fn move_to(row: &mut Running, place: u8)
+    ensures { row.new ≡ recast place row.old }
+{
+    if row.cause.is_none() {
+        row.profile = place;
+    }
+}
+
+/// The term with this number is under the profile at this place from then on, if it is there and live.
+pub(crate) fn recast(rows: &mut Vec<Running>, serial: u64, place: u8)
+    requires rising { AreRising rows.old.items }
+    ensures rows { rows.new.items ≡ map (row_recast_by serial place) rows.old.items }
+    ensures capacity { vec_capacity rows.new ≡ vec_capacity rows.old }
+{
+    match place_of(rows, serial) {
+        Some(row) => move_to(&mut rows[row], place),
+        None => {}
+    }
+}
+
+// Whether the term is live, and has all the values that a request names.
+fn is_asked_for(row: &Running, rules: &Rules, request: &Radius<'_>) -> bool
+    ensures { result ≡ is_asked_for rules.now (packet_of request.now).attributes (tenure_in row.now) }
+{
+    let of = Identity {
+        wall: rules.wall,
+        term: row.term,
+        circuit: row.circuit,
+        address: row.lease,
+        user: row.user.as_slice(),
+    };
+    row.cause.is_none() && names(request, &of)
+}
+
+/// The first live term that has all the values which a request names.
+pub(crate) fn asked_for(rows: &[Running], rules: &Rules, request: &Radius<'_>) -> Option<Asked>
+    ensures { result ≡ option_map asked (find (is_asked_for rules.now (packet_of request.now).attributes) (tenures_in rows.now)) }
+{
+    let row = rows.iter().find(|r| is_asked_for(r, rules, request))?;
+    Some(Asked {
+        term: row.term,
+        profile: row.profile,
+    })
 }
 
 // Whether the row is meant: where those of ended terms alone are, its term has ended.

@@ -8,25 +8,30 @@ ghost use Rattle.bng_engine.specs.Protocol.{IsOwned};
 ghost use Rattle.bng_engine.specs.Terms.{keys};
 ghost use Rattle.bng_engine.specs.Views.{new_row, row_keys};
 ghost use Rattle.bng_engine.specs.Quantities.{empty_book};
+ghost use Rattle.bng_radius_wire.specs.Grammar.{whole as packet_of};
+ghost use Rattle.bng_shard.specs.Changes.{asked, is_asked_for};
 ghost use Rattle.bng_shard.specs.Interims.{row_told};
 ghost use Rattle.bng_shard.specs.Live.{live_in};
 ghost use Rattle.bng_shard.specs.Opening.{in_order, tenure_from, tenures_after};
 ghost use Rattle.bng_shard.specs.Protocol.{key_of, row_at, term_in, SaysOf};
-ghost use Rattle.bng_shard.specs.Running.{closed_rows, has_ended, rows_in, tenure_in, tenures_in, AreRising, TakesFirst};
+ghost use Rattle.bng_shard.specs.Running.{closed_rows, has_ended, row_recast_by, rows_in, tenure_in, tenures_in, AreRising, TakesFirst};
 ghost use Rattle.bng_shard.specs.Sums.{traffic_in, AreCovered, RowsAreLow};
 ghost use Rattle.bng_shard.specs.Tenures.{has_kept};
 
 use crate::live::live;
+use crate::rules::Rules;
 use crate::served::circuit_with;
 use crate::session::Lease;
 use crate::sums::{Traffic, take_off};
 use crate::term::{LiveTerm, ReportedTerm};
 use crate::term_rows::{
-    carried_by, carry, close, copied, copy_of, keep, take_first, term_at, told_of,
+    asked_for, carried_by, carry, close, copied, copy_of, keep, recast, take_first, term_at,
+    told_of,
 };
 use arrayvec::ArrayVec;
 use bng_base::{Book, Circuit, Ip4, OutRecord, SessionNo, Static, TermId};
 use bng_profile::Profiles;
+use bng_radius_wire::Radius;
 use std::alloc::{AllocError, Global};
 use std::marker::Model;
 
@@ -44,6 +49,13 @@ pub struct Running {
     pub(crate) class: ArrayVec<u8, 512>,
     pub(crate) began: u64,
     pub(crate) cause: Option<u8>,
+}
+
+/// A term that was asked for: which it is, and the place of its profile, from 0.
+#[derive(Clone, Copy)]
+pub(crate) struct Asked {
+    pub(crate) term: TermId,
+    pub(crate) profile: u8,
 }
 
 /// The terms that have no Stop yet, in the order in which they began, and those of whose beginning no Start was formed yet; how many of
@@ -190,6 +202,20 @@ impl Terms {
         if close(&mut self.rows, lease.serial, cause) {
             self.over += 1;
         }
+    }
+
+    /// The term with this number is under the profile at this place from then on, if it is live.
+    pub(crate) fn recast(&mut self, serial: u64, place: u8)
+        ensures { self.new ≡ record self.old { rows = map (row_recast_by serial place) self.old.rows } }
+    {
+        recast(&mut self.rows, serial, place);
+    }
+
+    /// The live term that has all the values which a request names; the one that began first, where there are some.
+    pub(crate) fn asked_for(&self, rules: &Rules, request: &Radius<'_>) -> Option<Asked>
+        ensures { result ≡ option_map asked (find (is_asked_for rules.now (packet_of request.now).attributes) (tenures_in self.now.rows)) }
+    {
+        asked_for(&self.rows, rules, request)
     }
 
     /// Each has a number above those before it.

@@ -8,7 +8,7 @@ ghost use Rattle.bng_shard.specs.Fits.{ArePlaced};
 ghost use Rattle.bng_shard.specs.Driven.{Driven};
 ghost use Rattle.bng_shard.specs.Passing.{cause_at};
 ghost use Rattle.bng_shard.specs.Serving.{KeepsLease};
-ghost use Rattle.bng_shard.specs.Timed.{LookedOnce, TickedOnce, EndedOnce, Ticked, Ended, Stopped, TickDone, EndDone};
+ghost use Rattle.bng_shard.specs.Timed.{LookedOnce, RemindedOnce, TickedOnce, EndedOnce, Ticked, Ended, Stopped, TickDone, EndDone};
 ghost use Rattle.bng_shard.specs.Running.{closed_rows, whole, KeepSums};
 ghost use Rattle.bng_shard.specs.State.{made_one, port_at, with_tunnels};
 ghost use Rattle.bng_shard.specs.Timers.{TellsEnd, at_once};
@@ -16,6 +16,7 @@ ghost use Rattle.bng_shard.specs.Timers.{TellsEnd, at_once};
 use crate::drive::{drive, send_padt};
 use crate::in_turn::{remind_tunnels, stop_tunnels};
 use crate::incoming::Incoming;
+use crate::lapsing::end_term;
 use crate::rules::Rules;
 use crate::served::Served;
 use crate::session::{Service, Session};
@@ -58,8 +59,35 @@ fn remind(
     asked
 }
 
+// The link of a session takes Timer, if it has one. Answers how many questions were asked then.
+fn remind_link(
+    session: &mut Session,
+    terms: &mut Terms,
+    asked: u64,
+    incoming: &Incoming<'_>,
+    outs: &mut Batch<OutRecord>,
+) -> u64
+    requires moment { incoming.now.moment < 2 ^ 60 }
+    requires auth { 0 < length incoming.now.rules.now.link.auth.items }
+    requires offers { length incoming.now.rules.now.offers ≡ length incoming.now.rules.now.access }
+    requires placed { (port : Port) × (port_at incoming.now.rules.now.access session.old.port ≡ Some port) }
+    requires leased { KeepsLease session.old.service session.old.lease }
+    requires room { length outs.old.items + 5 ≤ outs.old.room }
+    ensures reminded { RemindedOnce session.old.service incoming.now.rules.now incoming.now.at incoming.now.moment incoming.now.item.now.random asked session.old session.new result terms.old terms.new outs.old.items outs.new.items }
+    ensures leased { KeepsLease session.new.service session.new.lease }
+    ensures number { session.new.number ≡ session.old.number }
+    ensures capacity { outs.new.room ≡ outs.old.room }
+    ensures few { length outs.new.items ≤ length outs.old.items + 3 }
+    ensures fewer { IsSome session.new.lease → length outs.new.items ≤ length outs.old.items + 2 }
+{
+    match &session.service {
+        Service::Provisioned { .. } => asked,
+        Service::Discovered(_) => remind(session, terms, asked, incoming, outs),
+    }
+}
+
 // A session's live term is looked at, whose last packet passed at the moment `passed`: where one of its timeouts is over it ends, and the
-// link takes Close. Answers how many questions were asked then.
+// link takes Close, if there is one. Answers how many questions were asked then.
 fn look_at(
     session: &mut Session,
     terms: &mut Terms,
@@ -73,7 +101,6 @@ fn look_at(
     requires auth { 0 < length incoming.now.rules.now.link.auth.items }
     requires offers { length incoming.now.rules.now.offers ≡ length incoming.now.rules.now.access }
     requires placed { (port : Port) × (port_at incoming.now.rules.now.access session.old.port ≡ Some port) }
-    requires made { made_one session.old.service ≡ 1 }
     requires leased { KeepsLease session.old.service session.old.lease }
     requires room { length outs.old.items + 5 ≤ outs.old.room }
     ensures looked { LookedOnce (cause_at passed session.old.lease incoming.now.moment) incoming.now.rules.now incoming.now.at incoming.now.moment incoming.now.item.now.random passed asked session.old session.new result terms.old terms.new outs.old.items outs.new.items }
@@ -85,10 +112,7 @@ fn look_at(
     let Some(cause) = session.look(passed, incoming.moment) else {
         return asked;
     };
-    terms.close(session.lease(), Some(cause));
-    session.lapse();
-    let (asked, _) = drive(session, asked, incoming, WholeInput::Close, outs);
-    asked
+    end_term(session, terms, asked, cause, incoming, outs)
 }
 
 // Handles the due deadline that comes first, and says whether one is due.
@@ -115,7 +139,7 @@ fn tick_once(
     let passed = served.passed_at(number);
     let mut session = served.take(number);
     let asked = served.asked();
-    let asked = remind(&mut session, terms, asked, incoming, outs);
+    let asked = remind_link(&mut session, terms, asked, incoming, outs);
     let asked = look_at(&mut session, terms, asked, passed, incoming, outs);
     served.put(session);
     served.count_asked(asked);
@@ -166,8 +190,8 @@ fn end_once(
 }
 
 // Handles the deadlines of sessions that are due at a Tick's moment, the earliest first, and of equal ones that of the lower session
-// number first: at most 64. Each time the session's link takes Timer, and then its live term is looked at: where one of its timeouts
-// is over it ends (RFC 2865 sections 5.27 and 5.28), and the link takes Close.
+// number first: at most 64. Each time the session's link takes Timer, if it has one, and then its live term is looked at: where one of its
+// timeouts is over it ends (RFC 2865 sections 5.27 and 5.28), and the link takes Close.
 fn tick_sessions(
     served: &mut Served,
     terms: &mut Terms,

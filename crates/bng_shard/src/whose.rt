@@ -2,10 +2,12 @@
 ghost use Rattle.std.specs.Prelude.{◌≡◌, ◌<◌, ◌≤◌, ◌+◌, ◌*◌, ◌%◌, ℕ, [], length};
 ghost use Rattle.bng_l2tp_wire.specs.View.{control_of};
 ghost use Rattle.bng_pppoe_wire.specs.View.{frame_of};
-ghost use Rattle.bng_shard.specs.Whose.{IsWhose, IsForDatagram, IsForKind, IsForMessage, IsForNumber, IsForRead, IsForSession, IsForTarget, IsForFrame, fold_of, fold_of_peer as peer_fold, NamesShard};
+ghost use Rattle.bng_pool.specs.Tables.{entry};
+ghost use Rattle.bng_shard.specs.Whose.{IsWhose, IsForAddress, IsForDatagram, IsForLead, IsForNumbered, IsForRequest, IsForKind, IsForMessage, IsForNumber, IsForRead, IsForSession, IsForTarget, IsForFrame, fold_of, fold_of_peer as peer_fold, NamesShard};
 
 use crate::rules::Rules;
-use bng_base::{DropCause, Fate, Item, ItemKind, Mac, Peer};
+use bng_base::{DropCause, Fate, Ip4, Item, ItemKind, Mac, Peer};
+use bng_coa::{Lead, lead_of, request_in};
 use bng_forward::{Arrived, frame_at, names_session, packet_from};
 use bng_l2tp_wire::Control;
 use bng_lns::{TunnelDatagram, datagram_of};
@@ -23,7 +25,8 @@ pub enum Whose {
 
 /// Where an item is handled: a frame that names a session in the shard of that number, another frame in the shard of its
 /// SOURCE_ADDR, a packet of the core in the shard that holds its destination, a message of a tunnel in the shard of its Tunnel ID, or
-/// without one in that of its sender, a PPP frame of a call in that of its Session ID, a Tick and an End in the shard that it is for.
+/// without one in that of its sender, a PPP frame of a call in that of its Session ID, a request for a change in that of the session number
+/// that it names, or of the holder of the address, a Tick and an End in the shard that it is for.
 /// What is outside its grammar or leads to no shard is loose.
 pub fn whose_is(rules: &Rules, pool: &PlainPool, item: &Item) -> Whose
     requires some { 1 ≤ rules.now.shards }
@@ -36,7 +39,7 @@ pub fn whose_is(rules: &Rules, pool: &PlainPool, item: &Item) -> Whose
         ItemKind::Core => whose_packet(rules, pool, item),
         ItemKind::Tunnel => whose_datagram(rules, item),
         ItemKind::Verdict => whose_session(rules, item.target),
-        ItemKind::Change => Whose::Loose(Fate::Consumed),
+        ItemKind::Change => whose_request(rules, pool, item),
         ItemKind::Tick | ItemKind::End => whose_target(rules, item.target),
     }
 }
@@ -52,6 +55,56 @@ fn whose_session(rules: &Rules, session: u16) -> Whose
         Whose::Stands(shard)
     } else {
         Whose::Loose(Fate::Consumed)
+    }
+}
+
+// A request for a change, by what it names.
+fn whose_request(rules: &Rules, pool: &PlainPool, item: &Item) -> Whose
+    requires shards { pool.now.shards ≤ rules.now.shards }
+    ensures is { IsForRequest rules.now pool.now.table item.now result }
+    ensures inside { (n : ℕ) → result ≡ Whose.Stands n → n < rules.now.shards }
+{
+    match request_in(item.frame.payload()) {
+        Some(request) => whose_lead(rules, pool, lead_of(&request)),
+        None => Whose::Loose(Fate::Consumed),
+    }
+}
+
+// Where a request leads.
+fn whose_lead(rules: &Rules, pool: &PlainPool, lead: Lead) -> Whose
+    requires shards { pool.now.shards ≤ rules.now.shards }
+    ensures is { IsForLead rules.now pool.now.table lead result }
+    ensures inside { (n : ℕ) → result ≡ Whose.Stands n → n < rules.now.shards }
+{
+    match lead {
+        Lead::Session(number) => whose_numbered(rules, number),
+        Lead::Address(address) => whose_held(pool, address),
+        Lead::Nowhere => Whose::Loose(Fate::Consumed),
+    }
+}
+
+// By a session number.
+fn whose_numbered(rules: &Rules, number: u16) -> Whose
+    ensures is { IsForNumbered rules.now number result }
+    ensures inside { (n : ℕ) → result ≡ Whose.Stands n → n < rules.now.shards }
+{
+    let shard = number / 1024;
+    if shard < rules.shards {
+        Whose::Stands(shard)
+    } else {
+        Whose::Loose(Fate::Consumed)
+    }
+}
+
+// By whoever holds an address.
+fn whose_held(pool: &PlainPool, address: Ip4) -> Whose
+    ensures is { IsForAddress (entry pool.now.table address.0) result }
+    ensures inside { (n : ℕ) → result ≡ Whose.Stands n → n < pool.now.shards }
+{
+    pool.lists_each_once();
+    match pool.look(address) {
+        Some(shard) => Whose::Stands(shard),
+        None => Whose::Loose(Fate::Consumed),
     }
 }
 

@@ -88,9 +88,9 @@ module _ (c : Static) where
   row_low r shard now most of = subst (RowsAreLow most) (sym (one_row r shard now of)) (nothing_carried most)
 
   -- a packet of its term is of that row
-  pub owned_by_row : (o : OutRecord) (input : Bool) (octets : ℕ) → o.charge ≡ Some (charge_of (provisioned c 1) (lease_from c 1) input octets) → IsOwned (row_keys (row ∷ [])) o
+  pub owned_by_row : (o : OutRecord) (input : Bool) (octets : ℕ) → o.charge ≡ Some (charge_of (provisioned 0 c 1) (lease_from 0 c 1) input octets) → IsOwned (row_keys (row ∷ [])) o
   owned_by_row o input octets e = subst (λ (charge : Option Charge). IfSome charge (λ p. AnyOf (HasKey p) (row_keys (row ∷ [])))) (sym e) (inl refl)
 
-  pub row_owned : (r : Rules) (shard now : ℕ) → IsNumberOf shard c.session.0 → (o : OutRecord) (input : Bool) (octets : ℕ) → o.charge ≡ Some (charge_of (provisioned c 1) (lease_from c 1) input octets)
+  pub row_owned : (r : Rules) (shard now : ℕ) → IsNumberOf shard c.session.0 → (o : OutRecord) (input : Bool) (octets : ℕ) → o.charge ≡ Some (charge_of (provisioned 0 c 1) (lease_from 0 c 1) input octets)
       → IsOwned (row_keys (opened shard r (c ∷ []) now).rows) o
   row_owned r shard now of o input octets e = subst (λ (rows : List Row). IsOwned (row_keys rows) o) (sym (one_row r shard now of)) (owned_by_row o input octets e)

@@ -18,6 +18,7 @@ use std::marker::Model;
 use std::process::Abort;
 use std::test::Fail;
 
+mod changes;
 mod discovery;
 mod interims;
 mod logins;
@@ -143,6 +144,7 @@ fn rules_over(alloc: Global, pools: Vec<NamedRange>) -> Result<Rules, AllocError
     ensures profiles { IfOk result (λ r. length r.profiles ≡ 2) }
     ensures different { IfOk result (λ r. AreDifferent (names_of r.profiles)) }
     ensures pools { IfOk result (λ r. r.pools ≡ pools.items) }
+    ensures shards { IfOk result (λ r. r.shards ≡ 1) }
 {
     let port = AccessPort {
         local: peer(9010),
@@ -167,6 +169,9 @@ fn rules_over(alloc: Global, pools: Vec<NamedRange>) -> Result<Rules, AllocError
         link: links(),
         lacs: Listed::of(lacs),
         serves_tunnels: true,
+        nas_ip: Ip4(0xc0a80110),
+        wall: 1_700_000_000,
+        serves_changes: true,
     })
 }
 
@@ -178,6 +183,7 @@ fn rules(alloc: Global) -> Result<Rules, AllocError>
     ensures profiles { IfOk result (λ r. length r.profiles ≡ 2) }
     ensures different { IfOk result (λ r. AreDifferent (names_of r.profiles)) }
     ensures pools { IfOk result (λ r. r.pools ≡ []) }
+    ensures shards { IfOk result (λ r. r.shards ≡ 1) }
 {
     rules_over(alloc, Vec::new(alloc))
 }

@@ -213,7 +213,7 @@ fn packets_pass_both_ways_without_their_padding(rt: HostRuntime) -> Result<(), F
     let list: [(Role, u16, &[u8]); 3] = [
         (Role::Access(1), 9011, &PADDED),
         (Role::Core, 9001, &FROM_CORE),
-        (Role::Control, 5, b"stats"),
+        (Role::Control, 5, b"status"),
     ];
     let script = script_of(alloc, &list)?;
     let ended = run_over(&rt, alloc, &SERVE, CONFIGURATION, script, &[], &[])?;

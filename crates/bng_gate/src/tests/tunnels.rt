@@ -152,7 +152,7 @@ fn then_come(alloc: Global, script: &mut Vec<Arrival>, list: &[(Peer, &str)]) ->
 }
 
 /// A datagram of nobody to Acct, which is not answered. What comes after it comes a turn later.
-fn a_turn_later() -> Arrival {
+pub(super) fn a_turn_later() -> Arrival {
     Arrival::new(Role::Acct, loopback(9), &[])
 }
 

@@ -50,6 +50,7 @@ const OPENINGS: &[(Opening, &str, &str, &str)] = &[
     ),
     (Opening::Core, "bng: cannot open core\n", "", ""),
     (Opening::Tunnel, "bng: cannot open tunnel\n", "", ""),
+    (Opening::Coa, "bng: cannot open coa\n", "", ""),
     (Opening::Access(16), "bng: cannot open access ", "16", "\n"),
     (Opening::Seed, "bng: cannot open seed\n", "", ""),
 ];

@@ -1,4 +1,4 @@
-ghost use Rattle.std.specs.Prelude.{◌<◌, ◌^◌};
+ghost use Rattle.std.specs.Prelude.{◌≡◌, ◌<◌, ◌^◌, []};
 ghost use Rattle.bng_shard.specs.Interims.{AwaitsInterims};
 
 use super::logins::accepted_by;
@@ -23,10 +23,10 @@ fn reported(rt: &impl Abort, alloc: Global) -> Result<Bench, Fail> {
 }
 
 // The Interim that is taken at this moment, if one is due: its term, and what that carried.
-fn taken(bench: &Bench, reports: &mut Reports, now: u64) -> Option<(TermId, Book)>
+pub(super) fn taken(bench: &Bench, reports: &mut Reports, now: u64) -> Option<(TermId, Book)>
     requires moment { now < 2 ^ 60 }
-    requires awaits { AwaitsInterims bench.now.0.state.slots reports.old }
-    ensures awaits { AwaitsInterims bench.now.0.state.slots reports.new }
+    requires awaits { bench.now.0.state.changed ≡ [] → AwaitsInterims bench.now.0.state.slots reports.old }
+    ensures awaits { bench.now.0.state.changed ≡ [] → AwaitsInterims bench.now.0.state.slots reports.new }
 {
     let told = bench.shard.interim(reports, now)?;
     Some((told.term.term, told.carried))

@@ -52,7 +52,7 @@ fn open_with(alloc: Global, circuit: &Static) -> Result<Shard, Fail>
 
 // A packet of its term of so many octets, from the subscriber, that was sent.
 pub(super) fn sent(circuit: &Static, octets: u16) -> OutRecord
-    ensures charge { result.charge ≡ Some (charge_of (provisioned circuit.now 1) (lease_from circuit.now 1) true octets) }
+    ensures charge { result.charge ≡ Some (charge_of (provisioned 0 circuit.now 1) (lease_from 0 circuit.now 1) true octets) }
     ensures sent { result.sent ≡ true }
 {
     OutRecord {
@@ -85,7 +85,7 @@ pub(super) fn sent(circuit: &Static, octets: u16) -> OutRecord
 fn charge_first(shard: &mut Shard, circuit: &Static, out: &OutRecord) -> Charged
     requires number { IsNumberOf 1 circuit.now.session.0 }
     requires opened { (rules : Ways) × (shard.old ≡ opened 1 rules (circuit.now ∷ []) 0) }
-    requires charged { (octets : ℕ) × (out.now.charge ≡ Some (charge_of (provisioned circuit.now 1) (lease_from circuit.now 1) true octets)) }
+    requires charged { (octets : ℕ) × (out.now.charge ≡ Some (charge_of (provisioned 0 circuit.now 1) (lease_from 0 circuit.now 1) true octets)) }
     requires sent { out.now.sent ≡ true }
     ensures number { shard.new.number ≡ shard.old.number }
     ensures state { shard.new.state ≡ shard.old.state }
@@ -164,7 +164,7 @@ fn bench_of(
 
 // The shard 1 with two circuits, the one with the higher session number first, whose addresses it holds. The other has the second
 // profile.
-fn open_two(rt: &impl Abort, alloc: Global) -> Result<Bench, Fail> {
+pub(super) fn open_two(rt: &impl Abort, alloc: Global) -> Result<Bench, Fail> {
     let rules = rules(alloc)?;
     let circuits = [
         circuit_of(2, 1026, 0x0a000003, 0),
@@ -205,7 +205,7 @@ fn is_end(ended: &EndedTerm, term: (TermId, Circuit, Ip4)) -> bool {
 }
 
 // A packet of the first circuit, in a frame of its session.
-const FROM_IT: [u8; 50] = [
+pub(super) const FROM_IT: [u8; 50] = [
     2, 0, 0, 0, 0, 0xfe, 2, 0, 0, 0, 0, 1, 0x88, 0x64, 0x11, 0, 4, 1, 0, 30, 0, 0x21, 0x45, 0, 0,
     28, 0, 0, 0, 0, 64, 17, 0xae, 0xce, 10, 0, 0, 2, 192, 0, 2, 1, 0x30, 0x39, 0x30, 0x39, 0, 8, 0,
     0,

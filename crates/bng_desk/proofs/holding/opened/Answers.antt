@@ -13,14 +13,14 @@ use Rattle.bng_shard.specs.Lasting.{AreTenures}
 use Rattle.bng_shard.specs.Protocol.{ShardState, key_in}
 use Rattle.bng_desk.specs.declared.lists.Lists.{Lists}
 use Rattle.bng_desk.specs.Accounting.{AreBilled, AreSettling, KnowsBegun}
-use Rattle.bng_desk.specs.Interims.{AreAwaited}
+use Rattle.bng_desk.specs.Interims.{AreAwaited, AreWaiting}
 use Rattle.bng_desk.specs.Kept.{octets_most, drops_most}
 use Rattle.bng_desk.specs.Model.{begun_in, keys_in}
 use Rattle.bng_desk.specs.Round.{news_in}
 use Rattle.bng_desk.specs.Taking.{AddsUp, AllTurn, AreInOrder, AreTallied, BegunTo, HasFewSessions, HasNumbers, IsEmpty, KeepsTerms, OwesNone, ReapedTo, RoundHeld, SentTo, Shown, states_of}
 use Rattle.bng_desk.proofs.Dealt.{dealt_books, dealt_count, dealt_rows}
 use Rattle.bng_desk.proofs.DropLaws.{within_wider}
-use Rattle.bng_desk.proofs.Awaited.{awaited_over, knows_as}
+use Rattle.bng_desk.proofs.Awaited.{awaited_over, awaited_within, knows_as}
 use Rattle.bng_desk.proofs.Growing.{Grown, Worked, all_grown, all_worked, few_begun, moments_dealt, terms_grew}
 use Rattle.bng_desk.proofs.Joining.{HasLow, HasLowBooks, all_turn, all_turning, allowances_in, books_wider, dealt_covered, round_held, told_as}
 use Rattle.bng_desk.proofs.Newcomers.{are_settling}
@@ -209,7 +209,7 @@ report_all-requires-clause-awaited g c =
     let reaped = c.reap_all.ensures.reaps in
     let begun = c.begin_all.ensures.begins in
     subst (λ (rs : List Reports). AreAwaited c.args.named.moment c.begin_all.new.shards rs) (sym (begun.booked.reports_are ∙ reaped.booked.reports_are))
-    (awaited_over c.args.named.moment c.as_mut_slice-shards.result.now c.send_all.new.shards c.reap_all.new.shards c.begin_all.new.shards c.args.works.now.accounts.reports (all_ran g b) reaped.stops begun.starts reaped.each begun.each (h g b).awaited)
+    (awaited_over c.args.named.moment c.as_mut_slice-shards.result.now c.send_all.new.shards c.reap_all.new.shards c.begin_all.new.shards c.args.works.now.accounts.reports (all_ran g b) reaped.stops begun.starts reaped.each begun.each (awaited_within c.args.named.moment c.as_mut_slice-shards.result.now c.args.works.now.accounts.reports (h g b).awaited))
 
 pub note-requires : goal.note-requires
 note-requires g c =
@@ -301,5 +301,5 @@ returns-clause-keeps g c =
       knows = subst (λ (xs : Shards). KnowsBegun xs a.billing) after
           (knows_as ws c.begin_all.new.accounts.billing a.billing c.report_all.ensures.held
           (round_knows moment c.args.named.wall vs out reaped ws w.accounts c.reap_all.new.accounts c.begin_all.new.accounts (all_grow g b) h.order reaps.stops begun.starts reaps.each begun.each reaps.booked begun.booked h.knows));
-      awaited = subst (λ (xs : Shards). AreAwaited moment xs a.reports) after c.report_all.ensures.awaited;
+      awaited = subst (λ (xs : Shards). AreWaiting moment xs a.reports) after c.report_all.ensures.awaited;
     }

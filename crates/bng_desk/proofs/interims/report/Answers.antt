@@ -66,10 +66,13 @@ returns-clause-reports c =
     let last = c.in_default.ensures in
     reports_all c.args.moment c.args.wall c.args.shard.now c.args.reports.now c.loop-due.reports c.interim.new.reports c.args.billing.now c.loop-due.billing c.loop-due.invariant last.first last.kept
 
+pub returns-then-not-may_report-clause-awaited : goal.returns-then-not-may_report-clause-awaited
+returns-then-not-may_report-clause-awaited c = record { waits = c.if-not-may_report.ensures.awaits refl; soon = c.requires.awaited.soon }
+
 pub returns-clause-awaited : goal.returns-clause-awaited
 returns-clause-awaited c =
     let last = c.in_default.ensures in
-    record { awaits = last.awaits; soon = soon_still c.args.moment c.loop-due.reports.next c.interim.new.reports.next c.loop-due.invariant.awaits.soon last.soon }
+    record { waits = last.all; soon = soon_still c.args.moment c.loop-due.reports.next c.interim.new.reports.next c.loop-due.invariant.awaits.soon last.soon }
 
 pub returns-clause-held : goal.returns-clause-held
 returns-clause-held c = c.loop-due.invariant.held

@@ -4,7 +4,7 @@ use Rattle.bng_engine.specs.Views.{ShardView}
 use Rattle.bng_shard.specs.Lasting.{AreTenures}
 use Rattle.bng_shard.specs.Protocol.{ShardState}
 use Rattle.bng_desk.specs.Interims.{AwaitsAt}
-use Rattle.bng_desk.proofs.Reporting.{awaits_there, each_formed, each_taken, few_more, few_none, live_there}
+use Rattle.bng_desk.proofs.Reporting.{awaits_there, each_formed, each_taken, each_waiting, few_more, few_none, live_there}
 use Rattle.bng_desk.proofs.Zips.{zip_length}
 use Rattle.bng_desk.proofs.interims.report_each.Goals as goal
 use Rattle.bng_desk.proofs.interims.report_each.Goals.{Start}
@@ -46,7 +46,8 @@ returns-clause-taken c =
     each_taken c.args.moment c.args.wall c.args.shards.now c.loop-place.place c.args.reports.now c.loop-place.reports c.args.billing.now c.loop-place.billing (omega arith) (same (goal.at.returns-clause-taken c).Start) c.loop-place.invariant
 
 pub returns-clause-awaited : goal.returns-clause-awaited
-returns-clause-awaited c = c.loop-place.invariant.awaited
+returns-clause-awaited c =
+    each_waiting c.args.moment c.args.wall c.args.shards.now c.loop-place.place c.args.reports.now c.loop-place.reports c.args.billing.now c.loop-place.billing (omega arith) (same (goal.at.returns-clause-awaited c).Start) c.loop-place.invariant
 
 pub returns-clause-held : goal.returns-clause-held
 returns-clause-held c = c.loop-place.invariant.held

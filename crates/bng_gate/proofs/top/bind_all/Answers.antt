@@ -1,16 +1,16 @@
 use Rattle.std.proofs.Common.{◌∙◌}
-use Rattle.bng_gate.proofs.Binding.{tunnel_after, tunnel_fails}
+use Rattle.bng_gate.proofs.Binding.{coa_after, coa_fails}
 use Rattle.bng_gate.proofs.top.bind_all.Goals as goal
 
 pub returns-in-Ok-clause-bound : goal.returns-in-Ok-clause-bound
 returns-in-Ok-clause-bound g c =
     let told = g.P.Plant.told in
-    tunnel_after c.args.config.now (told c.args.plant.now) (told c.bind_acct.new.plant) (told c.bind_tunnel.new.plant) c.in_default.ensures.bound (c.bind_tunnel.ensures.bound c.in-Ok.is)
+    coa_after c.args.config.now c.coa_local.result (told c.args.plant.now) (told c.bind_tunnel.new.plant) (told c.bind_end.new.plant) c.coa_local.ensures c.in_default.ensures.bound (c.bind_end.ensures.bound c.in-Ok.is)
 
 pub returns-in-Ok-clause-unfailed : goal.returns-in-Ok-clause-unfailed
-returns-in-Ok-clause-unfailed g c = c.bind_tunnel.ensures.unfailed c.in-Ok.is ∙ c.in_default.ensures.unfailed
+returns-in-Ok-clause-unfailed g c = c.bind_end.ensures.unfailed c.in-Ok.is ∙ c.in_default.ensures.unfailed
 
 pub returns-in-Failed-clause-failed : goal.returns-in-Failed-clause-failed
 returns-in-Failed-clause-failed g c =
     let told = g.P.Plant.told in
-    tunnel_fails c.args.config.now (told c.args.plant.now) (told c.bind_acct.new.plant) (told c.bind_tunnel.new.plant) c.in_default.ensures.bound (c.bind_tunnel.ensures.failed c.in-Failed.is)
+    coa_fails c.args.config.now c.coa_local.result (told c.args.plant.now) (told c.bind_tunnel.new.plant) (told c.bind_end.new.plant) c.coa_local.ensures c.in_default.ensures.bound (c.bind_end.ensures.failed c.in-Failed.is)

@@ -1,16 +1,16 @@
-use Rattle.bng_gate.proofs.Binding.{no_tunnel, none_bound, one_tunnel}
+use Rattle.std.proofs.Common.{◌∙◌}
+use Rattle.bng_gate.proofs.Binding.{tunnel_after, tunnel_fails}
 use Rattle.bng_gate.proofs.top.bind_tunnel.Goals as goal
 
-pub returns-in_default-clause-bound : goal.returns-in_default-clause-bound
-returns-in_default-clause-bound g c = λ ok. no_tunnel c.args.tunnel (g.P.Plant.told c.args.plant.now) c.in_default.is
-
-pub returns-clause-bound : goal.returns-clause-bound
-returns-clause-bound g c = λ ok.
+pub returns-in-Ok-clause-bound : goal.returns-in-Ok-clause-bound
+returns-in-Ok-clause-bound g c =
     let told = g.P.Plant.told in
-    one_tunnel c.args.tunnel c.in-Some.local c.bind.result (told c.args.plant.now) (told c.bind.new.self) c.in-Some.is ok c.bind.ensures.bound c.bind.ensures.heard c.bind.ensures.taken c.bind.ensures.sent c.bind.ensures.cause.later
+    tunnel_after c.args.config.now (told c.args.plant.now) (told c.bind_acct.new.plant) (told c.bind_end.new.plant) c.in_default.ensures.bound (c.bind_end.ensures.bound c.in-Ok.is)
 
-pub returns-clause-failed : goal.returns-clause-failed
-returns-clause-failed g c = λ failed.
+pub returns-in-Ok-clause-unfailed : goal.returns-in-Ok-clause-unfailed
+returns-in-Ok-clause-unfailed g c = c.bind_end.ensures.unfailed c.in-Ok.is ∙ c.in_default.ensures.unfailed
+
+pub returns-in-Failed-clause-failed : goal.returns-in-Failed-clause-failed
+returns-in-Failed-clause-failed g c =
     let told = g.P.Plant.told in
-    none_bound c.args.tunnel c.in-Some.local c.bind.result (told c.args.plant.now) (told c.bind.new.self) c.in-Some.is failed c.bind.ensures.bound c.bind.ensures.heard c.bind.ensures.taken c.bind.ensures.sent
-    c.bind.ensures.cause.later (c.bind.ensures.cause.cause failed)
+    tunnel_fails c.args.config.now (told c.args.plant.now) (told c.bind_acct.new.plant) (told c.bind_end.new.plant) c.in_default.ensures.bound (c.bind_end.ensures.failed c.in-Failed.is)

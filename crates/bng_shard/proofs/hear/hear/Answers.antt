@@ -1,9 +1,11 @@
 use Rattle.std.proofs.Common.{arith, refl}
 use Rattle.bng_base.specs.declared.item.ItemKind.TheVariants.{Access, Core, Tunnel, Verdict, Change, Tick, End}
+use Rattle.bng_shard.specs.Changes.{HearsChange}
 use Rattle.bng_shard.specs.Frames.{HearsCore}
 use Rattle.bng_shard.specs.Running.{whole}
 use Rattle.bng_shard.proofs.Arriving.{does_more}
-use Rattle.bng_shard.proofs.ByKind.{stepped, stepped_with, ticked, ended, passed_over, unasked}
+use Rattle.bng_shard.proofs.ByKind.{answered_so, ended, stepped, stepped_with, ticked, unanswered, unasked}
+use Rattle.bng_shard.proofs.SumsKept.{keeps_stay}
 use Rattle.bng_shard.proofs.hear.hear.Goals as goal
 
 pub returns-in-Access-clause-does : goal.returns-in-Access-clause-does
@@ -34,10 +36,41 @@ returns-in-Verdict-clause-does c =
     stepped_with c.args.incoming.now.rules.now (whole c.args.served.now c.args.terms.now) (whole c.hear_verdict.new.served c.hear_verdict.new.terms) c.args.outs.now.items c.hear_verdict.new.outs.items c.args.incoming.now.at c.args.incoming.now.moment c.args.incoming.now.item.now c.args.limited c.args.claim c.hear_verdict.result Verdict c.in-Verdict.is tt
     (record { deed = h.deed; entry = h.entry; fate_is = h.fate_is; next = h.next; says = h.says; outs_are = h.outs_are; few = omega (arith, few) })
 
+pub returns-in-Access-clause-answered : goal.returns-in-Access-clause-answered
+returns-in-Access-clause-answered c e same = unanswered c.args.incoming.now.rules.now (whole c.args.served.now c.args.terms.now) c.args.incoming.now.item.now (Access c.in-Access.number) c.in-Access.is (λ w. refl) c.args.answers.now.items e same
+
+pub returns-in-Core-clause-answered : goal.returns-in-Core-clause-answered
+returns-in-Core-clause-answered c e same = unanswered c.args.incoming.now.rules.now (whole c.args.served.now c.args.terms.now) c.args.incoming.now.item.now Core c.in-Core.is (λ w. refl) c.args.answers.now.items e same
+
+pub returns-in-Tunnel-clause-answered : goal.returns-in-Tunnel-clause-answered
+returns-in-Tunnel-clause-answered c e same = unanswered c.args.incoming.now.rules.now (whole c.args.served.now c.args.terms.now) c.args.incoming.now.item.now Tunnel c.in-Tunnel.is (λ w. refl) c.args.answers.now.items e same
+
+pub returns-in-Verdict-clause-answered : goal.returns-in-Verdict-clause-answered
+returns-in-Verdict-clause-answered c e same = unanswered c.args.incoming.now.rules.now (whole c.args.served.now c.args.terms.now) c.args.incoming.now.item.now Verdict c.in-Verdict.is (λ w. refl) c.args.answers.now.items e same
+
+pub returns-in-Tick-clause-answered : goal.returns-in-Tick-clause-answered
+returns-in-Tick-clause-answered c e same = unanswered c.args.incoming.now.rules.now (whole c.args.served.now c.args.terms.now) c.args.incoming.now.item.now Tick c.in-Tick.is (λ w. refl) c.args.answers.now.items e same
+
+pub returns-in-End-clause-answered : goal.returns-in-End-clause-answered
+returns-in-End-clause-answered c e same = unanswered c.args.incoming.now.rules.now (whole c.args.served.now c.args.terms.now) c.args.incoming.now.item.now End c.in-End.is (λ w. refl) c.args.answers.now.items e same
+
+pub returns-in-Change-clause-answered : goal.returns-in-Change-clause-answered
+returns-in-Change-clause-answered c e same =
+    let (answer, answers, pushed) = c.hear_change.ensures.answered e same in
+    (answer, answered_so c.args.incoming.now.rules.now (whole c.args.served.now c.args.terms.now) c.args.incoming.now.item.now Change c.in-Change.is e same answer answers, pushed)
+
+pub returns-in-Change-clause-sums : goal.returns-in-Change-clause-sums
+returns-in-Change-clause-sums c = keeps_stay c.args.terms.now c.hear_change.new.terms c.hear_change.ensures.sums
+
 pub returns-in-Change-clause-does : goal.returns-in-Change-clause-does
 returns-in-Change-clause-does c =
-    let none = unasked c.args.incoming.now.rules.now c.args.served.now c.args.incoming.now.item.now c.args.limited c.args.claim Change c.in-Change.is (λ w e. e) c.requires.asked in
-    passed_over c.args.incoming.now.rules.now (whole c.args.served.now c.args.terms.now) c.args.outs.now.items c.args.incoming.now.at c.args.incoming.now.moment c.args.incoming.now.item.now c.args.limited c.args.claim none c.requires.place Change c.in-Change.is refl (λ e. refl)
+    let r = c.args.incoming.now.rules.now in
+    let s = whole c.args.served.now c.args.terms.now in
+    let s' = whole c.hear_change.new.served c.hear_change.new.terms in
+    let none = unasked r c.args.served.now c.args.incoming.now.item.now c.args.limited c.args.claim Change c.in-Change.is (λ w e. e) c.requires.asked in
+    stepped r s s' c.args.outs.now.items c.hear_change.new.outs.items c.args.incoming.now.at c.args.incoming.now.moment c.args.incoming.now.item.now c.args.limited c.args.claim none c.hear_change.result Change c.in-Change.is refl
+    (does_more s s' c.args.outs.now.items c.hear_change.new.outs.items c.args.incoming.now.at c.args.incoming.now.moment c.args.incoming.now.item.now c.hear_change.result (λ e d. HearsChange r s e d) (λ e d. HearsChange r s e d) 5 10 (omega arith)
+    (λ d says. says) c.hear_change.ensures.does)
 
 pub returns-in-Tick-clause-does : goal.returns-in-Tick-clause-does
 returns-in-Tick-clause-does c =

@@ -3,7 +3,7 @@ use Rattle.bng_shard.proofs.SoundOpening.{opened_sound}
 use Rattle.bng_shard.proofs.laws.yeses_are_granted.Goals as goal
 
 pub returns-clause-opened : goal.returns-clause-opened
-returns-clause-opened c number profiles circuits now low own apart = opened_sound number circuits apart profiles now low own
+returns-clause-opened c number profiles circuits now low own apart = opened_sound now number circuits apart profiles low own
 
 pub returns-clause-kept : goal.returns-clause-kept
 returns-clause-kept c = step_sound

@@ -7,6 +7,7 @@ use Rattle.bng_desk.specs.declared.holding.Named.{Named}
 use Rattle.bng_desk.specs.declared.settlement.Works.{Works}
 use Rattle.bng_desk.specs.Items.{drawn_from, ends_of}
 use Rattle.bng_desk.specs.Kept.{IsKept, rested, octets_most, drops_most}
+use Rattle.bng_desk.specs.Coa.{replies_in}
 use Rattle.bng_desk.specs.Model.{Desk, graces_most, is_over, left_of, rounds_left, sessions_in, state_of, unopened_most}
 use Rattle.bng_desk.specs.Random.{Drawn}
 use Rattle.bng_desk.specs.Taking.{Accounts}
@@ -51,6 +52,7 @@ module _ (g : Over) (c : After-to_end g) where
     handed = works.handed.items;
     billing = works.accounts.billing;
     reports = works.accounts.reports;
+    coa = works.coa;
     endings = c.self.inside.endings;
     unopened = c.self.inside.unopened;
     closed = c.self.inside.closed;
@@ -81,7 +83,7 @@ module _ (g : Over) (c : After-to_end g) where
   draws_are : c.to_end.new.draws ≡ drawn_with (length works.shards.items)
   draws_are = c.to_end.ensures.drawn ∙ ap drawn_with shards_count
 
-  few_drawn : c.to_end.new.draws.drawn ≤ works.draws.drawn + 864
+  few_drawn : c.to_end.new.draws.drawn ≤ works.draws.drawn + 896
   few_drawn = omega (arith, ap (λ (x : Drawn). x.drawn) draws_are, few_draws desk c.self.invariant.0)
 
   are_ends : AreEnds (length works.shards.items) c.to_end.new.items.items
@@ -138,6 +140,7 @@ invariant_of-self g c =
         billed = was.billed;
         knows = was.knows;
         awaited = was.awaited;
+        all_told = was.all_told;
       },
       c.self.invariant.1,
     )
@@ -156,7 +159,7 @@ settle-noted-requires g c =
     let n = length w.shards.items in
     let taken = c.in-Ok.ensures in
     record {
-      ready = is_ready d w w.accounts.billing w.lane c.to_end.new.draws c.to_end.new.kept c.take.new.self (named g b) _ c.self.invariant.0 c.self.invariant.0.billed c.self.invariant.0.knows (later g b) c.now-now.ensures.bound (few_drawn g b) c.to_end.ensures.none_kept
+      ready = is_ready d w w.accounts.billing w.coa w.lane c.to_end.new.draws c.to_end.new.kept c.take.new.self (named g b) _ c.self.invariant.0 c.self.invariant.0.billed c.self.invariant.0.knows (later g b) c.now-now.ensures.bound (few_drawn g b) c.to_end.ensures.none_kept
           (omega (arith, ends_few_kept d c.to_end.new.items.items c.self.invariant.0 (are_ends g b), c.to_end.ensures.kept_room, c.self.invariant.1)) (items_of_ends n c.to_end.new.items.items (few_shards g b) (are_ends g b)) (outs_of_ending n c.to_end.new.items.items (are_ends g b))
           (record {
             loose = taken.loose.0;
@@ -186,7 +189,7 @@ module _ (g : Over) (c : After-answer g) where
 
   nearer : Nears c.settle-noted.result.is_opened (sessions_in (works g so_far).shards.items) (sessions_in c.settle-noted.new.works.shards.items)
   nearer =
-      ends_near (desk g so_far) (works g so_far) c.settle-noted.new.works (works g so_far).accounts.billing (works g so_far).lane c.to_end.new.draws c.to_end.new.kept c.take.new.self (named g so_far) c.to_end.new.items.items (g.P.Plant.told c.args.plant.now) (g.P.Plant.told c.settle-noted.new.plant) (g.T.Trace.told c.args.trace.now) (g.T.Trace.told c.settle-noted.new.trace)
+      ends_near (desk g so_far) (works g so_far) c.settle-noted.new.works (works g so_far).accounts.billing (works g so_far).coa (works g so_far).lane c.to_end.new.draws c.to_end.new.kept c.take.new.self (named g so_far) (replies_in c.in-Ok.lists.repeats.items) c.to_end.new.items.items (g.P.Plant.told c.args.plant.now) (g.P.Plant.told c.settle-noted.new.plant) (g.T.Trace.told c.args.trace.now) (g.T.Trace.told c.settle-noted.new.trace)
       c.settle-noted.result c.self.invariant.0 (are_ends g so_far) c.settle-noted.ensures.settles
 
 pub invariant_of-self-2 : goal.invariant_of-self-2
@@ -206,9 +209,9 @@ invariant_of-self-2 g c =
       subst (λ (a : Accounts). IsKept (after_ending (kept_with d (record after { accounts = a })) c.unopened_after-self-inside.result c.either-self-inside.result c.closing_after-self-inside.result c.now-now.result c.told_after-self-inside.result)) (sym (accounts_are g c))
           (kept_ended d (billed_by after c.close.new.self.billing) c.unopened_after-self-inside.result c.either-self-inside.result c.closing_after-self-inside.result c.now-now.result c.told_after-self-inside.result c.self.invariant.0 e.over near (later g b)
           (closing_low c.settle-noted.result.is_opened c.self.inside.closing c.now-now.result c.closing_after-self-inside.result (omega (arith, c.self.invariant.0.closing, later g b)) c.closing_after-self-inside.ensures)
-          (left_closed d c.now-now.result after (c.either-self-inside.result && (sessions_in after.shards.items == 0)) c.close.new.self.billing c.free.ensures.agree (closes g c) (is_left d w after w.accounts.billing w.lane c.to_end.new.draws c.to_end.new.kept c.take.new.self (named g b) items (told c.args.plant.now) (told c.settle-noted.new.plant) (trace c.args.trace.now) (trace c.settle-noted.new.trace) c.settle-noted.result c.self.invariant.0 settles keeps (few_drawn g b)))
+          (left_closed d c.now-now.result after (c.either-self-inside.result && (sessions_in after.shards.items == 0)) c.close.new.self.billing c.free.ensures.agree (closes g c) (is_left d w after w.accounts.billing w.coa w.lane c.to_end.new.draws c.to_end.new.kept c.take.new.self (named g b) (replies_in c.in-Ok.lists.repeats.items) items (told c.args.plant.now) (told c.settle-noted.new.plant) (trace c.args.trace.now) (trace c.settle-noted.new.trace) c.settle-noted.result c.self.invariant.0 settles keeps (few_drawn g b)))
           (subst (λ (n : ℕ). n ≤ c.self.inside.told + 1) (sym c.told_after-self-inside.ensures) (few_told c.settle-noted.result.noted c.self.inside.told))
-          (kept_by d w after w.accounts.billing w.lane c.to_end.new.draws c.to_end.new.kept c.take.new.self (named g b) items (told c.args.plant.now) (told c.settle-noted.new.plant) (trace c.args.trace.now) (trace c.settle-noted.new.trace) c.settle-noted.result (AreKept d) settles (none_kept d) (ends_kept d items c.self.invariant.0 (are_ends g b)))),
+          (kept_by d w after w.accounts.billing w.coa w.lane c.to_end.new.draws c.to_end.new.kept c.take.new.self (named g b) (replies_in c.in-Ok.lists.repeats.items) items (told c.args.plant.now) (told c.settle-noted.new.plant) (trace c.args.trace.now) (trace c.settle-noted.new.trace) c.settle-noted.result (AreKept d) settles (none_kept d) (ends_kept d items c.self.invariant.0 (are_ends g b)))),
       omega (arith, keeps.room, c.to_end.ensures.kept_room, c.self.invariant.1),
     )
 
@@ -241,8 +244,8 @@ returns-clause-makes g c =
     let before_is : Outside = record { plant = told c.args.plant.now; clock = clock c.args.clock.now; trace = trace c.args.trace.now } in
     let behind_is : Outside = record { plant = told c.settle-noted.new.plant; clock = clock c.wall-wall.new.self; trace = trace c.settle-noted.new.trace } in
     let count : length w.shards.items ≡ length (map rested w.shards.items) = sym (length-map w.shards.items rested) in
-    let made = ended d w after c.to_end.new.draws c.to_end.new.kept c.take.new.self (named g b) c.to_end.new.items.items c.settle-noted.result c.close.new.self.billing (told c.args.plant.now) (told c.settle-noted.new.plant) (trace c.args.trace.now) (trace c.settle-noted.new.trace)
-    refl (items_are g b ∙ ap (λ (n : ℕ). ending_with g b n) count) (draws_are g b ∙ ap (λ (n : ℕ). drawn_with g b n) count) c.settle-noted.ensures.settles
+    let made = ended d w after c.to_end.new.draws c.to_end.new.kept c.take.new.self (named g b) (replies_in c.in-Ok.lists.repeats.items) c.to_end.new.items.items c.settle-noted.result c.close.new.self.billing (told c.args.plant.now) (told c.settle-noted.new.plant) (trace c.args.trace.now) (trace c.settle-noted.new.trace)
+    refl c.self.invariant.0.all_told (ap replies_in c.in-Ok.ensures.repeats.0) (items_are g b ∙ ap (λ (n : ℕ). ending_with g b n) count) (draws_are g b ∙ ap (λ (n : ℕ). drawn_with g b n) count) c.settle-noted.ensures.settles
     (later g b) (clock c.args.clock.now) (clock c.now-now.new.self) (clock c.wall-wall.new.self) c.now-now.ensures.answers c.wall-wall.ensures.answers (c.wall-wall.ensures.last ∙ c.now-now.ensures.last)
     c.answer.result c.answer.ensures c.unopened_after-self-inside.result c.unopened_after-self-inside.ensures c.either-self-inside.result c.either-self-inside.ensures
     c.closing_after-self-inside.result c.closing_after-self-inside.ensures (closes g c) c.told_after-self-inside.result c.told_after-self-inside.ensures in

@@ -40,6 +40,7 @@ module _ (g : Over) (c : After-wait_if g) where
     handed = works.handed.items;
     billing = works.accounts.billing;
     reports = works.accounts.reports;
+    coa = works.coa;
     endings = c.self.inside.endings;
     unopened = c.self.inside.unopened;
     closed = c.self.inside.closed;

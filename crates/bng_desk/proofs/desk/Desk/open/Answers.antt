@@ -13,6 +13,7 @@ use Rattle.bng_base.specs.Books.{empty_book}
 use Rattle.bng_acct.specs.Roster.{same}
 use Rattle.bng_billing.specs.declared.rules.BillingRules.{BillingRules}
 use Rattle.bng_billing.specs.State.{IsNewBilling}
+use Rattle.bng_coa.specs.State.{State as CoaState}
 use Rattle.bng_engine.specs.Lists.{AnyOf}
 use Rattle.bng_engine.specs.Terms.{Key, keys}
 use Rattle.bng_engine.specs.Views.{ShardView}
@@ -50,7 +51,7 @@ module _ (c : After-new-4) where
   abbrev made : Rules
   made = c.in_ok-rules.rules
 
-  made_as : made ≡ record { shards = c.args.config.shards; core_peer = c.args.config.core_peer; access = c.args.config.access; offers = c.in_ok-offers.offers.items; pools = c.args.config.pools; profiles = c.args.config.profiles; lacs = c.args.config.lacs; serves_tunnels = is_some c.args.config.tunnel_local; link = record { name = c.args.config.name; address = c.args.config.address; dns = dns_of c.args.config.dns.items; auth = c.args.config.auth; echo = c.args.config.echo } }
+  made_as : made ≡ record { shards = c.args.config.shards; core_peer = c.args.config.core_peer; access = c.args.config.access; offers = c.in_ok-offers.offers.items; pools = c.args.config.pools; profiles = c.args.config.profiles; lacs = c.args.config.lacs; serves_tunnels = is_some c.args.config.tunnel_local; nas_ip = c.args.config.nas_ip; wall = c.args.wall; serves_changes = is_some c.args.config.coa; link = record { name = c.args.config.name; address = c.args.config.address; dns = dns_of c.args.config.dns.items; auth = c.args.config.auth; echo = c.args.config.echo } }
   made_as = c.in_ok-rules.ensures
 
   circuits : c.into_vec.result.items ≡ c.args.config.statics
@@ -101,7 +102,7 @@ module _ (c : After-new-4) where
       (subst (λ (ps : List AccessPort). AreOffersOf c.args.config.name.items c.args.config.services.items (draw c.args.seed 0) 1 ps c.in_ok-offers.offers.items) c.as_slice-access.ensures
       (subst (λ (key : List ℕ). AreOffersOf c.args.config.name.items c.args.config.services.items key 1 c.as_slice-access.result.now c.in_ok-offers.offers.items) key_is c.in_ok-offers.ensures))
 
-  are_rules : AreRules c.args.config c.args.seed made
+  are_rules : AreRules c.args.config c.args.seed c.args.wall made
   are_rules = record {
     shards = ap (λ (r : Rules). r.shards) made_as;
     core_peer = ap (λ (r : Rules). r.core_peer) made_as;
@@ -111,6 +112,9 @@ module _ (c : After-new-4) where
     profiles = ap (λ (r : Rules). r.profiles) made_as;
     lacs = ap (λ (r : Rules). r.lacs) made_as;
     serves_tunnels = ap (λ (r : Rules). r.serves_tunnels) made_as;
+    nas_ip = ap (λ (r : Rules). r.nas_ip) made_as;
+    opened_at = ap (λ (r : Rules). r.wall) made_as;
+    serves_changes = ap (λ (r : Rules). r.serves_changes) made_as;
     name = ap (λ (r : Rules). r.link.name.items) made_as;
     address = ap (λ (r : Rules). r.link.address) made_as;
     dns = ap (λ (r : Rules). r.link.dns) made_as;
@@ -165,7 +169,7 @@ returns c =
     let b = (goal.at.returns c).After-new-4 in
     let config = c.args.config in
     let r = made b in
-    let desk = λ (tallies : List Book) (lines : List Line) (stopped : Stopped) (shards : List (ShardView ShardState Entry)) (draws : Drawn) (handed : List (List ℕ)) (reports : List Reports) (kept : List Item). let x : Desk = record {
+    let desk = λ (tallies : List Book) (lines : List Line) (stopped : Stopped) (shards : List (ShardView ShardState Entry)) (draws : Drawn) (handed : List (List ℕ)) (reports : List Reports) (kept : List Item) (coa : CoaState). let x : Desk = record {
       rules = r;
       lines = lines;
       stopped_book = stopped.carried;
@@ -185,6 +189,7 @@ returns c =
       handed = handed;
       billing = c.in_ok-accounts.accounts.billing;
       reports = reports;
+      coa = coa;
       endings = 0;
       unopened = 0;
       closed = false;
@@ -213,14 +218,15 @@ returns c =
       billing = c.in_ok-accounts.accounts.billing;
       forms = accounts.booked.forms;
       desk =
-          ap (λ (bs : List Book). desk bs c.in_ok-accounts.accounts.lines c.in_ok-accounts.accounts.stopped (map rested c.in_ok-opens.opens.items) c.sixteen-key.new.self c.in_ok-handed.handed.items c.in_ok-accounts.accounts.reports c.in_ok-kept.kept.items) (tallies_are b)
-          ∙ ap (λ (ls : List Line). desk (empty_book ∷ []) ls c.in_ok-accounts.accounts.stopped (map rested c.in_ok-opens.opens.items) c.sixteen-key.new.self c.in_ok-handed.handed.items c.in_ok-accounts.accounts.reports c.in_ok-kept.kept.items) (lines_are b)
-          ∙ ap (λ (t : Stopped). desk (empty_book ∷ []) (map line_of config.statics) t (map rested c.in_ok-opens.opens.items) c.sixteen-key.new.self c.in_ok-handed.handed.items c.in_ok-accounts.accounts.reports c.in_ok-kept.kept.items) (stopped_is b)
-          ∙ ap (λ (xs : List (ShardView ShardState Entry)). desk (empty_book ∷ []) (map line_of config.statics) no_stops xs c.sixteen-key.new.self c.in_ok-handed.handed.items c.in_ok-accounts.accounts.reports c.in_ok-kept.kept.items) shards
-          ∙ ap (λ (x : Drawn). desk (empty_book ∷ []) (map line_of config.statics) no_stops opens x c.in_ok-handed.handed.items c.in_ok-accounts.accounts.reports c.in_ok-kept.kept.items) (draws_are b)
-          ∙ ap (λ (ls : List (List ℕ)). desk (empty_book ∷ []) (map line_of config.statics) no_stops opens first ls c.in_ok-accounts.accounts.reports c.in_ok-kept.kept.items) c.in_ok-handed.ensures.handed
-          ∙ ap (λ (rs : List Reports). desk (empty_book ∷ []) (map line_of config.statics) no_stops opens first (map (λ n. none_handed) (range_with_len 0 config.shards)) rs c.in_ok-kept.kept.items) (reports_are b)
-          ∙ ap (λ (is : List Item). desk (empty_book ∷ []) (map line_of config.statics) no_stops opens first (map (λ n. none_handed) (range_with_len 0 config.shards)) (map (λ n. no_reports) (range_with_len 0 config.shards)) is) c.in_ok-kept.ensures.0;
+          ap (λ (bs : List Book). desk bs c.in_ok-accounts.accounts.lines c.in_ok-accounts.accounts.stopped (map rested c.in_ok-opens.opens.items) c.sixteen-key.new.self c.in_ok-handed.handed.items c.in_ok-accounts.accounts.reports c.in_ok-kept.kept.items c.in_ok-coa.coa) (tallies_are b)
+          ∙ ap (λ (ls : List Line). desk (empty_book ∷ []) ls c.in_ok-accounts.accounts.stopped (map rested c.in_ok-opens.opens.items) c.sixteen-key.new.self c.in_ok-handed.handed.items c.in_ok-accounts.accounts.reports c.in_ok-kept.kept.items c.in_ok-coa.coa) (lines_are b)
+          ∙ ap (λ (t : Stopped). desk (empty_book ∷ []) (map line_of config.statics) t (map rested c.in_ok-opens.opens.items) c.sixteen-key.new.self c.in_ok-handed.handed.items c.in_ok-accounts.accounts.reports c.in_ok-kept.kept.items c.in_ok-coa.coa) (stopped_is b)
+          ∙ ap (λ (xs : List (ShardView ShardState Entry)). desk (empty_book ∷ []) (map line_of config.statics) no_stops xs c.sixteen-key.new.self c.in_ok-handed.handed.items c.in_ok-accounts.accounts.reports c.in_ok-kept.kept.items c.in_ok-coa.coa) shards
+          ∙ ap (λ (x : Drawn). desk (empty_book ∷ []) (map line_of config.statics) no_stops opens x c.in_ok-handed.handed.items c.in_ok-accounts.accounts.reports c.in_ok-kept.kept.items c.in_ok-coa.coa) (draws_are b)
+          ∙ ap (λ (ls : List (List ℕ)). desk (empty_book ∷ []) (map line_of config.statics) no_stops opens first ls c.in_ok-accounts.accounts.reports c.in_ok-kept.kept.items c.in_ok-coa.coa) c.in_ok-handed.ensures.handed
+          ∙ ap (λ (rs : List Reports). desk (empty_book ∷ []) (map line_of config.statics) no_stops opens first (map (λ n. none_handed) (range_with_len 0 config.shards)) rs c.in_ok-kept.kept.items c.in_ok-coa.coa) (reports_are b)
+          ∙ ap (λ (is : List Item). desk (empty_book ∷ []) (map line_of config.statics) no_stops opens first (map (λ n. none_handed) (range_with_len 0 config.shards)) (map (λ n. no_reports) (range_with_len 0 config.shards)) is c.in_ok-coa.coa) c.in_ok-kept.ensures.0
+          ∙ ap (λ (x : CoaState). desk (empty_book ∷ []) (map line_of config.statics) no_stops opens first (map (λ n. none_handed) (range_with_len 0 config.shards)) (map (λ n. no_reports) (range_with_len 0 config.shards)) [] x) c.in_ok-coa.ensures;
     }
 
 pub shards-requires-clause-circuits : goal.shards-requires-clause-circuits

@@ -18,11 +18,11 @@ use Rattle.bng_shard.proofs.served.Served.open.Goals.{in-Some, in_default-circui
 pub loop-n-init : goal.loop-n-init
 loop-n-init c =
     let none : 0 ≡ c.args.number * 1024 + 1 - (c.args.number * 1024 + 1) = omega arith in
-    subst (λ (k : ℕ). Opens c.args.number c.args.circuits.now k c.in-Ok.sessions 0) none (opens_none c.args.number c.args.circuits.now c.in-Ok.sessions c.in-Ok.ensures.shard c.in-Ok.ensures.vacant)
+    subst (λ (k : ℕ). Opens c.args.now c.args.number c.args.circuits.now k c.in-Ok.sessions 0) none (opens_none c.args.now c.args.number c.args.circuits.now c.in-Ok.sessions c.in-Ok.ensures.shard c.in-Ok.ensures.vacant)
 
 pub overflow_add-begun : goal.overflow_add-begun
 overflow_add-begun c =
-    let few = few_begun c.args.number c.args.circuits.now (c.loop-n.n - (c.args.number * 1024 + 1)) c.loop-n.sessions c.loop-n.begun c.loop-n.invariant c.requires.sessions in
+    let few = few_begun c.args.now c.args.number c.args.circuits.now (c.loop-n.n - (c.args.number * 1024 + 1)) c.loop-n.sessions c.loop-n.begun c.loop-n.invariant c.requires.sessions in
     let l = c.loop-n-test.true in
     omega (arith, few, l)
 
@@ -30,48 +30,48 @@ pub put-requires-clause-vacant : goal.put-requires-clause-vacant
 put-requires-clause-vacant c =
     let first = c.args.number * 1024 + 1 in
     let low : c.args.number * 1024 + 1 ≤ c.loop-n.n = search rules in
-    let here = at c.args.number c.args.circuits.now first c.loop-n.n c.loop-n.sessions c.loop-n.begun c.loop-n.invariant refl low in
-    vacant_there c.args.number c.args.circuits.now (c.loop-n.n - first) c.loop-n.sessions c.loop-n.begun c.loop-n.invariant c.loop-n.n here
+    let here = at c.args.now c.args.number c.args.circuits.now first c.loop-n.n c.loop-n.sessions c.loop-n.begun c.loop-n.invariant refl low in
+    vacant_there c.args.now c.args.number c.args.circuits.now (c.loop-n.n - first) c.loop-n.sessions c.loop-n.begun c.loop-n.invariant c.loop-n.n here
 
 pub put-requires-clause-circuit : goal.put-requires-clause-circuit
 put-requires-clause-circuit c =
     let first = c.args.number * 1024 + 1 in
     let low : c.args.number * 1024 + 1 ≤ c.loop-n.n = search rules in
-    let here = at c.args.number c.args.circuits.now first c.loop-n.n c.loop-n.sessions c.loop-n.begun c.loop-n.invariant refl low in
+    let here = at c.args.now c.args.number c.args.circuits.now first c.loop-n.n c.loop-n.sessions c.loop-n.begun c.loop-n.invariant refl low in
     subst (λ (x : Session). NoneShares (λ (y : Session). Some (circuit_of y)) c.loop-n.sessions x) (sym c.provisioned.ensures)
-    (shares_circuit c.args.number c.args.circuits.now (c.loop-n.n - first) c.loop-n.sessions c.loop-n.begun c.loop-n.invariant c.loop-n.n c.in-Some.circuit.now here c.in-Some.ensures.found (c.loop-n.begun + 1))
+    (shares_circuit c.args.now c.args.number c.args.circuits.now (c.loop-n.n - first) c.loop-n.sessions c.loop-n.begun c.loop-n.invariant c.loop-n.n c.in-Some.circuit.now here c.in-Some.ensures.found (c.loop-n.begun + 1))
 
 pub put-requires-clause-address : goal.put-requires-clause-address
 put-requires-clause-address c =
     let first = c.args.number * 1024 + 1 in
     let low : c.args.number * 1024 + 1 ≤ c.loop-n.n = search rules in
-    let here = at c.args.number c.args.circuits.now first c.loop-n.n c.loop-n.sessions c.loop-n.begun c.loop-n.invariant refl low in
+    let here = at c.args.now c.args.number c.args.circuits.now first c.loop-n.n c.loop-n.sessions c.loop-n.begun c.loop-n.invariant refl low in
     subst (λ (x : Session). NoneShares address_of c.loop-n.sessions x) (sym c.provisioned.ensures)
-    (shares_address c.args.number c.args.circuits.now (c.loop-n.n - first) c.loop-n.sessions c.loop-n.begun c.loop-n.invariant c.loop-n.n c.in-Some.circuit.now here c.in-Some.ensures.found c.requires.addresses (c.loop-n.begun + 1))
+    (shares_address c.args.now c.args.number c.args.circuits.now (c.loop-n.n - first) c.loop-n.sessions c.loop-n.begun c.loop-n.invariant c.loop-n.n c.in-Some.circuit.now here c.in-Some.ensures.found c.requires.addresses (c.loop-n.begun + 1))
 
 pub put-requires-clause-term : goal.put-requires-clause-term
 put-requires-clause-term c =
     let first = c.args.number * 1024 + 1 in
     let low : c.args.number * 1024 + 1 ≤ c.loop-n.n = search rules in
-    let here = at c.args.number c.args.circuits.now first c.loop-n.n c.loop-n.sessions c.loop-n.begun c.loop-n.invariant refl low in
+    let here = at c.args.now c.args.number c.args.circuits.now first c.loop-n.n c.loop-n.sessions c.loop-n.begun c.loop-n.invariant refl low in
     subst (λ (x : Session). NoneShares term_of c.loop-n.sessions x) (sym c.provisioned.ensures)
-    (shares_term c.args.number c.args.circuits.now (c.loop-n.n - first) c.loop-n.sessions c.loop-n.begun c.loop-n.invariant c.loop-n.n c.in-Some.circuit.now here c.in-Some.ensures.found (c.loop-n.begun + 1))
+    (shares_term c.args.now c.args.number c.args.circuits.now (c.loop-n.n - first) c.loop-n.sessions c.loop-n.begun c.loop-n.invariant c.loop-n.n c.in-Some.circuit.now here c.in-Some.ensures.found (c.loop-n.begun + 1))
 
 pub loop-n-preserved : goal.loop-n-preserved
 loop-n-preserved c =
     let first = c.args.number * 1024 + 1 in
     let low : c.args.number * 1024 + 1 ≤ c.loop-n.n = search rules in
     elim c.match-circuit_with.branch [
-      | in-Some w ↦ opens_put c.args.number c.args.circuits.now first c.loop-n.n c.loop-n.sessions c.loop-n.begun c.loop-n.invariant refl low w.in-Some.circuit.now w.in-Some.ensures.found c.match-circuit_with.sessions c.match-circuit_with.begun w.begun-is
+      | in-Some w ↦ opens_put c.args.now c.args.number c.args.circuits.now first c.loop-n.n c.loop-n.sessions c.loop-n.begun c.loop-n.invariant refl low w.in-Some.circuit.now w.in-Some.ensures.found c.match-circuit_with.sessions c.match-circuit_with.begun w.begun-is
           (w.sessions-is ∙ w.put.ensures ∙ ap (with_value c.loop-n.sessions c.loop-n.n) w.provisioned.ensures)
-      | in_default-circuit_with w ↦ opens_pass c.args.number c.args.circuits.now first c.loop-n.n c.loop-n.sessions c.loop-n.begun c.loop-n.invariant refl low w.in_default-circuit_with.ensures.none c.match-circuit_with.sessions c.match-circuit_with.begun w.begun-is w.sessions-is
+      | in_default-circuit_with w ↦ opens_pass c.args.now c.args.number c.args.circuits.now first c.loop-n.n c.loop-n.sessions c.loop-n.begun c.loop-n.invariant refl low w.in_default-circuit_with.ensures.none c.match-circuit_with.sessions c.match-circuit_with.begun w.begun-is w.sessions-is
     ]
 
 pub invariant_of-result : goal.invariant_of-result
 invariant_of-result c =
     let past = c.loop-n-test.false in
     let all : c.loop-n.n - (c.args.number * 1024 + 1) ≡ 1022 = search rules in
-    let opens = subst (λ (k : ℕ). Opens c.args.number c.args.circuits.now k c.loop-n.sessions c.loop-n.begun) all c.loop-n.invariant in
+    let opens = subst (λ (k : ℕ). Opens c.args.now c.args.number c.args.circuits.now k c.loop-n.sessions c.loop-n.begun) all c.loop-n.invariant in
     let none = c.in_ok-leaving.ensures.items in
     let room = c.in_ok-leaving.ensures.capacity in
     let none_ask = c.in_ok-asking.ensures.items in
@@ -80,18 +80,18 @@ invariant_of-result c =
     let young_room = c.in_ok-young.ensures.capacity in
     let zeros : c.in_ok-passed.passed.items ≡ none_passed = c.in_ok-passed.ensures.items_if_clones_equal (λ y same. same) ∙ ap (λ (n : ℕ). replicate n 0) c.from.ensures in
     record {
-      own = opened_own c.args.number c.args.circuits.now c.loop-n.sessions c.loop-n.begun opens;
-      of_shard = opened_of_shard c.args.number c.args.circuits.now c.loop-n.sessions c.loop-n.begun opens;
-      apart = opened_apart c.args.number c.args.circuits.now c.loop-n.sessions c.loop-n.begun opens c.requires.addresses;
-      leased = opened_leased c.args.number c.args.circuits.now c.loop-n.sessions c.loop-n.begun opens;
-      leaving = subst (λ (ns : List SessionNo). AreLeaving c.loop-n.sessions ns) (sym none) (opened_listed c.args.number c.args.circuits.now c.loop-n.sessions c.loop-n.begun opens leaves (λ k serial. refl));
-      counted = opened_none c.args.number c.args.circuits.now c.loop-n.sessions c.loop-n.begun opens leaves (λ k serial. refl) ∙ sym (ap (λ (ns : List SessionNo). length ns) none);
+      own = opened_own c.args.now c.args.number c.args.circuits.now c.loop-n.sessions c.loop-n.begun opens;
+      of_shard = opened_of_shard c.args.now c.args.number c.args.circuits.now c.loop-n.sessions c.loop-n.begun opens;
+      apart = opened_apart c.args.now c.args.number c.args.circuits.now c.loop-n.sessions c.loop-n.begun opens c.requires.addresses;
+      leased = opened_leased c.args.now c.args.number c.args.circuits.now c.loop-n.sessions c.loop-n.begun opens;
+      leaving = subst (λ (ns : List SessionNo). AreLeaving c.loop-n.sessions ns) (sym none) (opened_listed c.args.now c.args.number c.args.circuits.now c.loop-n.sessions c.loop-n.begun opens leaves (λ k serial. refl));
+      counted = opened_none c.args.now c.args.number c.args.circuits.now c.loop-n.sessions c.loop-n.begun opens leaves (λ k serial. refl) ∙ sym (ap (λ (ns : List SessionNo). length ns) none);
       room = omega (arith, room);
-      asking = subst (λ (ns : List SessionNo). AreAsking c.loop-n.sessions ns) (sym none_ask) (opened_listed c.args.number c.args.circuits.now c.loop-n.sessions c.loop-n.begun opens asks (λ k serial. refl));
-      asking_counted = opened_none c.args.number c.args.circuits.now c.loop-n.sessions c.loop-n.begun opens asks (λ k serial. refl) ∙ sym (ap (λ (ns : List SessionNo). length ns) none_ask);
+      asking = subst (λ (ns : List SessionNo). AreAsking c.loop-n.sessions ns) (sym none_ask) (opened_listed c.args.now c.args.number c.args.circuits.now c.loop-n.sessions c.loop-n.begun opens asks (λ k serial. refl));
+      asking_counted = opened_none c.args.now c.args.number c.args.circuits.now c.loop-n.sessions c.loop-n.begun opens asks (λ k serial. refl) ∙ sym (ap (λ (ns : List SessionNo). length ns) none_ask);
       asking_room = omega (arith, asking_room);
-      young = subst (λ (ns : List SessionNo). AreYoung c.loop-n.sessions ns) (sym none_young) (opened_listed c.args.number c.args.circuits.now c.loop-n.sessions c.loop-n.begun opens is_young (λ k serial. refl));
-      young_counted = opened_none c.args.number c.args.circuits.now c.loop-n.sessions c.loop-n.begun opens is_young (λ k serial. refl) ∙ sym (ap (λ (ns : List SessionNo). length ns) none_young);
+      young = subst (λ (ns : List SessionNo). AreYoung c.loop-n.sessions ns) (sym none_young) (opened_listed c.args.now c.args.number c.args.circuits.now c.loop-n.sessions c.loop-n.begun opens is_young (λ k serial. refl));
+      young_counted = opened_none c.args.now c.args.number c.args.circuits.now c.loop-n.sessions c.loop-n.begun opens is_young (λ k serial. refl) ∙ sym (ap (λ (ns : List SessionNo). length ns) none_young);
       young_room = omega (arith, young_room);
       passed = ap (λ (moments : List ℕ). length moments) zeros ∙ length-replicate {A = ℕ} 1024 0;
       passed_low = subst (All (λ moment. moment < 2 ^ 60)) (sym zeros) (All-replicate (λ moment. moment < 2 ^ 60) 1024 0 (omega arith));
@@ -101,7 +101,7 @@ invariant_of-result c =
 pub returns : goal.returns
 returns c =
     let all : c.loop-n.n - (c.args.number * 1024 + 1) ≡ 1022 = search rules in
-    let opens = subst (λ (k : ℕ). Opens c.args.number c.args.circuits.now k c.loop-n.sessions c.loop-n.begun) all c.loop-n.invariant in
+    let opens = subst (λ (k : ℕ). Opens c.args.now c.args.number c.args.circuits.now k c.loop-n.sessions c.loop-n.begun) all c.loop-n.invariant in
     let zeros : c.in_ok-passed.passed.items ≡ none_passed = c.in_ok-passed.ensures.items_if_clones_equal (λ y same. same) ∙ ap (λ (n : ℕ). replicate n 0) c.from.ensures in
-    let opened = opened_is c.args.number c.args.circuits.now c.loop-n.sessions c.loop-n.begun opens c.args.profiles.now c.args.now c.requires.own in
+    let opened = opened_is c.args.now c.args.number c.args.circuits.now c.loop-n.sessions c.loop-n.begun opens c.args.profiles.now c.requires.own in
     record { opened = λ i. record { sessions = (opened i).sessions; begun = (opened i).begun; asked = (opened i).asked; terms = []; news = (opened i).news; passed = zeros i; meters = c.in_ok-meters.ensures i; tunnels = c.in_ok-tunnels.ensures i } }

@@ -29,4 +29,5 @@ invariant_of-self c =
       journal_room = was.journal_room;
       outs_room = was.outs_room;
       terms_room = omega (arith, was.terms_room, ap (λ (v : TermsView). v.room) c.settle.ensures.others);
+      changed_room = was.changed_room;
     }

@@ -23,4 +23,5 @@ invariant_of-self c =
       journal_room = omega (arith, ap (λ (b : Batch Entry). length b.items) c.replace-journal.ensures.after, ap length c.new.ensures);
       outs_room = λ some. absurd (omega (arith, some));
       terms_room = omega arith;
+      changed_room = omega (arith, was.changed_room);
     }

@@ -30,6 +30,7 @@ invariant_of-self-2 c =
       journal_room = was.journal_room;
       outs_room = was.outs_room;
       terms_room = omega (arith, was.terms_room, ap (λ (v : TermsView). v.room) one.1);
+      changed_room = was.changed_room;
     }
 
 pub returns-clause-some : goal.returns-clause-some
@@ -40,6 +41,6 @@ returns-clause-some c =
     rw (← c.self.view_is) (
       tenure_in c.in_ok-row.row,
       c.shown.ensures.says,
-      tells_so a.rules a.served a.profiles.books a.allowance a.journal.items a.outs.items a.terms t c.in_ok-row.row one.0 one.1,
-      told_shown a.rules a.served a.profiles.books a.allowance a.journal.items a.outs.items a.terms t a.room one.1,
+      tells_so a.rules a.served a.changed.items a.profiles.books a.allowance a.journal.items a.outs.items a.terms t c.in_ok-row.row one.0 one.1,
+      told_shown a.rules a.served a.changed.items a.profiles.books a.allowance a.journal.items a.outs.items a.terms t a.room one.1,
     )

@@ -1,4 +1,4 @@
-use Rattle.std.proofs.Common.{List, ap, sym, ◌∙◌}
+use Rattle.std.proofs.Common.{List, ap, refl, sym, ◌∙◌}
 use Rattle.std.specs.Prelude.{drop, slice_get}
 use Rattle.bng_base.specs.declared.item.Entry.{Entry}
 use Rattle.bng_engine.specs.Views.{Row, ShardView}
@@ -6,20 +6,19 @@ use Rattle.bng_slots.specs.Sessions.{value_at}
 use Rattle.bng_shard.specs.Interims.{Reports, owed, reported_at, row_in, row_told}
 use Rattle.bng_shard.specs.Protocol.{ShardState}
 use Rattle.bng_shard.specs.Running.{rows_in}
-use Rattle.bng_shard.proofs.Owing.{first_owing, first_part, none_owing, not_come, once_due}
+use Rattle.bng_shard.proofs.Owing.{first_owing, first_part, none_owing}
 use Rattle.bng_shard.proofs.shard.Shard.interim.Goals as goal
 
-pub returns-then-not-may_be_due-clause-first : goal.returns-then-not-may_be_due-clause-first
-returns-then-not-may_be_due-clause-first c =
-    let v = c.args.self.now in
-    let none = none_owing v.rows v.state.slots.sessions c.args.reports.now.last c.args.now (λ n x is. once_due c.args.reports.now.next c.args.now _ (not_come c.args.reports.now.next c.args.now c.if-not-may_be_due.ensures) (c.requires.awaits n x is)) in
-    sym (ap (λ (rs : List Row). slice_get rs 0) none)
+pub returns-then-not-may_report-clause-first : goal.returns-then-not-may_report-clause-first
+returns-then-not-may_report-clause-first c = sym (ap (λ (rs : List Row). slice_get rs 0) (c.if-not-may_report.ensures.none refl))
 
-pub returns-then-not-may_be_due-clause-rest : goal.returns-then-not-may_be_due-clause-rest
-returns-then-not-may_be_due-clause-rest c =
-    let v = c.args.self.now in
-    let none = none_owing v.rows v.state.slots.sessions c.args.reports.now.last c.args.now (λ n x is. once_due c.args.reports.now.next c.args.now _ (not_come c.args.reports.now.next c.args.now c.if-not-may_be_due.ensures) (c.requires.awaits n x is)) in
+pub returns-then-not-may_report-clause-rest : goal.returns-then-not-may_report-clause-rest
+returns-then-not-may_report-clause-rest c =
+    let none = c.if-not-may_report.ensures.none refl in
     none ∙ sym (ap (drop 1) none)
+
+pub returns-then-not-may_report-clause-all : goal.returns-then-not-may_report-clause-all
+returns-then-not-may_report-clause-all c = c.if-not-may_report.ensures.awaits refl
 
 pub returns-in-Owes-clause-first : goal.returns-in-Owes-clause-first
 returns-in-Owes-clause-first c =

@@ -7,5 +7,8 @@ returns-then-not-reserve_amply-clause-fit c = keys_of_rows c.self.inside.terms.r
 pub returns-then-not-reserve-clause-fit : goal.returns-then-not-reserve-clause-fit
 returns-then-not-reserve-clause-fit c = keys_of_rows c.reserve.new.self.rows
 
+pub returns-then-is_err-clause-fit : goal.returns-then-is_err-clause-fit
+returns-then-is_err-clause-fit c = keys_of_rows c.reserve.new.self.rows
+
 pub returns-clause-fit : goal.returns-clause-fit
 returns-clause-fit c = keys_of_rows c.reserve.new.self.rows

@@ -41,6 +41,7 @@ invariant_of-self c =
       journal_room = omega (arith, was.journal_room);
       outs_room = λ some. absurd (omega (arith, some));
       terms_room = omega arith;
+      changed_room = omega (arith, was.changed_room);
     }
 
 pub returns-in_default-clause-none : goal.returns-in_default-clause-none
@@ -50,7 +51,7 @@ returns-in_default-clause-none c =
     rw (← c.self.view_is) (
       none_over a.terms.rows none.0,
       refl,
-      reaped_shown a.rules a.served a.profiles.books a.allowance a.journal.items a.outs.items a.terms c.take_first_over.new.self c.settle.new.self a.room none.0 none.1 c.settle.ensures,
+      reaped_shown a.rules a.served a.changed.items a.profiles.books a.allowance a.journal.items a.outs.items a.terms c.take_first_over.new.self c.settle.new.self a.room none.0 none.1 c.settle.ensures,
     )
 
 pub give_back-requires : goal.give_back-requires
@@ -83,6 +84,7 @@ invariant_of-self-2 c =
       journal_room = omega (arith, was.journal_room);
       outs_room = λ some. absurd (omega (arith, some));
       terms_room = omega arith;
+      changed_room = omega (arith, was.changed_room);
     }
 
 pub returns-clause-one : goal.returns-clause-one
@@ -90,7 +92,7 @@ returns-clause-one c =
     let a = c.self.inside in
     let one = c.in-Some.ensures.one in
     rw (← c.self.view_is) (
-    ended_so a.rules a.served a.profiles.books a.allowance a.journal.items a.outs.items a.terms c.take_first_over.new.self a.room c.in-Some.row c.stop_from.result one.0 one.1 c.stop_from.ensures.one
+    ended_so a.rules a.served a.changed.items a.profiles.books a.allowance a.journal.items a.outs.items a.terms c.take_first_over.new.self a.room c.in-Some.row c.stop_from.result one.0 one.1 c.stop_from.ensures.one
     c.args.pool.now.table c.give_back.new.self.table c.give_back.ensures.table
     )
 

@@ -1,4 +1,5 @@
 use Rattle.std.proofs.Common.{◌≡◌, ◌≤◌, ◌<◌, ◌-◌, ◌^◌, ◌==◌, ◌∷◌, [], ℕ, ap, sym, subst, refl, ◌∙◌, arith, length, length-append, true, false, List}
+use Rattle.std.specs.Prelude.{option_to_list}
 use Rattle.std.proofs.lemmas.Bool.Decides.{nat_tests}
 use Rattle.bng_base.specs.Batches.{Batch}
 use Rattle.bng_base.specs.declared.item.Claim.{Claim}
@@ -14,7 +15,7 @@ use Rattle.bng_shard.specs.Sums.{AreLow, Rises}
 use Rattle.bng_shard.specs.Wished.{IsAnswered}
 use Rattle.bng_shard.proofs.AskedPool.{claimed_within, wished_may}
 use Rattle.bng_shard.proofs.KeyLaws.{are_tied, fit_rows, keys_of_rows, news_numbered, rows_apart, rows_free, rows_numbered}
-use Rattle.bng_shard.proofs.Stepping.{begun_more, claimed_free, fit_after, handles, held_after, moved_begun, moved_held, moved_holds, moved_placed, owed_more, slice_after, view}
+use Rattle.bng_shard.proofs.Stepping.{begun_more, claimed_free, few_answers, fit_after, handles, held_after, moved_begun, moved_held, moved_holds, moved_placed, owed_more, slice_after, view}
 use Rattle.bng_shard.proofs.shard.Shard.step.Goals as goal
 
 -- a test that failed says that there are some
@@ -56,6 +57,12 @@ hear-fate-requires-clause-begins c x is =
       tied = was.tied;
     }
 
+pub hear-fate-requires-clause-answers_room : goal.hear-fate-requires-clause-answers_room
+hear-fate-requires-clause-answers_room c =
+    let was = c.self.invariant in
+    let room = ap (λ (v : ShardView ShardState Entry). v.room) c.self.view_is in
+    omega (arith, was.changed_room, room, c.requires.room)
+
 pub left_after-self-inside-requires : goal.left_after-self-inside-requires
 left_after-self-inside-requires c =
     let a = c.self.inside in
@@ -89,6 +96,7 @@ invariant_of-self c =
     let own = c.shard.ensures.numbers in
     let ties = moved_holds a.rules s s' outs outs' e limited fate does own (are_tied a.served a.terms own c.are_rising.ensures was.numbered was.tied) in
     let begun = moved_begun a.rules s s' outs outs' e limited fate does in
+    let (answer, is_answer, pushed) = c.hear-fate.ensures.answered does.deed.entry (ap (λ (x : Entry). x.item) does.entry) in
     let left = c.left_after-self-inside.ensures in
     record {
       numbered = rows_numbered c.hear-fate.new.served c.hear-fate.new.terms keys;
@@ -107,6 +115,7 @@ invariant_of-self c =
       journal_room = omega (arith, was.journal_room, ap length items, length-append a.journal.items (e ∷ []), room, c.requires.room, ap (λ (b : Batch Entry). b.room) c.push_entry.ensures);
       outs_room = λ some. omega (arith, was.outs_room (omega (arith, some)), ap length does.outs_are, length-append outs does.deed.outs, does.few, ap owed items, spent, c.hear-fate.ensures.capacity);
       terms_room = omega (arith, was.terms_room, c.hear-fate.ensures.sums.room);
+      changed_room = omega (arith, was.changed_room, ap length pushed, length-append a.changed.items (option_to_list answer), few_answers answer, c.hear-fate.ensures.answers_capacity, room, c.requires.room);
     }
 
 pub returns : goal.returns
@@ -129,7 +138,8 @@ returns c =
     let rows = rows_in a.terms.rows in
     let rows' = rows_in c.hear-fate.new.terms.rows in
     let short : length e.item.frame.payload ≤ 4096 = omega (arith, c.requires.whole, c.payload.ensures.fits) in
-    let next : ShardView ShardState Entry = view a.rules s' rows' c.book.new.profiles.books a.allowance c.push_entry.new.self.items outs' (a.room - 1) in
+    let (answer, is_answer, pushed) = c.hear-fate.ensures.answered does.deed.entry (ap (λ (x : Entry). x.item) does.entry) in
+    let next : ShardView ShardState Entry = view a.rules s' c.hear-fate.new.answers.items rows' c.book.new.profiles.books a.allowance c.push_entry.new.self.items outs' (a.room - 1) in
     let sends = slice_after outs does.deed.outs c.as_slice.result.now _ (ap length c.as_slice-before.ensures) (c.as_slice.ensures ∙ does.outs_are) in
     let booked = subst (λ (os : List OutRecord). BooksRise a.profiles.books os c.book.new.profiles.books) sends c.book.ensures.rises in
     let tallied = subst (λ (os : List OutRecord). Rises c.args.ledger.now os c.tally.new.tally) sends c.tally.ensures in
@@ -137,5 +147,5 @@ returns c =
     let answers = subst (λ (n : ℕ). AnswersClaim n claim pool pool') c.shard.ensures.number c.ask-claim.ensures.table in
     let holds = held_after a.rules s s' outs outs' e limited fate does s.sessions.shard pool pool' answers held in
     subst (λ (v : ShardView ShardState Entry). Handles v next pool pool' e0 fate c.args.ledger.now c.tally.new.tally) c.self.view_is
-    (handles a.rules s s' outs outs' e limited fate does rows rows' a.profiles.books c.book.new.profiles.books a.allowance a.left a.room a.journal.items c.push_entry.new.self.items (was.left (omega (arith, room, c.requires.room))) refl (keys_of_rows c.hear-fate.new.terms.rows) c.hear-fate.ensures.sums.sums
+    (handles a.rules s s' outs outs' e limited fate does a.changed.items c.hear-fate.new.answers.items answer is_answer pushed rows rows' a.profiles.books c.book.new.profiles.books a.allowance a.left a.room a.journal.items c.push_entry.new.self.items (was.left (omega (arith, room, c.requires.room))) refl (keys_of_rows c.hear-fate.new.terms.rows) c.hear-fate.ensures.sums.sums
     e0 claim refl pool pool' answers (moved_held a.rules s s' outs outs' e limited fate does pool' holds) c.args.ledger.now c.tally.new.tally (ap (λ (b : Batch Entry). b.items) c.push_entry.ensures) short booked tallied does.few)

@@ -1,0 +1,244 @@
+-- Which datagram each reply to a request for a change answers.
+use Rattle.std.proofs.Common.{◌≡◌, ℕ, zero, suc, ◌+◌, ◌<◌, Bool, true, false, cond, ltb, List, [], ◌∷◌, length, take, Option, Some, None, slice_get, refl, sym, ap, subst, ◌∙◌, arith}
+use Rattle.std.specs.Prelude.{filter, find, position, slice_set}
+use Rattle.std.specs.List.{AllByRecursion, IsDistinct}
+use Rattle.std.proofs.lemmas.Bool.{ltb-true, ltb-false}
+use Rattle.std.proofs.lemmas.Bool.Decides.{Decides-eqb}
+use Rattle.std.proofs.lemmas.Option.{same_Some, none-some}
+use Rattle.bng_base.specs.declared.address.Peer.{Peer}
+use Rattle.bng_base.specs.Chain.{Chain}
+use Rattle.bng_coa.specs.declared.request.Request.{Request}
+use Rattle.bng_coa.specs.declared.request.Stage.{Stage}
+use Rattle.bng_coa.specs.declared.request.Stage.TheVariants.{InHand, Answered}
+use Rattle.bng_coa.specs.declared.rules.Admitted.{Admitted}
+use Rattle.bng_coa.specs.declared.rules.Admitted.TheVariants.{New, Repeat, InHand as StillInHand, Ignored}
+use Rattle.bng_coa.specs.Admission.{Keeps}
+use Rattle.bng_coa.specs.Replies.{reply_octets}
+use Rattle.bng_coa.specs.Requests.{is_answered, is_held, is_numbered, is_numbered_at, key_of, with_room, without}
+use Rattle.bng_coa.specs.Runs.{Takes, Settles, share_number, shares_at}
+use Rattle.bng_coa.specs.State.{State as CoaState}
+use Rattle.bng_coa.proofs.Each.{at, appended, filtered, removed}
+use Rattle.bng_coa.proofs.Standing.{IsApart, none_apart, run_apart}
+use Rattle.bng_radius_wire.specs.Grammar.{IsRadius, length_in}
+use Rattle.bng_desk.specs.Coa.{CoaSend, GivesTo, Given, Requested}
+use Rattle.bng_gate.specs.Changed.{CoaCall, DoesCoa, IsReplyTo, Replied, Taken}
+use Rattle.bng_gate.proofs.Places.{link_at}
+
+-- Numbers -------------------------------------------------------------------------------------------------------------------------
+
+pub not_true : (b : Bool) → (b ≡ true → ⊥) → b ≡ false
+not_true true never = absurd (never refl)
+not_true false never = refl
+
+pub clash : (b : Bool) → b ≡ true → b ≡ false → ⊥
+clash b is not_so = let e : true ≡ false = sym is ∙ not_so in cc
+
+-- two in hand under one number share it
+pub shares_both : (n : ℕ) (a b : Stage) → is_numbered_at n a ≡ true → is_numbered_at n b ≡ true → shares_at a b ≡ true
+shares_both n a (InHand m packet) here there = let e : m ≡ n = (Decides-eqb m n).0 there in ap (λ (i : ℕ). is_numbered_at i a) e ∙ here
+shares_both n a (Answered reply) here there = absurd (let no : false ≡ true = there in cc)
+
+one_first : (n : ℕ) (x : Request) (rs : List Request) (q r : Request) → is_numbered n r ≡ true → AllByRecursion (λ y. share_number x y ≡ false) rs
+    → ((j : ℕ) → find (is_numbered n) rs ≡ Some q → slice_get rs j ≡ Some r → q ≡ r)
+    → (b : Bool) (j : ℕ) → is_numbered n x ≡ b → cond b (Some x) (find (is_numbered n) rs) ≡ Some q → slice_get (x ∷ rs) j ≡ Some r → q ≡ r
+one_first n x rs q r is apart rest true zero e found there = sym (same_Some x q found) ∙ same_Some x r there
+one_first n x rs q r is apart rest true (suc j) e found there =
+    absurd (clash (share_number x r) (shares_both n x.stage r.stage e is) (at (λ (y : Request). share_number x y ≡ false) rs j r there apart))
+one_first n x rs q r is apart rest false zero e found there = absurd (clash (is_numbered n x) (ap (is_numbered n) (same_Some x r there) ∙ is) e)
+one_first n x rs q r is apart rest false (suc j) e found there = rest j found there
+
+-- of requests that are apart one alone is in hand under a number
+one_found : (n : ℕ) (rs : List Request) (i : ℕ) (q r : Request) → IsDistinct share_number rs → find (is_numbered n) rs ≡ Some q → slice_get rs i ≡ Some r → is_numbered n r ≡ true → q ≡ r
+unfolding IsDistinct
+one_found n [] i q r d found there is = absurd (none-some r there)
+one_found n (x ∷ rs) i q r d found there is = one_first n x rs q r is d.0 (λ j f t. one_found n rs j q r d.1 f t is) (is_numbered n x) i refl found there
+
+module _ (P Q : Request → Type 0) (n : ℕ) (weaker : (r : Request) → is_numbered n r ≡ false → P r → Q r) where
+  rest_weaker : (x : Request) (rs : List Request) → is_numbered n x ≡ true → AllByRecursion (λ y. share_number x y ≡ false) rs → AllByRecursion P rs → AllByRecursion Q rs
+  rest_weaker x [] is apart all = tt
+  rest_weaker x (r ∷ rs) is apart all =
+      (weaker r (not_true (is_numbered n r) (λ there. clash (share_number x r) (shares_both n x.stage r.stage is there) apart.0)) all.0, rest_weaker x rs is apart.1 all.1)
+
+  -- all others are in hand under other numbers
+  settled_all : (rs : List Request) (i : ℕ) (x y : Request) → slice_get rs i ≡ Some x → is_numbered n x ≡ true → IsDistinct share_number rs → AllByRecursion P rs → Q y → AllByRecursion Q (slice_set rs i y)
+  unfolding IsDistinct
+  settled_all [] i x y there is d all here = absurd (none-some x there)
+  settled_all (z ∷ rs) zero x y there is d all here =
+      (here, rest_weaker z rs (ap (is_numbered n) (same_Some z x there) ∙ is) d.0 all.1)
+  settled_all (z ∷ rs) (suc i) x y there is d all here = (
+    weaker z (not_true (is_numbered n z) (λ first. clash (share_number z x) (shares_both n z.stage x.stage first is) (at (λ (w : Request). share_number z w ≡ false) rs i x there d.0))) all.0,
+    settled_all rs i x y there is d.1 all.1 here,
+  )
+
+all_without : (P : Request → Type 0) (o : Option ℕ) (rs : List Request) → AllByRecursion P rs → AllByRecursion P (without o rs)
+all_without P None rs all = all
+all_without P (Some i) rs all = removed P rs i all
+
+all_room : (P : Request → Type 0) (b : Bool) (rs : List Request) → AllByRecursion P rs → AllByRecursion P (cond b rs (without (position is_answered rs) rs))
+all_room P true rs all = all
+all_room P false rs all = all_without P (position is_answered rs) rs all
+
+all_weaker : (P Q : Request → Type 0) → ((r : Request) → P r → Q r) → (rs : List Request) → AllByRecursion P rs → AllByRecursion Q rs
+all_weaker P Q weaker [] all = tt
+all_weaker P Q weaker (r ∷ rs) all = (weaker r all.0, all_weaker P Q weaker rs all.1)
+
+-- Where a request in hand came from ---------------------------------------------------------------------------------------------------
+
+module _ (secret : List ℕ) (calls : List CoaCall) where
+  -- Before the call of this place a datagram of this sender, with these octets in front, was taken as a new request under this number, and
+  -- since then no reply was given under it.
+  record Source (k n : ℕ) (from : Peer) (packet : List ℕ) : Type 0 where
+    place : ℕ
+    earlier : place < k
+    moment : ℕ
+    wall : ℕ
+    asked : Requested
+    taken : slice_get calls place ≡ Some (Taken moment wall asked)
+    new : asked.admitted ≡ New n
+    sender : from ≡ asked.arrival.from
+    octets : packet ≡ take (length_in asked.arrival.octets) asked.arrival.octets
+    first : (j : ℕ) (g : Given) (s : CoaSend) → place < j → j < k → slice_get calls j ≡ Some (Replied g) → g.send ≡ Some s → g.answer.ask ≡ n → ⊥
+
+  abbrev SourceAt : ℕ → Peer → Stage → Type 0
+  SourceAt k from (InHand n packet) = Source k n from packet
+  SourceAt k from (Answered reply) = Unit {0}
+
+  abbrev HasSource : ℕ → Request → Type 0
+  HasSource k r = SourceAt k r.key.from r.stage
+
+  -- how the requests stand before the call of a place
+  record Stands (k : ℕ) (c : CoaState) : Type 0 where
+    by : c.secret ≡ secret
+    apart : IsApart c.requests
+    sources : AllByRecursion (HasSource k) c.requests
+
+  -- the call of a place gives no reply under this number
+  abbrev IsNone : (k n : ℕ) → Type 0
+  IsNone k n = (g : Given) (s : CoaSend) → slice_get calls k ≡ Some (Replied g) → g.send ≡ Some s → g.answer.ask ≡ n → ⊥
+
+  before_or : (k n x : ℕ) → IsNone k n → ((j : ℕ) (g : Given) (s : CoaSend) → x < j → j < k → slice_get calls j ≡ Some (Replied g) → g.send ≡ Some s → g.answer.ask ≡ n → ⊥)
+      → (j : ℕ) (g : Given) (s : CoaSend) (b : Bool) → ltb j k ≡ b → x < j → j < k + 1 → slice_get calls j ≡ Some (Replied g) → g.send ≡ Some s → g.answer.ask ≡ n → ⊥
+  before_or k n x none old j g s true e after before there sends is = old j g s after (ltb-true j k e) there sends is
+  before_or k n x none old j g s false e after before there sends is =
+      let here : j ≡ k = omega (arith, before, ltb-false j k e) in
+      none g s (subst (λ (i : ℕ). slice_get calls i ≡ Some (Replied g)) here there) sends is
+
+  later : (k n : ℕ) (from : Peer) (packet : List ℕ) → IsNone k n → Source k n from packet → Source (k + 1) n from packet
+  later k n from packet none h = record {
+    place = h.place;
+    earlier = omega (arith, h.earlier);
+    moment = h.moment;
+    wall = h.wall;
+    asked = h.asked;
+    taken = h.taken;
+    new = h.new;
+    sender = h.sender;
+    octets = h.octets;
+    first = λ j g s after before there sends is. before_or k n h.place none h.first j g s (ltb j k) refl after before there sends is;
+  }
+
+  later_at : (k : ℕ) (from : Peer) (s : Stage) → ((n : ℕ) → is_numbered_at n s ≡ true → IsNone k n) → SourceAt k from s → SourceAt (k + 1) from s
+  later_at k from (InHand n packet) none h = later k n from packet (none n ((Decides-eqb n n).1 refl)) h
+  later_at k from (Answered reply) none h = tt
+
+  -- where the call gives no reply, all stand as before
+  all_later : (k : ℕ) → ((n : ℕ) → IsNone k n) → (rs : List Request) → AllByRecursion (HasSource k) rs → AllByRecursion (HasSource (k + 1)) rs
+  all_later k none rs all = all_weaker (HasSource k) (HasSource (k + 1)) (λ r h. later_at k r.key.from r.stage (λ n is. none n) h) rs all
+
+  as_before : (k : ℕ) (c c' : CoaState) → ((n : ℕ) → IsNone k n) → c' ≡ c → Stands k c → Stands (k + 1) c'
+  as_before k c c' none same stands =
+      subst (Stands (k + 1)) (sym same) (record { by = stands.by; apart = stands.apart; sources = all_later k none c.requests stands.sources })
+
+  none_taken : (k moment wall : ℕ) (q : Requested) → slice_get calls k ≡ Some (Taken moment wall q) → (n : ℕ) → IsNone k n
+  none_taken k moment wall q there n g s other sends is = let e : Taken moment wall q ≡ Replied g = same_Some (Taken moment wall q) (Replied g) (sym there ∙ other) in cc
+
+  same_given : (k : ℕ) (g h : Given) → slice_get calls k ≡ Some (Replied g) → slice_get calls k ≡ Some (Replied h) → g ≡ h
+  same_given k g h there other = let e : Replied g ≡ Replied h = same_Some (Replied g) (Replied h) (sym there ∙ other) in cc
+
+  takes : (k moment wall : ℕ) (q : Requested) (a : Admitted) (c c' : CoaState) → slice_get calls k ≡ Some (Taken moment wall q) → q.admitted ≡ a → Keeps c c' q.arrival.from q.arrival.octets moment a → Stands k c → Stands (k + 1) c'
+  takes k moment wall q (New number) c c' there is h stands =
+      let none : (n : ℕ) → IsNone k n = none_taken k moment wall q there in
+      let key = key_of q.arrival.from h.packet in
+      let packet = take (length_in q.arrival.octets) q.arrival.octets in
+      let r : Request = record { key = key; admitted_at = moment; stage = InHand number packet } in
+      let held = filter (is_held moment) c.requests in
+      let new : Source (k + 1) number q.arrival.from packet = record {
+        place = k;
+        earlier = omega arith;
+        moment = moment;
+        wall = wall;
+        asked = q;
+        taken = there;
+        new = is;
+        sender = refl;
+        octets = refl;
+        first = λ j g s after before at sends is. omega (arith, after, before);
+      } in
+      let old : AllByRecursion (HasSource (k + 1)) (with_room held) =
+      all_room (HasSource (k + 1)) (ltb (length held) 256) held (filtered (HasSource (k + 1)) (is_held moment) c.requests (all_later k none c.requests stands.sources)) in
+      record {
+        by = h.secret ∙ stands.by;
+        apart = run_apart (Takes key packet moment number ∷ []) c.requests c'.requests (c'.requests, h.taken, refl) stands.apart;
+        sources = subst (AllByRecursion (HasSource (k + 1))) (sym h.taken.list) (appended (HasSource (k + 1)) (with_room held) (r ∷ []) old (new, tt));
+      }
+  takes k moment wall q (Repeat frame) c c' there is h stands = as_before k c c' (none_taken k moment wall q there) h stands
+  takes k moment wall q StillInHand c c' there is h stands = as_before k c c' (none_taken k moment wall q there) h stands
+  takes k moment wall q (Ignored cause) c c' there is h stands = as_before k c c' (none_taken k moment wall q there) h stands
+
+  gives : (k : ℕ) (g : Given) (o : Option CoaSend) (c c' : CoaState) → slice_get calls k ≡ Some (Replied g) → g.send ≡ o → GivesTo c g.answer o c' → Stands k c → Stands (k + 1) c'
+  gives k g None c c' there is h stands =
+      let none : (n : ℕ) → IsNone k n = λ n x s at sends same.
+      let e : ◌≡◌ {A = Option CoaSend} None (Some s) = sym is ∙ ap (λ (y : Given). y.send) (same_given k g x there at) ∙ sends in none-some s e in
+      as_before k c c' none h.1 stands
+  gives k g (Some s) c c' there is (q, found, to, frame, answered, octets) stands =
+      let settled = answered.settled in
+      let x = settled.request in
+      let y : Request = record { key = x.key; admitted_at = x.admitted_at; stage = Answered frame.payload } in
+      record {
+        by = answered.secret ∙ stands.by;
+        apart = run_apart (Settles g.answer.ask frame.payload ∷ []) c.requests c'.requests (c'.requests, settled, refl) stands.apart;
+        sources = subst (AllByRecursion (HasSource (k + 1))) (sym settled.list)
+            (settled_all (HasSource k) (HasSource (k + 1)) g.answer.ask
+            (λ r other h. later_at k r.key.from r.stage
+            (λ n here x s at sends same.
+            let e : g.answer.ask ≡ n = ap (λ (z : Given). z.answer.ask) (same_given k g x there at) ∙ same in
+            clash (is_numbered g.answer.ask r) (subst (λ (m : ℕ). is_numbered_at m r.stage ≡ true) (sym e) here) other)
+            h)
+            c.requests settled.place x y settled.stands settled.numbered stands.apart.numbers stands.sources tt);
+      }
+
+  call_stands : (k : ℕ) (c c' : CoaState) (call : CoaCall) → slice_get calls k ≡ Some call → DoesCoa c call c' → Stands k c → Stands (k + 1) c'
+  call_stands k c c' (Taken moment wall q) there does stands = takes k moment wall q q.admitted c c' there refl does.keeps stands
+  call_stands k c c' (Replied g) there does stands = gives k g g.send c c' there refl does stands
+
+  -- the reply to a request in hand is that to the datagram that brought it
+  reply_at : (k : ℕ) (g : Given) (s : CoaSend) (c c' : CoaState) → GivesTo c g.answer (Some s) c' → Stands k c → IsReplyTo secret calls k g.answer s.reply
+  reply_at k g s c c' (q, found, to, frame, answered, octets) stands =
+      let settled = answered.settled in
+      let x = settled.request in
+      let replied = answered.replied in
+      let one : q ≡ x = one_found g.answer.ask c.requests settled.place q x stands.apart.numbers found settled.stands settled.numbered in
+      let number : replied.number ≡ g.answer.ask =
+      (Decides-eqb replied.number g.answer.ask).0 (ap (is_numbered_at g.answer.ask) (sym replied.in_hand) ∙ settled.numbered) in
+      let source : Source k replied.number x.key.from replied.octets =
+      subst (SourceAt k x.key.from) replied.in_hand (at (HasSource k) c.requests settled.place x settled.stands stands.sources) in
+      record {
+        place = source.place;
+        earlier = source.earlier;
+        moment = source.moment;
+        wall = source.wall;
+        asked = source.asked;
+        taken = source.taken;
+        new = source.new ∙ ap (λ (n : ℕ). New n) number;
+        packet = replied.packet;
+        reads = subst (IsRadius replied.packet) source.octets replied.reads;
+        octets = octets ∙ replied.payload ∙ ap (reply_octets replied.packet g.answer.verdict) stands.by;
+        to = to ∙ ap (λ (r : Request). r.key.from) one ∙ source.sender;
+        first = λ j h t after before there sends is. source.first j h t after before there sends (is ∙ sym number);
+      }
+
+  pub replies_answer : (c c' : CoaState) → c.secret ≡ secret → c.requests ≡ [] → Chain DoesCoa c calls c' → (k : ℕ) (g : Given) (s : CoaSend) → slice_get calls k ≡ Some (Replied g) → g.send ≡ Some s → IsReplyTo secret calls k g.answer s.reply
+  replies_answer c c' by none run k g s there sends =
+      let opened : Stands 0 c = record { by = by; apart = subst IsApart (sym none) none_apart; sources = subst (AllByRecursion (HasSource 0)) (sym none) tt } in
+      let link = link_at DoesCoa Stands calls (λ n d d' call at does stands. call_stands n d d' call at does stands) c c' run opened k (Replied g) there in
+      reply_at k g s link.before link.after (subst (λ (o : Option CoaSend). GivesTo link.before g.answer o link.after) sends link.is) link.holds
