@@ -58,8 +58,8 @@ def compare_session(checks, cable, start, stop, user, group):
     for name, value in wanted.items():
         checks.same(f"{name} of the Start and of the Stop", (start.says(name), stop.says(name)), (value, value))
     checks.same("Acct-Session-Id of the Stop is that of the Start", stop.says("Acct-Session-Id"), start.says("Acct-Session-Id"))
-    checks.same("Acct-Terminate-Cause of the Stop (1 is User-Request)", stop.says("Acct-Terminate-Cause"), "User-Request")
-    ends = [(False, pppoe.CHAP, pppoe.SUCCESS), (True, pppoe.LCP, pppoe.TERMINATE_REQUEST)]
+    checks.same("Acct-Terminate-Cause of the Stop", stop.says("Acct-Terminate-Cause"), cable.cause)
+    ends = [(False, pppoe.CHAP, pppoe.SUCCESS), (cable.hangs_up, pppoe.LCP, pppoe.TERMINATE_REQUEST)]
     if all(end in cable.moments for end in ends):
         since, until = (cable.moments[end] for end in ends)
         said = stop.number("Acct-Session-Time")

@@ -2,13 +2,13 @@
 
 import os
 
-from gateway import CAUSES, HOME, PROGRAM, Lab, bound_ports, totals, udp
+from gateway import HOME, PROGRAM, Lab, bound_ports, totals, udp, with_drops
 from records import acknowledge, hear_record
 
 EXAMPLE = os.path.join(HOME, "lab", "example.toml")
 TESTED = os.path.join(HOME, "crates", "bng_config_tests", "src", "config", "example.rt")
 
-PORTS = {"core": 9000, "control": 9002, "auth": 9003, "acct": 9004, "access": 9010, "second": 9020, "tunnel": 1701}
+PORTS = {"core": 9000, "control": 9002, "auth": 9003, "acct": 9004, "access": 9010, "second": 9020, "tunnel": 1701, "coa": 3799}
 SERVER = 1813
 
 
@@ -37,8 +37,7 @@ def is_served(checks):
         *sums, _ = totals()
         profiles = [f"profile {name} in=0 out=0" for name in ("basic", "unmetered")]
         circuits = [f"static 10.0.8.{number} in=0 out=0" for number in (1, 2)]
-        lines = [*sums, *profiles, *circuits, *(f"drop {cause} 0" for cause in CAUSES)]
-        checks.same("the example is served", lab.end(), (0, "".join(line + "\n" for line in lines), ""))
+        checks.same("the example is served", lab.end(), (0, with_drops([*sums, *profiles, *circuits], {}), ""))
 
 
 def reads_the_example(checks):

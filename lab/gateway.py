@@ -62,6 +62,14 @@ ip = "127.0.0.5"
 secret = "xyzzy"
 """
 
+# An end for CoA-Requests, and who may send them.
+CHANGES = """\
+[coa]
+local = "127.0.0.1:{coa}"
+peers = ["127.0.0.1"]
+secret = "change-secret"
+"""
+
 USAGE = "usage: bng serve CONFIG [--trace FILE] [--rounds N] | check CONFIG | exercise N [--workers W] | audit FILE"
 
 CAUSES = "Malformed NoSession NotOpen Expired Spoofed TooBig Exceeded LinkFailed WantOfMemory".split()
@@ -98,17 +106,27 @@ def delivery(payload):
     return frame(payload, port="020000000001", subscriber="0200000000fe")
 
 
-def totals(total=0, out=0):
-    """The first lines of the report after serving: by then each term has its Stop, and there is one worker and one profile."""
-    whole = f"in={total} out={out}"
-    return [f"stopped {whole}", "live in=0 out=0", f"total {whole}", f"worker 0 {whole}", f"profile default {whole}"]
+def totals(total=0, out=0, is_over=True):
+    """The first lines of the report after serving, where each term has its Stop, or before any has one. There is one worker
+    and one profile."""
+    whole, none = f"in={total} out={out}", "in=0 out=0"
+    stopped, live = (whole, none) if is_over else (none, whole)
+    return [f"stopped {stopped}", f"live {live}", f"total {whole}", f"worker 0 {whole}", f"profile default {whole}"]
+
+
+def with_drops(lines, drops):
+    """These lines, and those of what was dropped by cause."""
+    return "".join(line + "\n" for line in [*lines, *(f"drop {cause} {drops.get(cause, 0)}" for cause in CAUSES)])
 
 
 def report(total=0, out=0, **drops):
     """The report after serving: octets from the one subscriber and to it, and the packets dropped by cause."""
-    lines = [*totals(total, out), f"static 10.0.0.2 in={total} out={out}"]
-    lines += [f"drop {cause} {drops.get(cause, 0)}" for cause in CAUSES]
-    return "".join(line + "\n" for line in lines)
+    return with_drops([*totals(total, out), f"static 10.0.0.2 in={total} out={out}"], drops)
+
+
+def stats(total=0, out=0, **drops):
+    """What the word `stats` is answered while the one subscriber's term is live."""
+    return with_drops(totals(total, out, is_over=False), drops)
 
 
 def newest(*places):
@@ -157,7 +175,7 @@ class Lab:
     is a port of the loopback, it is that of another RADIUS server than ours, for authentication, and `keeper` is that of
     another one for accounting. Each record of accounting that comes to ours is acknowledged at once and kept in `records`,
     unless `acknowledges` says that nobody reads `accounting`. `last` is the last address of the pool, and `tables` stands
-    behind all that. With `tunnels` the gateway has an end for them."""
+    behind all that. With `tunnels` the gateway has an end for them, and with `changes` one for CoA-Requests."""
 
     def __init__(
         self,
@@ -170,15 +188,17 @@ class Lab:
         keeper=None,
         tables="",
         tunnels=False,
+        changes=False,
     ):
         self.keys, self.session, self.acknowledges, self.last, self.tables = keys, session, acknowledges, last, tables
-        self.radius_keys, self.server, self.keeper, self.tunnels = radius_keys, server, keeper, tunnels
+        self.radius_keys, self.server, self.keeper = radius_keys, server, keeper
+        self.tunnels, self.changes = tunnels, changes
         self.records = []
 
     def __enter__(self):
         self.folder = tempfile.mkdtemp(prefix="bng-lab-")
         self.access, self.core, self.control, self.radius, self.accounting, self.stranger = (udp() for _ in range(6))
-        roles = ["access", "core", "control", "auth", "acct"] + ["tunnel"] * self.tunnels
+        roles = ["access", "core", "control", "auth", "acct"] + ["tunnel"] * self.tunnels + ["coa"] * self.changes
         held = {name: udp() for name in roles}
         self.ports = {name: end.getsockname()[1] for name, end in held.items()}
         for end in held.values():
@@ -191,7 +211,7 @@ class Lab:
             self.clerk.start()
         self.configuration = self.write(
             "lab.toml",
-            (CONFIGURATION + TUNNELS * self.tunnels).format(
+            (CONFIGURATION + TUNNELS * self.tunnels + CHANGES * self.changes).format(
                 **self.ports,
                 core_peer=self.core.getsockname()[1],
                 access_peer=self.access.getsockname()[1],
@@ -281,10 +301,14 @@ class Lab:
         came = (self.receive(end)[0] for _ in range(count))
         return list(itertools.takewhile(lambda octets: octets is not None, came))
 
-    def stop(self):
-        """Sends `stop`, and returns the answer."""
-        self.send(b"stop", self.control, "control")
+    def say(self, word):
+        """Says a word to Control, and returns the answer."""
+        self.send(word, self.control, "control")
         return self.receive(self.control)[0]
+
+    def stop(self):
+        """Says `stop`, and returns the answer."""
+        return self.say(b"stop")
 
     def end(self, patience=20):
         """Waits for the program's end: its status, standard output and standard error."""

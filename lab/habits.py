@@ -1,11 +1,11 @@
-"""How an operator stops the program by its script, and what lab/smoke asks of that."""
+"""How an operator looks at the program and stops it by its script, and what lab/smoke asks of that."""
 
 import os
 import signal
 import subprocess
 import time
 
-from gateway import BNG, Lab, frame, packet, report
+from gateway import BNG, PROGRAM, Lab, frame, packet, report, stats, udp
 
 
 def told(*words):
@@ -33,6 +33,17 @@ def stops_as_it_is_told(checks):
     ends_with_its_report(checks, "a hangup", lambda lab: os.killpg(lab.program.pid, signal.SIGHUP))
     answer = ends_with_its_report(checks, "bng stop", lambda lab: told("stop", lab.configuration))
     checks.same("bng stop prints the gateway's answer", answer, (0, "stopping\n", ""))
+
+
+def shows_its_sums(checks):
+    with Lab() as lab:
+        lab.start([PROGRAM, "serve", lab.configuration])
+        checks.same("bng stats prints the sums", told("stats", lab.configuration), (0, stats(), ""))
+        lab.send(frame(packet()))
+        lab.receive(lab.core)
+        checks.same("and has a packet in them that was sent since", told("stats", lab.configuration), (0, stats(84), ""))
+        lab.stop()
+        checks.same("a gateway that was looked at has its report", lab.end(), (0, report(84), ""))
 
 
 def catches(pid, number):
@@ -68,7 +79,8 @@ def says_where_nobody_listens(checks):
     with Lab() as lab:
         end = f"127.0.0.1:{lab.ports['control']}"
         said = f"bng: no gateway answers at {end}\n"
-        checks.same("bng stop says that no gateway answers", told("stop", lab.configuration), (1, "", said))
+        for word in ("stop", "stats"):
+            checks.same(f"bng {word} says that no gateway answers", told(word, lab.configuration), (1, "", said))
         with open(lab.configuration, encoding="utf-8") as file:
             text = file.read().replace(f'[control]\nlocal = "{end}"\n', "")
         for line in (f'control.local = "{end}"\r', f"control = {{ local = '{end}' }} # the word stop"):
@@ -77,11 +89,29 @@ def says_where_nobody_listens(checks):
         path = lab.write("other.toml", text)
         says = "bng: the configuration does not say where Control listens: it has no control.local\n"
         checks.same("a configuration without control.local stops nothing", told("stop", path), (1, "", says))
-    checks.same("bng stop wants a configuration", told("stop"), (1, "", "usage: bng stop CONFIG\n"))
+        path = lab.write("other.toml", f'control.local = "192.0.2.1:9002"\n{text}')
+        says = "bng: Control listens at 192.0.2.1:9002, where it takes no word of this script, which sends from there too\n"
+        checks.same("a Control that would not heed it is told", told("stats", path), (1, "", says))
+        for path in (os.path.join(lab.folder, "missing.toml"), lab.folder):
+            checks.same("bng stats wants a file", told("stats", path), (1, "", "bng: cannot open configuration\n"))
+    for word in ("stop", "stats"):
+        checks.same(f"bng {word} wants a configuration", told(word), (1, "", f"usage: bng {word} CONFIG\n"))
+
+
+def says_what_another_answers(checks):
+    """Where another program has Control's end, which answers anything else."""
+    with Lab() as lab, udp(port=lab.ports["control"]) as other:
+        child = subprocess.Popen([BNG, "stats", lab.configuration], stdin=subprocess.DEVNULL, stderr=subprocess.PIPE, text=True)
+        word, sender = other.recvfrom(512)
+        other.sendto(b"unknown\n", sender)
+        said = f"bng: the gateway at 127.0.0.1:{lab.ports['control']} answers unknown\n"
+        checks.same("an answer that is no sums is told", (word, child.communicate(timeout=20)[1], child.returncode), (b"stats", said, 1))
 
 
 def keeps_an_operators_habits(checks):
+    shows_its_sums(checks)
     stops_as_it_is_told(checks)
     stops_before_it_listens(checks)
     ends_at_a_second_signal(checks)
     says_where_nobody_listens(checks)
+    says_what_another_answers(checks)

@@ -7,7 +7,7 @@ import hashlib
 import os
 import time
 
-from gateway import LOOPBACK, PROGRAM, Lab, report, run, udp
+from gateway import LOOPBACK, Lab, report, udp
 
 SCCRQ, SCCRP, SCCCN, STOP_CCN, HELLO, ICRQ, CDN = 1, 2, 3, 4, 6, 10, 14
 MESSAGE_TYPE, RESULT_CODE, PROTOCOL_VERSION, FRAMING, HOST_NAME, ASSIGNED_TUNNEL = 0, 1, 2, 3, 7, 9
@@ -195,12 +195,3 @@ def keeps_a_silent_tunnel(checks, command, patience):
         lab.stop()
         plain.is_told_of_the_stop(checks, "the silent one", 2)
         checks.same("a run with a silent tunnel ends well", lab.end()[0], 0)
-
-
-def says_when_its_end_is_taken(checks):
-    with Lab(tunnels=True) as lab:
-        with open(lab.configuration, encoding="utf-8") as file:
-            good = file.read()
-        ours = lab.control.getsockname()[1]
-        taken = lab.write("taken.toml", good.replace(f":{lab.ports['tunnel']}\"", f":{ours}\""))
-        checks.same("an end for tunnels that is taken", run([PROGRAM, "serve", taken]), (3, "", "bng: cannot open tunnel\n"))

@@ -16,8 +16,11 @@ HOST = "192.0.2.1"
 PINGS = 3, 300
 BLOCK = 1400
 
-# With its default route the machine has its address. It hangs up once the lab says so, and after pppd's end it stays for the
-# PADT, which the gateway sends 3 s after its Terminate-Ack.
+# What the console is told once the machine is to say what it counted, and then to hang up or to wait for the other side.
+HANG_UP, WAIT = "hang up", "wait"
+
+# With its default route the machine has its address. It says what it counted and hangs up once the lab says so, and after
+# pppd's end it stays for the PADT, which the gateway sends 3 s after its Terminate-Ack.
 INIT = """\
 #!/bin/busybox sh
 /bin/busybox --install -s /bin
@@ -42,7 +45,7 @@ use() {{
     cd /sys/class/net/ppp0/statistics
     echo "ppp0 sent $(cat tx_bytes) octets in $(cat tx_packets) packets," \\
         "and took $(cat rx_bytes) octets in $(cat rx_packets) packets"
-    kill -TERM $pppd
+    [ "$line" = "{wait}" ] || kill -TERM $pppd
 }}
 use &
 wait $pppd
@@ -109,7 +112,8 @@ def file_system(modules):
     files["/bin/busybox"] = contents(BUSYBOX)
     names = " ".join(os.path.basename(path) for path in modules)
     few, many = PINGS
-    files["/init"] = INIT.format(modules=names, plugin=plugin(), host=HOST, block=BLOCK, few=few, many=many).encode()
+    init = INIT.format(modules=names, plugin=plugin(), host=HOST, block=BLOCK, few=few, many=many, wait=WAIT)
+    files["/init"] = init.encode()
     folders = {"/dev", "/proc", "/sys", "/run", "/var/run", "/etc/ppp"}
     for path in [*files, *folders]:
         while (path := os.path.dirname(path)) != "/":

@@ -42,6 +42,7 @@ NAMED = {
     (radius.ACCT_TERMINATE_CAUSE, 2): "Lost-Carrier",
     (radius.ACCT_TERMINATE_CAUSE, 4): "Idle-Timeout",
     (radius.ACCT_TERMINATE_CAUSE, 5): "Session-Timeout",
+    (radius.ACCT_TERMINATE_CAUSE, 6): "Admin-Reset",
     (radius.ACCT_TERMINATE_CAUSE, 10): "NAS-Request",
     (radius.NAS_PORT_TYPE, 5): "Virtual",
 }

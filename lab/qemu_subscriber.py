@@ -31,7 +31,7 @@ USER, PASSWORD, GROUP = b"subscriber", b"secret", b"gold"
 # The file that the host behind the core gives out.
 GOODS = random.Random(1).randbytes(1_000_000)
 
-# What the gateway has to say.
+# What the gateway has to say until the session ends, as it ends, and then.
 STEPS = {
     "PADO": (pppoe.DISCOVERY, pppoe.PADO),
     "PADS": (pppoe.DISCOVERY, pppoe.PADS),
@@ -40,17 +40,23 @@ STEPS = {
     "Success": (pppoe.CHAP, pppoe.SUCCESS),
     "Configure-Ack of IPCP": (pppoe.IPCP, pppoe.CONFIGURE_ACK),
     "Echo-Reply": (pppoe.LCP, pppoe.ECHO_REPLY),
-    "Terminate-Ack": (pppoe.LCP, pppoe.TERMINATE_ACK),
-    "PADT": (pppoe.DISCOVERY, pppoe.PADT),
 }
+HUNG_UP = {"Terminate-Ack": (pppoe.LCP, pppoe.TERMINATE_ACK)}
+DISCONNECTED = {"Terminate-Request": (pppoe.LCP, pppoe.TERMINATE_REQUEST)}
+OVER = {"PADT": (pppoe.DISCOVERY, pppoe.PADT)}
 
 
 class Cable:
     """Carries frames between the machine and the gateway, as an access multiplexer does, prints them, and plays the hosts
-    behind the core and, where `lab` asks us, the RADIUS server. Of the IPv4 packets the first of each direction is printed."""
+    behind the core and, where `lab` asks us, the RADIUS server. Of the IPv4 packets the first of each direction is printed.
+    `read` reads the records of accounting that there are."""
 
-    def __init__(self, lab, far):
-        self.lab, self.far = lab, far
+    # What the lab has beside what all have; whether the subscriber hangs up by itself, and the cause that its Stop has then.
+    options = {}
+    hangs_up, cause = True, "User-Request"
+
+    def __init__(self, lab, far, read):
+        self.lab, self.far, self.read = lab, far, read
         with udp() as near:
             self.near = near.getsockname()[1]
         self.began = time.monotonic()
@@ -107,6 +113,18 @@ class Cable:
             self.console.append(line.decode(errors="replace").strip())
             self.show("console", self.console[-1])
 
+    def finish(self, computer):
+        """Has the session end, once the machine has all that it wanted."""
+        self.show("lab", "the machine has its file and an echo was answered: it is told to hang up")
+        tell(computer, machine.HANG_UP)
+
+    def steps(self):
+        """What the gateway has to say."""
+        return {**STEPS, **(HUNG_UP if self.hangs_up else DISCONNECTED), **OVER}
+
+    def compare(self, checks, report):
+        """Compares what is known of nothing but this kind of session."""
+
     def came(self, is_up, kind, code):
         """Whether the subscriber (`is_up`) or the gateway sent this."""
         return (is_up, kind, code) in self.moments
@@ -120,8 +138,14 @@ class Cable:
         return self.came(False, *STEPS["Echo-Reply"]) and evidence.found(self.console, evidence.FILE) is not None
 
 
+def tell(computer, word):
+    """Says a word at the machine's console."""
+    computer.stdin.write(word.encode() + b"\n")
+    computer.stdin.flush()
+
+
 def converse(cable, computer):
-    """Carries frames until the machine ends. Once it has had all that it wanted, it is told to hang up."""
+    """Carries frames until the machine ends. Once it has had all that it wanted, its session is ended."""
     end = cable.began + PATIENCE
     console, told = b"", False
     ends = {
@@ -141,20 +165,19 @@ def converse(cable, computer):
             *lines, console = (console + octets).replace(b"\r", b"\n").split(b"\n")
             cable.print_console(lines)
         if not told and cable.is_through():
-            cable.show("lab", "the machine has its file and an echo was answered: it is told to hang up")
-            computer.stdin.write(b"\n")
-            computer.stdin.flush()
+            cable.finish(computer)
             told = True
     cable.show("lab", f"{PATIENCE} seconds are over")
 
 
 def conclude(cable, records, report):
     """Says how far it came, and compares what is known of the session. Whether all of it is right."""
-    for name, step in STEPS.items():
+    steps = cable.steps()
+    for name, step in steps.items():
         print(f"{name + ' of the gateway:':38}{'came' if cable.came(False, *step) else 'did not come'}")
     for name, protocol in (("LCP", pppoe.LCP), ("IPCP", pppoe.IPCP)):
         print(f"{name + ':':38}{'Opened on both sides' if cable.is_opened(protocol) else 'not Opened'}")
-    came = all(cable.came(False, *step) for step in STEPS.values()) and cable.is_opened(pppoe.LCP) and cable.is_opened(pppoe.IPCP)
+    came = all(cable.came(False, *step) for step in steps.values()) and cable.is_opened(pppoe.LCP) and cable.is_opened(pppoe.IPCP)
     print("\nThe session, as the provider's server of accounting has it:")
     starts, stops = (provider.records_of(records, MAC, status) for status in ("Start", "Stop"))
     for record in starts + stops:
@@ -167,6 +190,7 @@ def conclude(cable, records, report):
     evidence.compare_session(checks, cable, starts[0], stops[0], USER.decode(), GROUP)
     evidence.compare_traffic(checks, cable, stops[0], report)
     evidence.compare_uses(checks, cable, machine.PINGS, hashlib.md5(GOODS).hexdigest(), NAMES)
+    cable.compare(checks, report)
     print(f"\n{checks.results.count(True)} right, {checks.results.count(False)} wrong")
     return came and checks.all_right()
 
@@ -178,19 +202,19 @@ def serve_radius(parties):
     return parties.enter_context(freeradius.Server(parties.enter_context(Lab()).folder))
 
 
-def attempt(command, watch=lambda lab, far, read: Cable(lab, far)):
-    """Whether a subscriber at the gateway that this starts has all that it is to have, and all is counted right. `watch` makes the
-    cable, of a function that reads the records of accounting that there are."""
+def attempt(command, kind=Cable):
+    """Whether a subscriber at the gateway that this starts has all that it is to have, and all is counted right, over a cable of
+    this kind."""
     with contextlib.ExitStack() as parties:
         server = serve_radius(parties)
-        ours = Lab(keys=f'dns = ["{NAMES}"]\n', server=server and server.port, keeper=server and server.keeper)
+        ours = Lab(keys=f'dns = ["{NAMES}"]\n', server=server and server.port, keeper=server and server.keeper, **kind.options)
         lab = parties.enter_context(ours)
         far = parties.enter_context(udp())
         print(f"The RADIUS server is {'a FreeRADIUS' if server else 'this script'}, for accounting too")
         print("Starts the gateway:", *command(lab.configuration), flush=True)
         lab.start(command(lab.configuration), STARTING)
         read = lambda: provider.read_file(server.records()) if server else [provider.write_record(one) for one in lab.records]
-        cable = watch(lab, far, read)
+        cable = kind(lab, far, read)
         print(f"Boots a Linux with pppd on the access port, for {PATIENCE} seconds at most", flush=True)
         computer = machine.boot(lab.folder, MAC, cable.near, far.getsockname()[1])
         try:
@@ -207,7 +231,7 @@ def attempt(command, watch=lambda lab, far, read: Cable(lab, far)):
     return conclude(cable, records, out) and status == 0
 
 
-def run(name, *watch):
+def run(name, *kind):
     """Tries it under this name, where there is all that it needs. The status."""
     lacking = machine.lacking()
     if lacking:
@@ -215,20 +239,20 @@ def run(name, *watch):
         print(f"To install: apt-get install --no-install-recommends {' '.join(lacking)}")
         return 0
     if is_built():
-        return 0 if attempt(lambda configuration: [PROGRAM, "serve", configuration], *watch) else 1
+        return 0 if attempt(lambda configuration: [PROGRAM, "serve", configuration], *kind) else 1
     if shutil.which("rt") is None:
         print(f"{name}: skipped, since the program is not built and there is no rt")
         return 0
     print(f"{name}: the built program is missing or older than its sources: runs under rt try")
     os.chdir(CRATE)
-    return 0 if attempt(lambda configuration: tried(configuration, STARTING), *watch) else 1
+    return 0 if attempt(lambda configuration: tried(configuration, STARTING), *kind) else 1
 
 
-def main(name, *watch):
+def main(name, *kind):
     """Runs it, and ends with its status."""
     signal.signal(signal.SIGTERM, lambda *_: sys.exit(143))
     try:
-        sys.exit(run(name, *watch))
+        sys.exit(run(name, *kind))
     except (RuntimeError, OSError) as error:
         print(f"{name}: {error}", file=sys.stderr)
         sys.exit(1)

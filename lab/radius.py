@@ -1,4 +1,4 @@
-"""RADIUS packets (RFC 2865, RFC 2869) as octets, and a server of a few users, as a script plays it."""
+"""RADIUS packets (RFC 2865, RFC 2869, RFC 5176) as octets, and a server of a few users, as a script plays it."""
 
 import hashlib
 import hmac
@@ -8,9 +8,11 @@ SECRET = b"xyzzy5461"
 
 ACCESS_REQUEST, ACCESS_ACCEPT, ACCESS_REJECT, ACCESS_CHALLENGE = 1, 2, 3, 11
 ACCOUNTING_REQUEST, ACCOUNTING_RESPONSE = 4, 5
+DISCONNECT_REQUEST, DISCONNECT_ACK, DISCONNECT_NAK, COA_REQUEST, COA_ACK, COA_NAK = range(40, 46)
 
 USER_NAME, USER_PASSWORD, CHAP_PASSWORD, NAS_IP_ADDRESS, NAS_PORT, SERVICE_TYPE, FRAMED_PROTOCOL, FRAMED_IP_ADDRESS = range(1, 9)
-FILTER_ID, REPLY_MESSAGE, CLASS, SESSION_TIMEOUT, IDLE_TIMEOUT, CALLING_STATION_ID, NAS_IDENTIFIER = 11, 18, 25, 27, 28, 31, 32
+FILTER_ID, REPLY_MESSAGE, FRAMED_ROUTE, CLASS, SESSION_TIMEOUT, IDLE_TIMEOUT = 11, 18, 22, 25, 27, 28
+CALLING_STATION_ID, NAS_IDENTIFIER, PROXY_STATE, ERROR_CAUSE = 31, 32, 33, 101
 ACCT_STATUS_TYPE, ACCT_INPUT_OCTETS, ACCT_OUTPUT_OCTETS, ACCT_SESSION_ID = 40, 42, 43, 44
 ACCT_SESSION_TIME, ACCT_INPUT_PACKETS, ACCT_OUTPUT_PACKETS, ACCT_TERMINATE_CAUSE = 46, 47, 48, 49
 ACCT_INPUT_GIGAWORDS, ACCT_OUTPUT_GIGAWORDS, EVENT_TIMESTAMP, ACCT_INTERIM_INTERVAL = 52, 53, 55, 85
@@ -72,6 +74,12 @@ def sign(reply, request, secret=SECRET):
 def answer(request, code, *attributes, secret=SECRET):
     """The octets of a reply of this code, with these attributes and a Message-Authenticator."""
     return sign(Radius(code, 0, bytes(16), [*attributes, (MESSAGE_AUTHENTICATOR, bytes(16))]), request, secret)
+
+
+def ask(code, identifier, *attributes, secret=SECRET):
+    """The octets of a request for a change, whose authenticator is made over zeros (RFC 5176 section 2.3)."""
+    asked = Radius(code, identifier, bytes(16), list(attributes))
+    return sign(asked, asked, secret)
 
 
 def acknowledgement(request, secret=SECRET):

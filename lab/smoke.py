@@ -8,10 +8,11 @@ import sys
 import threading
 import time
 
+from coa import changes_sessions
 from example import reads_the_example
-from gateway import CRATE, PROGRAM, USAGE, Lab, delivery, frame, is_built, packet, report, run, tried, udp
+from gateway import CRATE, PROGRAM, USAGE, Lab, delivery, frame, is_built, packet, report, run, stats, tried, udp
 from habits import keeps_an_operators_habits
-from lac import keeps_a_silent_tunnel, says_when_its_end_is_taken, serves_tunnels
+from lac import keeps_a_silent_tunnel, serves_tunnels
 from logins import authenticates, gives_up_on_a_silent_server
 from leases import leases_addresses
 from metering import meters_profiles
@@ -73,8 +74,9 @@ def forwards_both_ways(checks, command, patience):
         lab.send(packet("192.0.2.1", "10.0.0.2", ttl=1), lab.core, "core")
         lab.send(down, lab.core, "core")
         checks.same("packets for nobody, of nobody and for no other hop go nowhere", lab.receive(lab.access), want)
-        lab.send(b"stats", lab.control, "control")
-        checks.same("other words are unknown", lab.receive(lab.control)[0], b"unknown\n")
+        want = stats(20, 40, Malformed=1, NoSession=1, Expired=1).encode()
+        checks.same("stats has the sums of both directions so far", (lab.say(b"stats"), lab.say(b"stats\n")), (want, want))
+        checks.same("other words are unknown", lab.say(b"status"), b"unknown\n")
         checks.same("stop is answered after traffic both ways", lab.stop(), b"stopping\n")
         status, out, _ = lab.end()
         checks.same("both directions are counted", (status, out), (0, report(20, 40, Malformed=1, NoSession=1, Expired=1)))
@@ -133,7 +135,7 @@ def goes_on_after_memory_was_refused(checks):
     The program is started with too little for the one or for the other, and gets more after a packet came."""
     first, second = packet(ttl=63), packet(ttl=63, number=2)
     whole, part = report(168), report(84, WantOfMemory=1)
-    for what, megabytes, comes, wanted in (("lists", 192, [first, second], whole), ("its round", 320, [second], part)):
+    for what, megabytes, comes, wanted in (("lists", 256, [first, second], whole), ("its round", 352, [second], part)):
         with Lab(keys="shards = 64\n") as lab:
             limit = lambda: resource.setrlimit(resource.RLIMIT_AS, (megabytes << 20, resource.RLIM_INFINITY))
             lab.start([PROGRAM, "serve", lab.configuration], preexec_fn=limit)
@@ -172,10 +174,17 @@ def refuses_bad_configurations(checks):
         for fault, (right, wrong) in faults.items():
             bad = lab.write("bad.toml", good.replace(right, wrong))
             checks.same(f"the fault {fault}", run([PROGRAM, "serve", bad]), (2, "", f"bng: config: {fault}\n"))
+
+
+def says_which_end_is_taken(checks):
+    with Lab(tunnels=True, changes=True) as lab:
+        with open(lab.configuration, encoding="utf-8") as file:
+            good = file.read()
         ours = lab.control.getsockname()[1]
-        taken = lab.write("taken.toml", good.replace(f":{lab.ports['control']}\"", f":{ours}\""))
-        unbound = (3, "", "bng: cannot open control\n")
-        checks.same("a port that is taken", run([PROGRAM, "serve", taken]), unbound)
+        for role, port in lab.ports.items():
+            taken = lab.write("taken.toml", good.replace(f":{port}\"", f":{ours}\""))
+            said = f"bng: cannot open {'access 1' if role == 'access' else role}\n"
+            checks.same(f"an end that is taken, for {role}", run([PROGRAM, "serve", taken]), (3, "", said))
 
 
 def refuses_bad_beginnings(checks):
@@ -218,6 +227,7 @@ def try_all(checks):
         gives_up_on_a_silent_server(checks, built, 10)
         leases_addresses(checks, built, 10)
         meters_profiles(checks, built, 10)
+        changes_sessions(checks, built, 10)
         ends_by_timeouts(checks, built, 10)
         shares_three_addresses_among_five(checks, built, 10)
         counts_past_sixteen_bits(checks, built, 10)
@@ -232,7 +242,7 @@ def try_all(checks):
         goes_on_after_memory_was_refused(checks)
         refuses_bad_beginnings(checks)
         refuses_bad_configurations(checks)
-        says_when_its_end_is_taken(checks)
+        says_which_end_is_taken(checks)
         reads_the_example(checks)
         says_when_nobody_takes_its_report(checks)
         keeps_an_operators_habits(checks)
