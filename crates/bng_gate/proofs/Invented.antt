@@ -321,7 +321,7 @@ stages_went (m ∷ turns) endings =
 no_packet : (role : Role) (octets : List ℕ) → carries_data role ≡ false → pppoe_reader role octets ≡ None
 no_packet (Access port) octets e = absurd (false≢true (sym e))
 no_packet Core octets e = absurd (false≢true (sym e))
-no_packet Tunnel octets e = refl
+no_packet Tunnel octets e = absurd (false≢true (sym e))
 no_packet Auth octets e = refl
 no_packet Acct octets e = refl
 no_packet Coa octets e = refl

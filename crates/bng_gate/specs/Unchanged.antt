@@ -7,7 +7,7 @@ use Rattle.bng_base.specs.declared.address.Mac.{Mac}
 use Rattle.bng_base.specs.declared.address.Peer.{Peer}
 use Rattle.bng_base.specs.declared.ipv4.Ipv4.{Ipv4}
 use Rattle.bng_base.specs.declared.outside.Datagram.{Datagram}
-use Rattle.bng_base.specs.declared.outside.Role.TheVariants.{Access, Core}
+use Rattle.bng_base.specs.declared.outside.Role.TheVariants.{Access, Core, Tunnel}
 use Rattle.bng_base.specs.declared.settings.AccessPort.{AccessPort}
 use Rattle.bng_base.specs.FateOf.{Arrival}
 use Rattle.bng_base.specs.PppoeGrammar.{PppoeFrame}
@@ -16,6 +16,9 @@ use Rattle.bng_engine.specs.Wire.{is_from, is_to}
 use Rattle.bng_forward.specs.Fates.{Carries, IsCorePacket, IsFrame, IsPort}
 use Rattle.bng_forward.specs.Framed.{IsFrameTo}
 use Rattle.bng_forward.specs.Packets.{IsPassedOn}
+use Rattle.bng_l2tp_wire.specs.Messages.{DataMessage}
+use Rattle.bng_lns.specs.Datagrams.{CarriesOver, IsDataIn}
+use Rattle.bng_lns.specs.Framed.{IsCallFrameTo}
 use Rattle.bng_shard.specs.Reader.{pppoe_reader}
 
 -- Each of the second list comes of one of the first by this relation, each of another one, and in the order of these.
@@ -28,16 +31,28 @@ Arises R (x ∷ xs) (y ∷ ys) = Arises R xs (y ∷ ys) ⊎ (R x y × Arises R x
 abbrev pub arrival_from : Datagram → Arrival
 arrival_from d = record { from = d.peer; cut = false; octets = d.octets }
 
--- The datagram that was taken is a frame of the session stage for one of these access ports, with an IPv4 packet from this address (RFC
--- 2516 section 6) whose TTL is 2 or more, and the one that was sent is that packet, to the core's other end: its TTL is one lower, its
--- header checksum is computed again, and what stood past its total length is gone (RFC 791 section 3.1).
-pub record IsPassedUp (ports : List AccessPort) (core : Peer) (address : Ip4) (taken sent : Datagram) : Type 0 where
+-- the datagram that was taken is a frame of the session stage for one of these access ports, with these octets as its packet (RFC 2516
+-- section 6)
+pub record ComesOnPort (ports : List AccessPort) (taken : Datagram) (info : List ℕ) : Type 0 where
   pub port : ℕ
   pub came : taken.role ≡ Access port
   pub frame : PppoeFrame
   pub is_frame : IsFrame ports port (arrival_from taken) frame
-  pub info : List ℕ
   pub carries : Carries frame info
+
+-- it is a data message to the gateway's end for tunnels, with these octets as its packet (RFC 2661 section 3.1)
+pub record ComesOverCall (taken : Datagram) (info : List ℕ) : Type 0 where
+  pub came : taken.role ≡ Tunnel
+  pub message : DataMessage
+  pub is_data : IsDataIn false taken.octets message
+  pub carries : CarriesOver message info
+
+-- The datagram that was taken carries, on an access port or over a call, an IPv4 packet from this address whose TTL is 2 or more, and the one
+-- that was sent is that packet, to the core's other end: its TTL is one lower, its header checksum is computed again, and what stood past its
+-- total length is gone (RFC 791 section 3.1).
+pub record IsPassedUp (ports : List AccessPort) (core : Peer) (address : Ip4) (taken sent : Datagram) : Type 0 where
+  pub info : List ℕ
+  pub way : ComesOnPort ports taken info ⊎ ComesOverCall taken info
   pub header : Ipv4
   pub source : header.src ≡ address
   pub alive : 2 ≤ header.ttl
@@ -45,34 +60,47 @@ pub record IsPassedUp (ports : List AccessPort) (core : Peer) (address : Ip4) (t
   pub to : sent.peer ≡ core
   pub packet : IsPassedOn header info sent.octets
 
--- The datagram that was taken is a packet of the core to this address, whose TTL is 2 or more, and the one that was sent has that packet
--- after 22 octets, changed in the same way: it went to the other end of an access port, and is a frame of the session stage from that port
--- that carries the packet and nothing after it.
+-- the datagram that was sent has the packet with this header, of these octets, after 22 octets: it went to the other end of an access port,
+-- and is a frame of the session stage from that port that carries the packet and nothing after it
+pub record GoesOnPort (ports : List AccessPort) (header : Ipv4) (octets : List ℕ) (sent : Datagram) : Type 0 where
+  pub number : ℕ
+  pub port : AccessPort
+  pub is_port : IsPort ports number port
+  pub went : sent.role ≡ Access number
+  pub to : sent.peer ≡ port.peer
+  pub packet : IsPassedOn header octets (drop 22 sent.octets)
+  pub mac : Mac
+  pub session : ℕ
+  pub frame : IsFrameTo port mac session (drop 22 sent.octets) sent.octets
+
+-- it has that packet after 10 octets: it went to the peer of a tunnel, and is a data message that carries the packet and nothing after it
+pub record GoesOverCall (header : Ipv4) (octets : List ℕ) (sent : Datagram) : Type 0 where
+  pub went : sent.role ≡ Tunnel
+  pub packet : IsPassedOn header octets (drop 10 sent.octets)
+  pub tunnel : ℕ
+  pub session : ℕ
+  pub message : IsCallFrameTo tunnel session (drop 10 sent.octets) sent.octets
+
+-- The datagram that was taken is a packet of the core to this address, whose TTL is 2 or more, and the one that was sent has that packet,
+-- changed in the same way, on an access port or over a call.
 pub record IsPassedDown (ports : List AccessPort) (core : Peer) (address : Ip4) (taken sent : Datagram) : Type 0 where
   pub came : taken.role ≡ Core
   pub header : Ipv4
   pub is_packet : IsCorePacket core (arrival_from taken) header
   pub destination : header.dst ≡ address
   pub alive : 2 ≤ header.ttl
-  pub number : ℕ
-  pub port : AccessPort
-  pub is_port : IsPort ports number port
-  pub went : sent.role ≡ Access number
-  pub to : sent.peer ≡ port.peer
-  pub packet : IsPassedOn header taken.octets (drop 22 sent.octets)
-  pub mac : Mac
-  pub session : ℕ
-  pub frame : IsFrameTo port mac session (drop 22 sent.octets) sent.octets
+  pub way : GoesOnPort ports header taken.octets sent ⊎ GoesOverCall header taken.octets sent
 
--- of what was sent, the packets to the core from an address, and those on access ports to it, as anyone reads the octets
+-- of what was sent, the packets to the core from an address, and those on access ports and to peers of tunnels to it, as anyone reads the
+-- octets
 abbrev pub sent_from : Ip4 → List Datagram → List Datagram
 sent_from address ds = filter (λ (d : Datagram). option_map_or (is_from address) (pppoe_reader d.role d.octets) false) ds
 
 abbrev pub sent_towards : Ip4 → List Datagram → List Datagram
 sent_towards address ds = filter (λ (d : Datagram). option_map_or (is_to address) (pppoe_reader d.role d.octets) false) ds
 
--- For each address, the packets that were sent from it come, each of another one and in their order, of the frames that were taken with
--- packets from it, and those that were sent to it of the packets that were taken to it.
+-- For each address, the packets that were sent from it come, each of another one and in their order, of the frames and the data messages that
+-- were taken with packets from it, and those that were sent to it of the packets that were taken to it.
 pub record NothingIsInvented (config : Config) (taken sent : List Datagram) : Type 0 where
   pub up : (address : Ip4) → Arises (IsPassedUp config.access config.core_peer address) taken (sent_from address sent)
   pub down : (address : Ip4) → Arises (IsPassedDown config.access config.core_peer address) taken (sent_towards address sent)

@@ -13,6 +13,7 @@ use std::thread::Threads;
 
 mod accounting;
 mod authentication;
+mod calls;
 mod changes;
 mod counting;
 mod disconnects;

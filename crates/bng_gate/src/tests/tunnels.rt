@@ -16,7 +16,7 @@ use std::test::Fail;
 use std::thread::Threads;
 
 /// Four shards, an end for tunnels, and two access concentrators: one without a secret, and one that shares `xyzzy`.
-const TUNNELS: &str = r#"[gateway]
+pub(super) const TUNNELS: &str = r#"[gateway]
 name = "bng1"
 address = "10.0.0.1"
 nas_ip = "192.168.1.16"
@@ -83,67 +83,67 @@ ip = "127.0.0.1"
 
 /// A concentrator without a secret, and one that shares it. The octets of the address and the port of each sum to 1,833, so both are for
 /// shard 1, whose first tunnel has the number 0401.
-const PLAIN: Peer = Peer {
+pub(super) const PLAIN: Peer = Peer {
     ip: Ip4(0x7f00_0001),
     port: 1705,
 };
 
-const SECRET: Peer = Peer {
+pub(super) const SECRET: Peer = Peer {
     ip: Ip4(0x7f00_0005),
     port: 1701,
 };
 
 /// The first from another port, for shard 2.
-const OTHER: Peer = Peer {
+pub(super) const OTHER: Peer = Peer {
     ip: Ip4(0x7f00_0001),
     port: 1706,
 };
 
 /// An SCCRQ with the Assigned Tunnel ID 5, and the same with the Challenge 01020304.
-const SCCRQ: &str =
+pub(super) const SCCRQ: &str =
     "c8020038000000000000000080080000000000018008000000020100800a0000000300000003800a000000076c6163318008000000090005";
 
-const SCCRQ_ASKS: &str =
+pub(super) const SCCRQ_ASKS: &str =
     "c8020042000000000000000080080000000000018008000000020100800a0000000300000003800a000000076c6163318008000000090005800a0000000b01020304";
 
 /// The SCCRP of tunnel 0401 to the first. That to the second answers the Challenge, and has one of its own, which is drawn for the first item.
-const SCCRP: &str =
+pub(super) const SCCRP: &str =
     "c8020040000500000000000180080000000000028008000000020100800a0000000300000003800a00000007626e6731800800000009040180080000000a0008";
 
-const SCCRP_ASKS: &str =
+pub(super) const SCCRP_ASKS: &str =
     "c802006c000500000000000180080000000000028008000000020100800a0000000300000003800a00000007626e6731800800000009040180080000000a000880160000000ba1b2c3d48ef532286099ab446046ae0780160000000d6a2f6eee7ce939973b542d68b8355a6b";
 
 /// The SCCCN for tunnel 0401, and the same with the answer to that Challenge.
-const SCCCN: &str = "c802001404010000000100018008000000000003";
+pub(super) const SCCCN: &str = "c802001404010000000100018008000000000003";
 
-const SCCCN_ANSWERS: &str =
+pub(super) const SCCCN_ANSWERS: &str =
     "c802002a0401000000010001800800000000000380160000000d5c037e61cce37718836e4c0102f9021f";
 
 /// A ZLB to the peer's tunnel 5 that acknowledges its SCCRQ, and one that acknowledges its SCCCN.
-const ZLB: &str = "c802000c0005000000010001";
+pub(super) const ZLB: &str = "c802000c0005000000010001";
 
-const ZLB_2: &str = "c802000c0005000000010002";
+pub(super) const ZLB_2: &str = "c802000c0005000000010002";
 
-/// An ICRQ of the peer's session 9, as its third message, and the CDN that refuses it: no session may be taken.
-const ICRQ: &str =
+/// An ICRQ of the peer's session 9, as its third message, and the ICRP for it, of the session 0401.
+pub(super) const ICRQ: &str =
     "c80200300401000000020001800800000000000a80080000000e0009800a0000000f00000001800a0000001200000000";
 
-const CDN: &str = "c80200240005000900010003800800000000000e80080000000e00008008000000010004";
+const ICRP: &str = "c802001c0005000900010003800800000000000b80080000000e0401";
 
-/// The StopCCN with the Result Code 6 of tunnel 0401: before its SCCCN, after it, and after a CDN.
+/// The StopCCN with the Result Code 6 of tunnel 0401: before its SCCCN, after it, and after an ICRP.
 const STOPS_EARLY: &str =
     "c80200240005000000010001800800000000000480080000000904018008000000010006";
 
 const STOPS: &str = "c80200240005000000010002800800000000000480080000000904018008000000010006";
 
-const STOPS_LATE: &str = "c80200240005000000020003800800000000000480080000000904018008000000010006";
+pub(super) const STOPS_LATE: &str = "c80200240005000000020003800800000000000480080000000904018008000000010006";
 
 /// The StopCCN that turns an SCCRQ away for an AVP that is missing or cannot be read: Result Code 2, Error Code 3.
 const TURNED_AWAY: &str =
     "c8020026000500000000000180080000000000048008000000090000800a0000000100020003";
 
 /// Datagrams of these peers for tunnels come next, in this order.
-fn then_come(alloc: Global, script: &mut Vec<Arrival>, list: &[(Peer, &str)]) -> Result<(), Fail> {
+pub(super) fn then_come(alloc: Global, script: &mut Vec<Arrival>, list: &[(Peer, &str)]) -> Result<(), Fail> {
     for (from, octets) in list {
         let octets = hex::decode(alloc, *octets)?;
         script.push(Arrival::new(Role::Tunnel, *from, octets.as_slice()))?;
@@ -182,7 +182,7 @@ fn run_tunnels<R: Threads + Wait + Sync>(
 }
 
 /// The datagrams that a run sent to the other ends of tunnels are these, in this order.
-fn tells(
+pub(super) fn tells(
     rt: &impl Abort,
     alloc: Global,
     ended: &Ended,
@@ -349,25 +349,26 @@ fn a_message_is_not_taken_before_the_one_that_was_lost(rt: HostRuntime) -> Resul
         &[
             (PLAIN, SCCRP),
             (PLAIN, ZLB_2),
-            (PLAIN, CDN),
+            (PLAIN, ICRP),
             (PLAIN, STOPS_LATE),
         ],
         b"drop NoSession 0\n",
     )
 }
 
-/// The ICCN of session 0402 as the fourth message, the ZLB for it, the StopCCN after that, and a PPP frame of that session.
+/// The ICCN of session 0402, which there is not, as the fourth message, the ZLB for it, the StopCCN after that, and a PPP frame of that
+/// session.
 const ICCN: &str =
     "c80200320401040200030002800800000000000c800a0000001800989680800a0000001300000001000a0000002600989680";
 
-const ZLB_4: &str = "c802000c0005000000020004";
+pub(super) const ZLB_4: &str = "c802000c0005000000020004";
 
 const STOPS_LAST: &str = "c80200240005000000020004800800000000000480080000000904018008000000010006";
 
 const DATA: &str = "000204010402ff03c0210101000a050611223344";
 
 #[test]
-fn a_call_is_refused_and_its_data_leads_nowhere(rt: HostRuntime) -> Result<(), Fail> {
+fn what_is_for_no_call_changes_nothing(rt: HostRuntime) -> Result<(), Fail> {
     let alloc = rt.alloc();
     serves(
         &rt,
@@ -382,7 +383,7 @@ fn a_call_is_refused_and_its_data_leads_nowhere(rt: HostRuntime) -> Result<(), F
         &[
             (PLAIN, SCCRP),
             (PLAIN, ZLB_2),
-            (PLAIN, CDN),
+            (PLAIN, ICRP),
             (PLAIN, ZLB_4),
             (PLAIN, STOPS_LAST),
         ],
@@ -417,12 +418,12 @@ fn tunnels_with_one_assigned_number_are_told_apart_by_their_peers(
 }
 
 /// The SCCRP of tunnel 0801, the SCCCN for it, and its StopCCN.
-const SCCRP_0801: &str =
+pub(super) const SCCRP_0801: &str =
     "c8020040000500000000000180080000000000028008000000020100800a0000000300000003800a00000007626e6731800800000009080180080000000a0008";
 
-const SCCCN_0801: &str = "c802001408010000000100018008000000000003";
+pub(super) const SCCCN_0801: &str = "c802001408010000000100018008000000000003";
 
-const STOPS_0801: &str = "c80200240005000000010002800800000000000480080000000908018008000000010006";
+pub(super) const STOPS_0801: &str = "c80200240005000000010002800800000000000480080000000908018008000000010006";
 
 #[test]
 fn each_tunnel_is_told_of_the_stop_once(rt: HostRuntime) -> Result<(), Fail> {
