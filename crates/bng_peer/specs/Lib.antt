@@ -1,0 +1,4 @@
+pub mod Avps
+pub mod Clock
+pub mod Script
+pub mod Telling
