@@ -228,18 +228,18 @@ impl Desk {
         Turned::Ok
     }
 
-    /// One turn. While the desk serves: it reads Control, then Acct, then Coa, then Auth, then the end for tunnels, where there is one, then the
-    /// access ports and then the core, and answers each word from 127.0.0.0/8; each datagram of Acct that acknowledges a record ends it
-    /// (RFC 2866 section 2); each new request for a change (RFC 5176) is an item of a round, each reply to a question is an item of a round, and so is each datagram for a tunnel, of a port and of the
-    /// core, each question that is given up, and a Tick of each shard that has a due deadline; it hands each item to its shard, sends what they have to send, charges each packet that was
-    /// sent to its term, forms a Stop of each term that ended, a Start of each that began and an Interim of each live one of which one is
-    /// due, sends the replies to requests for changes, those that are repeated first, sends the requests that are due again and those of the questions (RFC 2865 section 2.5) and of the records that wait, and
-    /// tells the trace the round; where nothing was taken it waits. Where the
+    /// One turn. While the desk serves: it reads Control, then Acct, then Coa, then Auth, then the end for tunnels, where there is one,
+    /// then the access ports and then the core, and answers each word from 127.0.0.0/8; each datagram of Acct that acknowledges a record
+    /// ends it (RFC 2866 section 2); each new request for a change (RFC 5176) is an item of a round, each reply to a question is an item of
+    /// a round, and so is each datagram for a tunnel, of a port and of the core, each question that is given up, and a Tick of each shard
+    /// that has a due deadline; it hands each item to its shard, sends what they have to send, charges each packet that was sent to its
+    /// term, forms a Stop of each term that ended, a Start of each that began and an Interim of each live one of which one is due, sends
+    /// the replies to requests for changes, those that are repeated first, sends the requests that are due again and those of the questions
+    /// (RFC 2865 section 2.5) and of the records that wait, and tells the trace the round; where nothing was taken it waits. Where the
     /// round could not be opened, its requests for changes and verdicts stand first in the next one, and neither Coa nor Auth is read until
-    /// they were handled. While it ends:
-    /// a round of what stays and of one End for each shard; once no session is left, Starts and Interims are forgotten. In its grace it
-    /// reads Acct, sends the requests that are due again and those of the Stops that wait, and waits where nothing was taken. After each
-    /// turn of the ending or of the grace fewer are left. When all is over it does nothing.
+    /// they were handled. While it ends: a round of what stays and of one End for each shard; once no session is left, Starts and Interims
+    /// are forgotten. In its grace it reads Acct, sends the requests that are due again and those of the Stops that wait, and waits where
+    /// nothing was taken. After each turn of the ending or of the grace fewer are left. When all is over it does nothing.
     pub fn turn<R, P: Plant, C: Clock, T: Trace, G>(
         &mut self,
         _rt: &R,
