@@ -1,4 +1,4 @@
-"""A scripted L2TP access concentrator, and what lab/smoke asks with it: tunnels that are set up, kept and ended.
+"""A scripted L2TP access concentrator, and what lab/smoke asks with it: tunnels that are set up, kept and ended, and a call over one.
 
 What is wanted is what RFC 2661 asks, and what docs/ says where it leaves a choice."""
 
@@ -7,11 +7,21 @@ import hashlib
 import os
 import time
 
-from gateway import LOOPBACK, Lab, report, udp
+import pppoe
+import radius
+from gateway import LOOPBACK, Lab, packet, report, udp
+from logins import hear_request, say_response, send_reply
+from pppoe import CHAP, IPCP, LCP, Packet, options_octets, packet_octets, read_packet
+from radius import ACCESS_ACCEPT, FRAMED
+from sessions import MAGIC
 
-SCCRQ, SCCRP, SCCCN, STOP_CCN, HELLO, ICRQ, CDN = 1, 2, 3, 4, 6, 10, 14
+SCCRQ, SCCRP, SCCCN, STOP_CCN, HELLO, ICRQ, ICRP, ICCN, CDN = 1, 2, 3, 4, 6, 10, 11, 12, 14
 MESSAGE_TYPE, RESULT_CODE, PROTOCOL_VERSION, FRAMING, HOST_NAME, ASSIGNED_TUNNEL = 0, 1, 2, 3, 7, 9
 WINDOW, CHALLENGE, RESPONSE, ASSIGNED_SESSION, SERIAL_NUMBER = 10, 11, 13, 14, 15
+FRAMING_TYPE, CONNECT_SPEED = 19, 24
+
+# What a frame of PPP carries that is an IPv4 packet, and the option of IPCP for an address (RFC 1332 section 3.3).
+IPV4, IP_ADDRESS = b"\0\x21", 3
 
 # Another address of the loopback, whose secret the configuration of the lab has.
 SHARING, SECRET = "127.0.0.5", b"xyzzy"
@@ -121,6 +131,52 @@ class Concentrator:
         checks.same(f"at the stop {what} is told that the gateway shuts down", got, want)
 
 
+class Call:
+    """A call of a tunnel that is set up. `own` is the number of its session at the concentrator, and `session` that of the gateway, 0 until
+    the gateway has told it."""
+
+    def __init__(self, tunnel, own):
+        self.tunnel, self.own, self.session = tunnel, own, 0
+
+    def ask(self, checks, what, ns):
+        """Sends an ICRQ, and takes the ICRP for it, which is the gateway's message with this number."""
+        self.tunnel.say(ICRQ, (ASSIGNED_SESSION, short(self.own)), (SERIAL_NUMBER, bytes([0, 0, 0, 1])))
+        got = self.tunnel.hear()
+        self.session = int.from_bytes(dict(got.avps if got else []).get(ASSIGNED_SESSION, b""), "big")
+        want = self.tunnel.told(ICRP, ns, (ASSIGNED_SESSION, short(self.session)), session=self.own)
+        checks.same(f"an ICRP answers the ICRQ of {what}", got, want)
+        checks.same(f"the session of {what} is of its tunnel's shard", self.session // 1024, self.tunnel.tunnel // 1024)
+
+    def connect(self, checks, what, ns):
+        """Sends an ICCN, which is acknowledged by a ZLB."""
+        self.tunnel.say(ICCN, (CONNECT_SPEED, bytes([0, 0x98, 0x96, 0x80])), (FRAMING_TYPE, bytes([0, 0, 0, 1])), session=self.session)
+        checks.same(f"a ZLB answers the ICCN of {what}", self.tunnel.hear(), self.tunnel.zlb(ns))
+
+    def say(self, payload, flags=0, fields=b""):
+        """Sends a PPP frame in a data message (section 3.1), with these flags and what stands after the numbers for them."""
+        front = short(0x0002 | flags) + short(self.tunnel.tunnel) + short(self.session) + fields
+        self.tunnel.lab.send(front + b"\xff\3" + payload, self.tunnel.end, "tunnel")
+
+    def say_packet(self, protocol, code, identifier, data=b""):
+        self.say(packet_octets(Packet(protocol, code, identifier, data)))
+
+    def hear(self):
+        """The PPP frame of the gateway's next datagram, a data message to this call."""
+        octets, _ = self.tunnel.lab.receive(self.tunnel.end)
+        front = b"\0\2" + short(self.tunnel.own) + short(self.own) + b"\xff\3"
+        if octets is None or not octets.startswith(front):
+            raise RuntimeError(f"the call heard no data of its own, but {octets.hex() if octets else 'nothing'}")
+        return octets[len(front):]
+
+    def hear_packet(self):
+        """The same, a control packet."""
+        payload = self.hear()
+        heard = read_packet(payload)
+        if heard is None:
+            raise RuntimeError(f"the call heard no control packet, but {payload.hex()}")
+        return heard
+
+
 def number_in(message):
     """The Assigned Tunnel ID of a message, or 0 where there is none."""
     value = dict(message.avps).get(ASSIGNED_TUNNEL, b"") if message else b""
@@ -156,7 +212,7 @@ def is_refused(checks, lab):
 
 
 def serves_tunnels(checks, command, patience):
-    """Two concentrators set tunnels up, one of them without a secret. A message comes again, a call is refused, and each is told of the stop."""
+    """Two concentrators set tunnels up, one of them without a secret. A message comes again, a call is asked for, and each is told of the stop."""
     with Lab(tunnels=True) as lab, Concentrator(lab, 5) as plain, Concentrator(lab, 5, SHARING) as sharing:
         lab.start(command(lab.configuration), patience)
         plain.set_up(checks, "a concentrator without a secret")
@@ -167,9 +223,8 @@ def serves_tunnels(checks, command, patience):
         checks.same("a ZLB answers a HELLO", plain.hear(), plain.zlb(1))
         lab.send(text(plain.tunnel, 0, plain.ns - 1, plain.nr, [(MESSAGE_TYPE, short(HELLO))]), plain.end, "tunnel")
         checks.same("and answers it again", plain.hear(), plain.zlb(1))
-        plain.say(ICRQ, (ASSIGNED_SESSION, short(7)), (SERIAL_NUMBER, bytes([0, 0, 0, 1])))
-        want = plain.told(CDN, 1, (ASSIGNED_SESSION, short(0)), (RESULT_CODE, short(4)), session=7)
-        checks.same("a call is refused", plain.hear(), want)
+        Call(plain, 7).ask(checks, "a call", 1)
+        plain.acknowledge()
         # The number is that of another's tunnel, and the second datagram is no message.
         lab.send(text(plain.tunnel, 0, 9, 0, [(MESSAGE_TYPE, short(HELLO))]), sharing.end, "tunnel")
         lab.send(b"\xc8\x02", sharing.end, "tunnel")
@@ -178,6 +233,59 @@ def serves_tunnels(checks, command, patience):
         sharing.is_told_of_the_stop(checks, "the one with a secret")
         status, out, _ = lab.end()
         checks.same("what led to no tunnel is counted", (status, out), (0, report(Malformed=1, NoSession=1)))
+
+
+def logs_in_over(checks, lab, call):
+    """The subscriber of a call brings LCP to Opened, authenticates itself by CHAP, and asks for 10.0.0.50 by IPCP."""
+    asked = call.hear_packet()
+    checks.same("LCP asks over a call for an MRU of 1,500", (asked.protocol, asked.code, asked.data[:4]), (LCP, pppoe.CONFIGURE_REQUEST, bytes.fromhex("010405dc")))
+    call.say_packet(LCP, pppoe.CONFIGURE_ACK, asked.identifier, asked.data)
+    call.say_packet(LCP, pppoe.CONFIGURE_REQUEST, 1, options_octets([MAGIC]))
+    checks.same("and acknowledges the subscriber's request", call.hear_packet(), Packet(LCP, pppoe.CONFIGURE_ACK, 1, options_octets([MAGIC])))
+    say_response(call, call.hear_packet())
+    request, _ = hear_request(lab)
+    attributes = dict(request.attributes)
+    port_id = f"t127.0.0.1:{call.tunnel.end.getsockname()[1]}/{call.tunnel.tunnel}/{call.session}".encode()
+    checks.same("the Access-Request names the call", attributes.get(radius.NAS_PORT_ID), port_id)
+    checks.same("and no station that calls", attributes.get(radius.CALLING_STATION_ID), None)
+    address = bytes([10, 0, 0, 50])
+    send_reply(lab, radius.answer(request, ACCESS_ACCEPT, FRAMED, (radius.FRAMED_IP_ADDRESS, address)))
+    success = call.hear_packet()
+    checks.same("an Accept becomes a Success over a call", (success.protocol, success.code), (CHAP, pppoe.SUCCESS))
+    own = call.hear_packet()
+    call.say_packet(IPCP, pppoe.CONFIGURE_ACK, own.identifier, own.data)
+    wanted = options_octets([(IP_ADDRESS, address)])
+    call.say_packet(IPCP, pppoe.CONFIGURE_REQUEST, 1, wanted)
+    checks.same("and the address is acknowledged", call.hear_packet(), Packet(IPCP, pppoe.CONFIGURE_ACK, 1, wanted))
+    return port_id
+
+
+def serves_a_call(checks, command, patience):
+    """A subscriber logs in over a call, packets go both ways, data of another end leads nowhere, and a CDN ends it all."""
+    with Lab(tunnels=True) as lab, Concentrator(lab, 5) as plain, Concentrator(lab, 5, SHARING) as other:
+        lab.start(command(lab.configuration), patience)
+        plain.set_up(checks, "a concentrator with a call")
+        call = Call(plain, 7)
+        call.ask(checks, "a subscriber", 1)
+        call.connect(checks, "a subscriber", 2)
+        port_id = logs_in_over(checks, lab, call)
+        said, lowered = packet("10.0.0.50"), packet("10.0.0.50", ttl=63)
+        # Plain; with Ns and Nr; with two octets of padding; with priority (section 3.1).
+        for flags, fields in ((0, b""), (0x0800, short(1) + short(0)), (0x0200, short(2) + b"\xee\xee"), (0x0100, b"")):
+            call.say(IPV4 + said, flags, fields)
+            checks.same(f"a packet goes to the core from data with the flags {flags:04x}", lab.receive(lab.core)[0], lowered)
+        lab.send(packet("192.0.2.1", "10.0.0.50"), lab.core, "core")
+        checks.same("a packet of the core goes over the call", call.hear(), IPV4 + packet("192.0.2.1", "10.0.0.50", ttl=63))
+        lab.send(b"\0\2" + short(plain.tunnel) + short(call.session) + b"\xff\3" + IPV4 + said, other.end, "tunnel")
+        plain.say(CDN, (RESULT_CODE, short(1)), (ASSIGNED_SESSION, short(7)), session=call.session)
+        checks.same("a ZLB answers a CDN, and no CDN", plain.hear(), plain.zlb(2))
+        checks.same("stop is answered after a call", lab.stop(), b"stopping\n")
+        plain.is_told_of_the_stop(checks, "the one whose call ended", 2)
+        status, out, _ = lab.end()
+        checks.same("a run with a call ends well", (status, "drop NoSession 1\n" in out), (0, True))
+        stops = [dict(record.attributes) for record in lab.records]
+        causes = [stop.get(radius.ACCT_TERMINATE_CAUSE) for stop in stops if stop.get(radius.NAS_PORT_ID) == port_id]
+        checks.same("the call has a Start, and a Stop with the cause Lost Carrier", causes, [None, bytes([0, 0, 0, 2])])
 
 
 def keeps_a_silent_tunnel(checks, command, patience):

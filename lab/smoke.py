@@ -12,7 +12,7 @@ from coa import changes_sessions
 from example import reads_the_example
 from gateway import CRATE, PROGRAM, USAGE, Lab, delivery, frame, is_built, packet, report, run, stats, tried, udp
 from habits import keeps_an_operators_habits
-from lac import keeps_a_silent_tunnel, serves_tunnels
+from lac import keeps_a_silent_tunnel, serves_a_call, serves_tunnels
 from logins import authenticates, gives_up_on_a_silent_server
 from leases import leases_addresses
 from metering import meters_profiles
@@ -223,6 +223,7 @@ def try_all(checks):
         forwards_bursts_in_order(checks, built, 10)
         serves_sessions(checks, built, 10)
         serves_tunnels(checks, built, 10)
+        serves_a_call(checks, built, 10)
         authenticates(checks, built, 10)
         gives_up_on_a_silent_server(checks, built, 10)
         leases_addresses(checks, built, 10)

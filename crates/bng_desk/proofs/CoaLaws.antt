@@ -15,7 +15,6 @@ use Rattle.bng_base.specs.declared.item.Loose.{Loose}
 use Rattle.bng_base.specs.declared.outside.Datagram.{Datagram}
 use Rattle.bng_base.specs.declared.outside.Received.TheVariants.{Got}
 use Rattle.bng_base.specs.declared.outside.Role.TheVariants.{Coa}
-use Rattle.bng_base.specs.Chain.{Chain}
 use Rattle.bng_base.specs.FateOf.{Arrival}
 use Rattle.bng_base.specs.Packet.{Packet as Bytes}
 use Rattle.bng_base.specs.Stretch.{ExtendsPlant, PlantStretch, plant_joined}
@@ -34,7 +33,7 @@ use Rattle.bng_engine.proofs.Walks.{same_at}
 use Rattle.bng_shard.specs.declared.changes.Answer.{Answer}
 use Rattle.bng_shard.specs.declared.rules.Rules.{Rules}
 use Rattle.bng_desk.specs.declared.reading.Ended.{Ended}
-use Rattle.bng_desk.specs.Coa.{AdmitsAll, AdmitsOne, AnswersLooseKind, AreLooseAnswers, CoaReplies, CoaReply, CoaSend, Given, GivesAnswer, GivesTo, IsNotInHand, Requested, SettlesCoa, TargetOf, change_in, change_item, change_items, coa_datagram, coa_sends, coa_stretch, has_places, repeat_in, repeats_of, requests_most}
+use Rattle.bng_desk.specs.Coa.{AdmitsAll, AdmitsOne, AnswersLooseKind, AreLooseAnswers, CoaReply, CoaSend, Given, GivesAnswer, IsNotInHand, Requested, TargetOf, change_in, change_item, change_items, coa_datagram, coa_stretch, has_places, repeat_in, repeats_of, requests_most}
 use Rattle.bng_desk.specs.Intake.{AddsRequest, GivesItem, GivesLoose, GivesOne, GivesSome, RepeatsAll, SendsReplies, TakesCoa, TakesRequests}
 use Rattle.bng_desk.specs.Items.{drawn_from, is_change_item, is_change_kind, is_verdict_item, is_verdict_kind}
 use Rattle.bng_desk.specs.Kept.{AreFewAsked, IsAsked, StandsFirst}

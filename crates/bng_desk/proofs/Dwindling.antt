@@ -34,7 +34,7 @@ use Rattle.bng_shard.specs.Link.{Told, admin_reset}
 use Rattle.bng_shard.specs.Made.{Question}
 use Rattle.bng_shard.specs.Passing.{lapsed}
 use Rattle.bng_shard.specs.Protocol.{ShardState, Handled, pppoe, entry_of, sessions_of}
-use Rattle.bng_shard.specs.State.{State, count_in}
+use Rattle.bng_shard.specs.State.{Beside, State, count_in}
 use Rattle.bng_shard.specs.Step.{Hears}
 use Rattle.bng_shard.specs.Timers.{LosesTerm}
 use Rattle.bng_shard.specs.Verdicts.{HearsVerdict, Judges, next_lease, settled_by}
@@ -218,13 +218,13 @@ replaced_count s n x y found =
     omega (arith, sum_by-replaced (λ (z : Session). 1) s.sessions n x y found, ones (values s.sessions), ones (values (with_value s.sessions n y)))
 
 -- a verdict leaves as many
-settled_count : (s : State) (n : ℕ) (x : Session) (q : Question) (t : Told) (moment : ℕ) (y : Session) (asked : ℕ) (address : Option Ip4) → value_at s.sessions n ≡ Some x
-    → count_in (settled_by s n x q t moment y asked address) ≡ count_in s
-settled_count s n x q t moment y asked None found = replaced_count s n x y found
-settled_count s n x q t moment y asked (Some a) found = replaced_count s n x (record y { lease = Some (next_lease s t.plan t.limits moment a) }) found
+settled_count : (s : State) (n : ℕ) (x : Session) (q : Question) (t : Told) (moment : ℕ) (y : Session) (beside : Beside) (address : Option Ip4) → value_at s.sessions n ≡ Some x
+    → count_in (settled_by s n x q t moment y beside address) ≡ count_in s
+settled_count s n x q t moment y beside None found = replaced_count s n x y found
+settled_count s n x q t moment y beside (Some a) found = replaced_count s n x (record y { lease = Some (next_lease s t.plan t.limits moment a) }) found
 
 judged : (s : State) (e : Entry) (d : Deed) (r : Rules) (t : Told) → Judges r s e t d → count_in d.next ≡ count_in s
-judged s e d r t j = ap (λ (x : Deed). count_in x.next) j.done ∙ settled_count s e.item.target j.x j.question t e.moment j.after j.asked t.lease j.found
+judged s e d r t j = ap (λ (x : Deed). count_in x.next) j.done ∙ settled_count s e.item.target j.x j.question t e.moment j.after j.beside t.lease j.found
 
 verdict_leaves_all : (s : ShardState) (h : Handled) → pppoe.is_step s h → h.deed.entry.item.kind ≡ Verdict → sessions_of (pppoe.next s h) ≡ sessions_of s
 verdict_leaves_all s h is kind =
@@ -236,7 +236,7 @@ verdict_leaves_all s h is kind =
 -- and so does a request for a change
 lost_count : (service : Service) (r : Rules) (e : Entry) (s : State) (n : ℕ) (x : Session) (outs : List OutRecord) (s' : State) → value_at s.sessions n ≡ Some x → LosesTerm service admin_reset r e s n x outs s' → count_in s' ≡ count_in s
 lost_count (Provisioned over) r e s n x outs s' found (_, is) = ap count_in is ∙ replaced_count s n x (lapsed x) found
-lost_count (Discovered m) r e s n x outs s' found (after, _, asked, drives, is) = ap count_in is ∙ replaced_count s n x after found
+lost_count (Discovered m) r e s n x outs s' found (after, _, beside, drives, is) = ap count_in is ∙ replaced_count s n x after found
 
 changed_count : (r : Rules) (s : State) (e : Entry) (d : Deed) → Comes r s e d → count_in d.next ≡ count_in s
 changed_count r s e d (inl is) = ap (λ (x : Deed). count_in x.next) is

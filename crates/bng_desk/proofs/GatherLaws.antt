@@ -6,7 +6,6 @@ use Rattle.std.proofs.lemmas.List.Elements.{All-nil, All-cons, All-append, All-m
 use Rattle.std.proofs.lemmas.List.Kept.{AllPairs-filter}
 use Rattle.std.proofs.lemmas.List.Sums.{sum_by-append, sum_by-le}
 use Rattle.bng_base.specs.declared.item.Item.{Item}
-use Rattle.bng_base.specs.declared.item.ItemKind.{ItemKind}
 use Rattle.bng_base.specs.Told.{PlantTold}
 use Rattle.bng_base.proofs.StretchLaws.{plant_more, plant_stays}
 use Rattle.bng_lane.specs.State.{LaneState}
@@ -16,7 +15,7 @@ use Rattle.bng_verdict.specs.declared.question.QuestionNo.{QuestionNo}
 use Rattle.bng_desk.specs.declared.reading.Ended.{Ended}
 use Rattle.bng_desk.specs.Intake.{AddsTimeouts, Gathers, Takes, TakesAuth, TakesReplies}
 use Rattle.bng_desk.specs.Items.{DataReading, drawn_from, taken_items, ticks_of}
-use Rattle.bng_desk.specs.Kept.{AreFewAsked, IsAsked, StandsFirst}
+use Rattle.bng_desk.specs.Kept.{IsAsked, StandsFirst}
 use Rattle.bng_desk.specs.Logins.{Answered, TimesOut, reply_in, reply_items, silence, timeout_items, verdict_item, verdicts_most}
 use Rattle.bng_desk.specs.Random.{Drawn}
 use Rattle.bng_desk.specs.Reading.{is_empty}

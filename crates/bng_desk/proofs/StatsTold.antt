@@ -1,5 +1,5 @@
 -- What Control is told of a desk.
-use Rattle.std.proofs.Common.{◌≡◌, ℕ, ◌*◌, ◌^◌, ◌<◌, ◌≤◌, ◌+◌, List, [], ◌∷◌, length, map, sym, ap, ◌∙◌}
+use Rattle.std.proofs.Common.{◌≡◌, ℕ, ◌*◌, ◌^◌, ◌≤◌, List, [], ◌∷◌, length, map, sym, ap, ◌∙◌}
 use Rattle.std.specs.List.{All, range_with_len}
 use Rattle.bng_base.specs.declared.book.Book.{Book}
 use Rattle.bng_shard.specs.declared.rules.Rules.{Rules}

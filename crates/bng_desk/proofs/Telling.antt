@@ -1,18 +1,16 @@
 -- The shards once all was told that they answered to requests for changes.
-use Rattle.std.proofs.Common.{◌≡◌, ℕ, zero, suc, ◌+◌, ◌≤◌, Bool, List, [], ◌∷◌, ◌++◌, map, length, get_or, append-nil, append_assoc, refl, sym, ap, subst, ◌∙◌, arith}
+use Rattle.std.proofs.Common.{◌≡◌, ℕ, zero, suc, ◌+◌, List, [], ◌∷◌, ◌++◌, map, length, get_or, append-nil, append_assoc, refl, sym, ap, subst, ◌∙◌, arith}
 use Rattle.std.specs.Prelude.{option_to_list}
 use Rattle.std.specs.List.{All, AllByRecursion, AllZip, flat_map}
 use Rattle.std.proofs.lemmas.List.{length-map}
 use Rattle.std.proofs.lemmas.List.Elements.{All-map, recursion_from_All}
 use Rattle.bng_base.specs.declared.book.Book.{Book}
-use Rattle.bng_base.specs.declared.item.Entry.{Entry}
 use Rattle.bng_billing.specs.State.{BillingState}
 use Rattle.bng_engine.specs.Calls.{Kept, Moves}
 use Rattle.bng_engine.specs.Journals.{after}
 use Rattle.bng_engine.specs.Terms.{Key, keys}
 use Rattle.bng_engine.specs.Views.{ShardView}
 use Rattle.bng_engine.proofs.Adding.{sum_map}
-use Rattle.bng_pool.specs.Tables.{Table}
 use Rattle.bng_shard.specs.declared.changes.Answer.{Answer}
 use Rattle.bng_shard.specs.declared.rules.Rules.{Rules}
 use Rattle.bng_shard.specs.Interims.{Reports}

@@ -39,8 +39,8 @@ seen_with d w = with_works d w (map rested w.shards.items)
 abbrev pub kept_with : Desk → Works → Desk
 kept_with d w = with_works d w w.shards.items
 
--- once a turn has gathered its items: accounting, the requests for changes and the lane have heard what came, octets were drawn, and nothing
--- stays
+-- once a turn has gathered its items: accounting, the requests for changes and the lane have heard what came, octets were drawn, and
+-- nothing stays
 abbrev pub gathered : Works → BillingState → CoaState → LaneState → Drawn → Vec Item Global → Lists → Works
 gathered w billing coa lane draws kept lists = record w { accounts = record w.accounts { billing = billing }; coa = coa; lane = lane; draws = draws; kept = kept; lists = lists }
 

@@ -124,9 +124,9 @@ pub record AddsTimeouts (now most : ℕ) (lane lane' : LaneState) (draws draws' 
   pub items_are : items' ≡ items ++ drawn_from draws.seed draws.drawn (timeout_items timed)
   pub draws_are : draws' ≡ record draws { drawn = draws.drawn + length timed }
 
--- What a turn takes while serving beside requests for changes: Auth was read, where it is read, and then the other roles. The items are those
--- that stand first, among which are so many verdicts, and then the replies, what was taken, the questions that are given up and the Ticks
--- that are due, each with its own random octets.
+-- What a turn takes while serving beside requests for changes: Auth was read, where it is read, and then the other roles. The items are
+-- those that stand first, among which are so many verdicts, and then the replies, what was taken, the questions that are given up and the
+-- Ticks that are due, each with its own random octets.
 pub record Gathers (r : Rules) (shards : List Shown) (moment : ℕ) (reads : Bool) (verdicts : ℕ) (front : List Item) (old new : PlantTold) (lane lane' : LaneState) (draws draws' : Drawn) (items : List Item) (quiet : Bool) : Type 0 where
   pub answers : List Answered
   pub auth_end : Option Ended

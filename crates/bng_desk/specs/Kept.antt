@@ -74,12 +74,14 @@ pub record Stays (shards : ℕ) (items : List Item) : Type 0 where
   pub few : AreFewAsked asked
   pub one_each : (ends ≡ []) ⊎ AreEndsOf shards ends
 
--- One port to sixteen, sixteen profiles at most, one shard to 64 in their order, all by the desk's rules, with nothing of a round in them and at most 1,022
--- sessions in each, one seat. Its terms hold their addresses, have numbers that it gave, and have a Start each. No sum is above what the
--- turns so far could add, and none wraps before the last; what was carried with a circuit's address, by Stops and by rows, stands in the
--- seat's tally, and what all Stops and all rows say is exactly that tally; each term that began has its Stop, or has none yet. What stays of a round that was not opened are requests for changes and verdicts, and Ends in the ending alone. All that the shards answered to requests was told. Of each shard there is a list of the
--- questions that it handed out. Each term that is there is live in accounting, no two terms are one, and accounting knows of no term that
--- did not begin. No Interim is due before the moment that is kept for that of its shard.
+-- One port to sixteen, sixteen profiles at most, one shard to 64 in their order, all by the desk's rules, with nothing of a round in them
+-- and at most 1,022 sessions in each, one seat. Its terms hold their addresses, have numbers that it gave, and have a Start each. No sum is
+-- above what the turns so far could add, and none wraps before the last; what was carried with a circuit's address, by Stops and by rows,
+-- stands in the seat's tally, and what all Stops and all rows say is exactly that tally; each term that began has its Stop, or has none
+-- yet. What stays of a round that was not opened are requests for changes and verdicts, and Ends in the ending alone. All that the shards
+-- answered to requests was told. Of each shard there is a list of the questions that it handed out. Each term that is there is live in
+-- accounting, no two terms are one, and accounting knows of no term that did not begin. No Interim is due before the moment that is kept
+-- for that of its shard.
 pub record IsKept (d : Desk) : Type 0 where
   pub some_port : 1 ≤ length d.rules.access
   pub few_ports : length d.rules.access ≤ 16

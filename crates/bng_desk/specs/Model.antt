@@ -29,14 +29,14 @@ use Rattle.bng_desk.specs.Counting.{by_number}
 use Rattle.bng_desk.specs.Reading.{is_empty}
 
 -- By what it serves, the provisioned circuits in the order of the configuration, what the Stops of all terms say that were formed so far,
--- and how many those are, after how many turns it ends serving by itself, how many it made, whether it was told to stop, the shards in the order of their numbers, who holds an address, what each seat passed, the
--- seed and how many times sixteen octets were drawn from it, the drops, the last moment that it was given, and the number of the last
--- round that the trace took, 0 before the first. The lane of the questions that are out at the server, and of each shard which of its
--- questions were handed out. The records that are open at the server of accounting. Of each shard which Interims were taken. The requests for
--- changes that are in hand, and the replies that are kept. Of the ending: how
--- many of its turns were made, how many in a row opened no round, whether one opened a round, and the moment of the last that did, which
--- is that of the opening before the first. How many turns of the grace were made. The items that stay of the last round, where it was not
--- opened.
+-- and how many those are, after how many turns it ends serving by itself, how many it made, whether it was told to stop, the shards in the
+-- order of their numbers, who holds an address, what each seat passed, the seed and how many times sixteen octets were drawn from it, the
+-- drops, the last moment that it was given, and the number of the last round that the trace took, 0 before the first. The lane of the
+-- questions that are out at the server, and of each shard which of its questions were handed out. The records that are open at the server
+-- of accounting. Of each shard which Interims were taken. The requests for changes that are in hand, and the replies that are kept. Of the
+-- ending: how many of its turns were made, how many in a row opened no round, whether one opened a round, and the moment of the last that
+-- did, which is that of the opening before the first. How many turns of the grace were made. The items that stay of the last round, where
+-- it was not opened.
 pub record Desk : Type 0 where
   pub rules : Rules
   pub lines : List Line

@@ -140,9 +140,9 @@ pub record OpensAccounts (rules : BillingRules) (lines : List Line) (reports : L
   pub billed : AreBilled (keys_in shards) a.billing
   pub known : (t : TermId) (h : Held) → of_term t a.billing.spool.held ≡ Some h → AnyOf (λ (k : Key). k.term ≡ t) (keys_in shards)
 
--- Each shard works by the same rules. Each provisioned circuit has its term in the shard of its number and holds its address; there is
--- no session, and nothing has passed. No request for a change is in hand. Of each term a Start was formed, at this moment and this second of the wall, by rising session
--- number.
+-- Each shard works by the same rules. Each provisioned circuit has its term in the shard of its number and holds its address; there is no
+-- session, and nothing has passed. No request for a change is in hand. Of each term a Start was formed, at this moment and this second of
+-- the wall, by rising session number.
 pub record IsOpened (config : Config) (rounds : ℕ) (seed : List ℕ) (now wall : ℕ) (d : Desk) : Type 0 where
   pub rules : Rules
   pub are_rules : AreRules config seed wall rules

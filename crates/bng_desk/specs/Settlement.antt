@@ -68,8 +68,8 @@ pub record IsReady (r : Rules) (named : Named) (lists : Lists) (w : Works) : Typ
   pub few_outs : outs_of_items lists.items.items ≤ 8320 + 320 * length w.shards.items
   pub blank : AreBlank (length w.shards.items) lists
 
--- A round of these items was held, or could not be opened; then the replies to requests for changes were sent, those that are repeated first,
--- then the requests of the lane, and then those of accounting; and the trace was told the round.
+-- A round of these items was held, or could not be opened; then the replies to requests for changes were sent, those that are repeated
+-- first, then the requests of the lane, and then those of accounting; and the trace was told the round.
 pub record Settles (r : Rules) (named : Named) (repeats : List CoaReply) (items : List Item) (w w' : Works) (p p' : PlantTold) (t t' : TraceTold) (s : Settled) : Type 0 where
   pub round : RoundRecord
   pub booked : BillingState

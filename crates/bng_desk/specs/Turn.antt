@@ -39,8 +39,8 @@ use Rattle.bng_verdict.specs.declared.question.QuestionNo.{QuestionNo}
 use Rattle.bng_desk.specs.Items.{DataReading, all_loose, taken_items, ticks_of, ends_of, drawn_from, is_verdict_item, kept_of}
 use Rattle.bng_desk.specs.Logins.{Answered, Requests, Hears, TimesOut, SettlesLane, reply_items, timeout_items, auth_reading, requests_stretch, verdicts_most}
 use Rattle.bng_desk.specs.Model.{Desk, all_stopped, grace_most, has_ended, line_after, plus_book}
-use Rattle.bng_desk.specs.Report.{stats_text}
 use Rattle.bng_desk.specs.Reading.{receives, taken_in, ending_stretch, EndsRight, is_empty}
+use Rattle.bng_desk.specs.Report.{stats_text}
 use Rattle.bng_desk.specs.Round.{Round, IsRound, stops_of, starts_of, terms_in, news_in, handled_states, left_by, drops_in, sends_stretch, record_of, refused_of, refused_record, with_refused}
 
 -- the gateway's end for tunnels, where it has one
@@ -66,12 +66,12 @@ most_of r Coa = 0
 most_of r Control = 0
 
 -- The moments; what was taken from Control and how its reading ended, and so from Acct; what was taken from Coa and how its reading ended,
--- which is None where it was not read, and so from Auth; the readings of the other roles; the questions that were given up; the round, which is None
--- where it could not be opened for want of memory; the replies to requests for changes; the requests that were sent; whether the trace took
--- the round. Of the requests for changes: which are in hand in the end, and which replies are kept. Of the lane: how it
--- stood once it had heard Auth, once the questions were given up, and in the end, with its first deadline, and which questions were
--- handed out then. Of accounting: the records that were formed, the requests that were sent, and how it stood in the end, with its first
--- deadline, and of each shard which Interims were taken then.
+-- which is None where it was not read, and so from Auth; the readings of the other roles; the questions that were given up; the round,
+-- which is None where it could not be opened for want of memory; the replies to requests for changes; the requests that were sent; whether
+-- the trace took the round. Of the requests for changes: which are in hand in the end, and which replies are kept. Of the lane: how it
+-- stood once it had heard Auth, once the questions were given up, and in the end, with its first deadline, and which questions were handed
+-- out then. Of accounting: the records that were formed, the requests that were sent, and how it stood in the end, with its first deadline,
+-- and of each shard which Interims were taken then.
 pub record Turn : Type 0 where
   pub moment : ℕ
   pub wall : ℕ
@@ -123,8 +123,8 @@ pub record IsReading (d : Desk) (t : Turn) : Type 0 where
   pub roles : map (λ r. r.role) t.readings ≡ data_roles d.rules
   pub read : All (λ r. EndsRight (most_of d.rules r.role) (length r.arrivals) r.ended) t.readings
 
--- the items that are new in a turn while serving: those of the new requests, those of the replies, those of the datagrams, the questions that are given up, and
--- then the Ticks that are due
+-- the items that are new in a turn while serving: those of the new requests, those of the replies, those of the datagrams, the questions
+-- that are given up, and then the Ticks that are due
 abbrev pub new_items : Desk → Turn → List Item
 new_items d t = change_items t.requested ++ (reply_items t.answers ++ taken_items t.readings ++ timeout_items t.timed ++ ticks_of t.moment d.shards)
 
@@ -197,8 +197,8 @@ abbrev pub answers_of : Option Round → List Answer
 answers_of None = []
 answers_of (Some round) = shard_answers round.shards
 
--- Requests for changes in a turn while serving: each datagram of Coa is admitted as it is taken, and in the settlement the replies are sent:
--- to each request of the round one, with the verdict of its shard, or of one that is loose that for which it is refused.
+-- Requests for changes in a turn while serving: each datagram of Coa is admitted as it is taken, and in the settlement the replies are
+-- sent: to each request of the round one, with the verdict of its shard, or of one that is loose that for which it is refused.
 pub record CoaTurn (d : Desk) (t : Turn) : Type 0 where
   pub admitted : CoaState
   pub admits : AdmitsAll t.moment t.wall d.coa t.requested admitted
@@ -349,7 +349,8 @@ pub record MakesTurn (d d' : Desk) (o o' : Outside) (result : Turned) : Type 0 w
 -- Ending ----------------------------------------------------------------------------------------------------------------
 
 -- a turn of the ending: its moments, its round of Ends, the replies to requests for changes that stayed, the requests that were sent,
--- whether the trace took the round, which requests for changes are in hand then and which replies are kept, and how the lane stands then, with the questions that were handed out; the records that were formed, their requests, and how accounting stands then, with the Interims
+-- whether the trace took the round, which requests for changes are in hand then and which replies are kept, and how the lane stands then,
+-- with the questions that were handed out; the records that were formed, their requests, and how accounting stands then, with the Interims
 -- that were taken
 pub record EndTurn : Type 0 where
   pub moment : ℕ

@@ -1,8 +1,8 @@
-//! The desk: the one thread that takes what came to the gateway, lets it be handled in the shards, sends what that calls for, and
-//! keeps the sums. A turn reads Control, then the server of accounting, then requests for changes, then the RADIUS server, then the end for tunnels, then the access ports in their order, then
-//! the core. What it took are the items of a round; the shards handle them; the settlement sends what the shards have to send, charges
-//! what was sent, forms the records of the terms that ended, sends the requests to the servers and tells the trace. The contract of
-//! `Desk::turn` says the whole of it over what the outside tells.
+//! The desk: the one thread that takes what came to the gateway, lets it be handled in the shards, sends what that calls for, and keeps the
+//! sums. A turn reads Control, then the server of accounting, then requests for changes, then the RADIUS server, then the end for tunnels,
+//! then the access ports in their order, then the core. What it took are the items of a round; the shards handle them; the settlement sends
+//! what the shards have to send, charges what was sent, forms the records of the terms that ended, sends the requests to the servers and
+//! tells the trace. The contract of `Desk::turn` says the whole of it over what the outside tells.
 #![tactic(auto)]
 
 mod accounts;

@@ -47,8 +47,8 @@ fn begin(shard: &mut Shard, accounts: &mut Accounts, moment: u64, wall: u64)
     }
 }
 
-/// Forms the Starts of the terms that began in a round, of the shards in their order and in each the first in order first, at this moment and
-/// this second on the wall. It is called once the Stops of the round were formed. Each term that is there is live in accounting then.
+/// Forms the Starts of the terms that began in a round, of the shards in their order and in each the first in order first, at this moment
+/// and this second on the wall. It is called once the Stops of the round were formed. Each term that is there is live in accounting then.
 pub(crate) fn begin_all(shards: &mut [Shard], accounts: &mut Accounts, moment: u64, wall: u64)
     requires terms { All (λ v. AreTenures moment v.state.slots) shards.old }
     requires settling { AreSettling (keys_in shards.old) (map key_in (news_in (states_of shards.old))) accounts.old.billing }

@@ -1,5 +1,5 @@
 //! The turns of a desk.
-ghost use Rattle.std.specs.Prelude.{◌≡◌, ◌+◌, ◌≤◌, ◌<◌, ◌^◌, ◌⊎◌, if◌then◌else◌};
+ghost use Rattle.std.specs.Prelude.{◌≡◌, ◌+◌, ◌≤◌, ◌<◌, ◌^◌, ◌⊎◌, ◌&&◌, if◌then◌else◌};
 ghost use Rattle.bng_base.specs.Stretch.{ExtendsPlant};
 ghost use Rattle.bng_base.specs.Told.{TraceTold};
 ghost use Rattle.bng_desk.specs.Model.{state_of, left_of};
@@ -32,6 +32,13 @@ fn answer(noted: bool) -> Turned
     } else {
         Turned::TraceFault
     }
+}
+
+// Whether a turn took nothing, not from Control, from Acct, from Coa nor as an item, and the trace took its round.
+fn took_nothing(control: bool, acct: bool, coa: bool, items: bool, noted: bool) -> bool
+    ensures { result ≡ ((((control && acct) && coa) && items) && noted) }
+{
+    control && acct && coa && items && noted
 }
 
 // Waits at most so long, if the turn took nothing.
@@ -140,9 +147,7 @@ impl Desk {
             lists,
         );
         let asked = earlier(self.works.lane.deadline(), self.works.accounts.deadline());
-        let unasked = both(both(heeding.idle, unacknowledged), front.quiet);
-        let silent = both(unasked, quiet);
-        let idle = both(silent, noted);
+        let idle = took_nothing(heeding.idle, unacknowledged, front.quiet, quiet, noted);
         wait_for_work(plant, idle, self.works.shards.as_slice(), asked, now);
         self.told = told_after(noted, self.told);
         self.turns += 1;
@@ -228,18 +233,18 @@ impl Desk {
         Turned::Ok
     }
 
-    /// One turn. While the desk serves: it reads Control, then Acct, then Coa, then Auth, then the end for tunnels, where there is one, then the
-    /// access ports and then the core, and answers each word from 127.0.0.0/8; each datagram of Acct that acknowledges a record ends it
-    /// (RFC 2866 section 2); each new request for a change (RFC 5176) is an item of a round, each reply to a question is an item of a round, and so is each datagram for a tunnel, of a port and of the
-    /// core, each question that is given up, and a Tick of each shard that has a due deadline; it hands each item to its shard, sends what they have to send, charges each packet that was
-    /// sent to its term, forms a Stop of each term that ended, a Start of each that began and an Interim of each live one of which one is
-    /// due, sends the replies to requests for changes, those that are repeated first, sends the requests that are due again and those of the questions (RFC 2865 section 2.5) and of the records that wait, and
-    /// tells the trace the round; where nothing was taken it waits. Where the
+    /// One turn. While the desk serves: it reads Control, then Acct, then Coa, then Auth, then the end for tunnels, where there is one,
+    /// then the access ports and then the core, and answers each word from 127.0.0.0/8; each datagram of Acct that acknowledges a record
+    /// ends it (RFC 2866 section 2); each new request for a change (RFC 5176) is an item of a round, each reply to a question is an item of
+    /// a round, and so is each datagram for a tunnel, of a port and of the core, each question that is given up, and a Tick of each shard
+    /// that has a due deadline; it hands each item to its shard, sends what they have to send, charges each packet that was sent to its
+    /// term, forms a Stop of each term that ended, a Start of each that began and an Interim of each live one of which one is due, sends
+    /// the replies to requests for changes, those that are repeated first, sends the requests that are due again and those of the questions
+    /// (RFC 2865 section 2.5) and of the records that wait, and tells the trace the round; where nothing was taken it waits. Where the
     /// round could not be opened, its requests for changes and verdicts stand first in the next one, and neither Coa nor Auth is read until
-    /// they were handled. While it ends:
-    /// a round of what stays and of one End for each shard; once no session is left, Starts and Interims are forgotten. In its grace it
-    /// reads Acct, sends the requests that are due again and those of the Stops that wait, and waits where nothing was taken. After each
-    /// turn of the ending or of the grace fewer are left. When all is over it does nothing.
+    /// they were handled. While it ends: a round of what stays and of one End for each shard; once no session is left, Starts and Interims
+    /// are forgotten. In its grace it reads Acct, sends the requests that are due again and those of the Stops that wait, and waits where
+    /// nothing was taken. After each turn of the ending or of the grace fewer are left. When all is over it does nothing.
     pub fn turn<R, P: Plant, C: Clock, T: Trace, G>(
         &mut self,
         _rt: &R,

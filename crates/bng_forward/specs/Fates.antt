@@ -1,9 +1,9 @@
 -- What a datagram of an access port and of the core is, and the fate of the packet that it carries: of a table the first
 -- case that holds, else Forwarded. LinkFailed comes with the packet's send.
-use Rattle.std.specs.Prelude.{◌≡◌, ℕ, ◌-◌, ◌≤◌, true, false, ◌⊎◌, List, [], ◌∷◌, Option, Some, None, slice_get, replicate}
+use Rattle.std.specs.Prelude.{◌≡◌, ℕ, ◌-◌, ◌≤◌, ◌<◌, true, false, ◌⊎◌, List, [], ◌∷◌, Option, Some, None, slice_get, replicate}
 use Rattle.bng_base.specs.declared.address.Ip4.{Ip4}
 use Rattle.bng_base.specs.declared.address.Peer.{Peer}
-use Rattle.bng_base.specs.declared.fate.DropCause.TheVariants.{Malformed, NoSession, NotOpen, Expired, Spoofed, Exceeded}
+use Rattle.bng_base.specs.declared.fate.DropCause.TheVariants.{Malformed, NoSession, NotOpen, Expired, Spoofed, Exceeded, TooBig}
 use Rattle.bng_base.specs.declared.fate.Fate.{Fate}
 use Rattle.bng_base.specs.declared.fate.Fate.TheVariants.{Forwarded}
 use Rattle.bng_base.specs.declared.ipv4.Ipv4.{Ipv4}
@@ -110,6 +110,10 @@ Holders = Ip4 → Option TermView
 abbrev pub HasClosedHolder : Holders → Ipv4 → Type 0
 HasClosedHolder holder v = (view : TermView) × (holder v.dst ≡ Some view) × (view.opened ≡ false)
 
+-- the packet is longer than the MRU of the holder of its destination
+abbrev pub IsTooBig : Holders → Ipv4 → Type 0
+IsTooBig holder v = (view : TermView) × (holder v.dst ≡ Some view) × (view.mru < v.total)
+
 -- the output meter of the holder of the packet's destination marks it Red
 abbrev pub ExceedsOutput : Holders → ℕ → Ipv4 → Type 0
 ExceedsOutput holder now v = (view : TermView) × (holder v.dst ≡ Some view) × IsRed view.output now v.total
@@ -121,6 +125,7 @@ down_cases holder now octets =
     ∷ drops NoSession (HasPacket (λ v. holder v.dst ≡ None) octets)
     ∷ drops NotOpen (HasPacket (HasClosedHolder holder) octets)
     ∷ drops Expired (HasPacket (λ v. v.ttl ≤ 1) octets)
+    ∷ drops TooBig (HasPacket (IsTooBig holder) octets)
     ∷ drops Exceeded (HasPacket (ExceedsOutput holder now) octets)
     ∷ []
 

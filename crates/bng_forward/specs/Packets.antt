@@ -35,13 +35,14 @@ pub record MayPassUp (found : Option (Option TermView)) (now : ℕ) (v : Ipv4) :
   pub source : v.src ≡ view.lease
   pub metered : ¬ (IsRed view.input now v.total)
 
--- A packet that says v may pass at this moment to the term that holds its destination, which is open and whose output
--- meter does not mark it Red.
+-- A packet that says v may pass at this moment to the term that holds its destination, which is open, takes packets of
+-- that length, and whose output meter does not mark it Red.
 pub record MayPassDown (holder : Option TermView) (now : ℕ) (v : Ipv4) : Type 0 where
   pub view : TermView
   pub term : holder ≡ Some view
   pub opened : view.opened ≡ true
   pub alive : 2 ≤ v.ttl
+  pub fits : v.total ≤ view.mru
   pub metered : ¬ (IsRed view.output now v.total)
 
 -- the fate of a packet that passes, or is dropped for this

@@ -38,9 +38,9 @@ pub fn up(found: &mut Option<Option<TermView>>, now: u64, packet: &mut Frame) ->
 }
 
 /// Gives a packet of the core, which was read as this header, its fate at this moment in milliseconds. `holder` is the term
-/// that holds its destination, if there is one. The fate is NoSession, NotOpen, Expired (TTL 0 or 1), Exceeded (the term's
-/// output meter marks it Red, RFC 2697), the first of them that holds, else Forwarded; a packet that cannot be read is
-/// Malformed before. Where it is Forwarded the frame is the packet to send, as `up` makes it, and its tokens are taken of
+/// that holds its destination, if there is one. The fate is NoSession, NotOpen, Expired (TTL 0 or 1), TooBig (longer than
+/// the term's MRU), Exceeded (the term's output meter marks it Red, RFC 2697), the first of them that holds, else Forwarded;
+/// a packet that cannot be read is Malformed before. Where it is Forwarded the frame is the packet to send, as `up` makes it, and its tokens are taken of
 /// the output meter. Else frame and meter are as before.
 pub fn down(holder: &mut Option<TermView>, now: u64, header: Ipv4, packet: &mut Frame) -> Fate
     requires { IsIpv4 header packet.old.payload }

@@ -1,4 +1,4 @@
-ghost use Rattle.std.specs.Prelude.{◌≡◌, ◌≤◌, ℕ, List, Some, true, false, IfOk, IfNone, OnErr, OnSome};
+ghost use Rattle.std.specs.Prelude.{◌≡◌, ◌≤◌, ◌<◌, ℕ, List, Some, true, false, IfOk, IfNone, OnErr, OnSome};
 ghost use mathlib.Core.Logic.{◌↔◌};
 ghost use Rattle.bng_base.specs.Ipv4Grammar.{IsIpv4};
 ghost use Rattle.bng_forward.specs.Meters.{IsRed, spent, with_input, with_output};
@@ -88,6 +88,14 @@ pub(crate) fn from_circuit(
     }
 }
 
+// Whether the subscriber of this term takes a packet of so many octets.
+fn takes(term: &TermView, octets: u16) -> bool
+    ensures long { (result ≡ false) ↔ (term.now.mru < octets) }
+    ensures fits { result ≡ true → octets ≤ term.now.mru }
+{
+    octets <= term.mru
+}
+
 // Why the packet of the core that says this may not pass to this term, which holds its destination. Where it may, its
 // tokens are taken of the term's output meter.
 fn to_term(term: &mut TermView, now: u64, header: Ipv4) -> Option<DropCause>
@@ -102,6 +110,9 @@ fn to_term(term: &mut TermView, now: u64, header: Ipv4) -> Option<DropCause>
     }
     if header.ttl < 2 {
         return Some(DropCause::Expired);
+    }
+    if !takes(term, header.total) {
+        return Some(DropCause::TooBig);
     }
     if !passes(&mut term.output, now, header.total) {
         return Some(DropCause::Exceeded);

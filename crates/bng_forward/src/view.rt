@@ -8,6 +8,8 @@ pub struct TermView {
     pub lease: Ip4,
     /// Packets may pass: LCP and IPCP are Opened. A circuit that was provisioned has no LCP, and counts as Opened.
     pub opened: bool,
+    /// So many octets the longest packet towards the subscriber has: the MRU that it asked for (RFC 1661 section 6.1).
+    pub mru: u16,
     /// The meter of the packets from the subscriber. None is unmetered.
     pub input: Option<Meter>,
     /// The meter of the packets towards the subscriber. None is unmetered.

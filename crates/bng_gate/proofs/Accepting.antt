@@ -4,7 +4,9 @@ use Rattle.std.specs.Prelude.{slice_get}
 use Rattle.std.specs.Option.{option_map, option_and_then}
 use Rattle.std.proofs.lemmas.Option.{none-some}
 use Rattle.bng_base.specs.declared.address.Mac.{Mac}
-use Rattle.bng_base.specs.declared.circuit.Circuit.TheVariants.{Pppoe}
+use Rattle.bng_base.specs.declared.address.Peer.{Peer}
+use Rattle.bng_base.specs.declared.circuit.Circuit.{Circuit}
+use Rattle.bng_base.specs.declared.circuit.Circuit.TheVariants.{Pppoe, L2tp}
 use Rattle.bng_base.specs.declared.item.Entry.{Entry}
 use Rattle.bng_base.specs.declared.item.OutRecord.{OutRecord}
 use Rattle.bng_engine.specs.Views.{ShardView}
@@ -16,13 +18,13 @@ use Rattle.bng_shard.specs.declared.session.Service.{Service}
 use Rattle.bng_shard.specs.declared.session.Service.TheVariants.{Provisioned, Discovered}
 use Rattle.bng_shard.specs.declared.session.Session.{Session}
 use Rattle.bng_shard.specs.Deed.{Deed}
-use Rattle.bng_shard.specs.Granting.{GivesYes, IsSound, IsYesOn, accepted_ask_at, accepted_in}
+use Rattle.bng_shard.specs.Granting.{GivesYes, IsGrantedOn, IsGrantedOver, IsSound, IsYesOn, IsYesOver, accepted_ask_at, accepted_in}
 use Rattle.bng_shard.specs.Protocol.{ShardState, Handled, pppoe}
 use Rattle.bng_shard.specs.Questions.{Asking, asking_of, last_asking, last_asking_at, last_in}
 use Rattle.bng_shard.specs.Serving.{AreOwn}
 use Rattle.bng_shard.specs.State.{State, leaves, settled}
 use Rattle.bng_shard.specs.Step.{Step}
-use Rattle.bng_shard.proofs.GrantLaws.{settled_sound, step_accepted, step_last, step_sound, step_yes}
+use Rattle.bng_shard.proofs.GrantLaws.{settled_sound, step_accepted, step_last, step_sound, step_yes, step_yes_over}
 use Rattle.bng_shard.proofs.QuestionLaws.{step_asks}
 use Rattle.bng_shard.proofs.TermLaws.{step_moves}
 use Rattle.bng_shard.proofs.Values.{kept_from}
@@ -42,11 +44,11 @@ pub record IsTold (held : List Held) (k session ask : ℕ) : Type 0 where
 
 -- the session on this circuit asked last by a question that was answered by a yes in this turn or before it: its link was accepted on
 -- it, or this entry is that yes
-pub record YesCause (held : List Held) (k : ℕ) (s : ShardState) (h : Handled) (port : ℕ) (mac : Mac) (session : ℕ) : Type 0 where
+pub record YesCause (held : List Held) (k : ℕ) (s : ShardState) (h : Handled) (circuit : Circuit) (session : ℕ) : Type 0 where
   pub asking : Asking
   pub last : last_asking_at s.slots session ≡ Some asking
   pub number : asking.number.session.0 ≡ session
-  pub circuit : asking.circuit ≡ Pppoe port mac (record { 0 = session })
+  pub circuit_is : asking.circuit ≡ circuit
   pub told : IsTold held k session asking.number.ask
   pub how : (accepted_ask_at s.slots session ≡ Some asking.number.ask) ⊎ (told.handled ≡ h)
 
@@ -188,17 +190,17 @@ module _ (held : List Held) where
   sure_opening opening last run fresh count =
       at_first held (IsSure held) (sure_kept count) opening last run (λ p v is. sure_first p v.state (fresh p v is))
 
-  told_cause : (k p : ℕ) (s : ShardState) (h : Handled) (i : HandledIn held k s h) → IsSure held k p s → Step s.rules s.slots h.limited h.deed → (o : OutRecord) (port : ℕ) (mac : Mac) (session : ℕ)
-      → Contains h.deed.outs o → IsYesOn port mac session o.role o.frame → YesCause held k s h port mac session
-  told_cause k p s h i sure step o port mac session c tells =
-      let on = step_yes s.rules s.slots h.limited h.deed step sure.sound port mac session o c tells in
+  -- what is granted on a circuit has its cause
+  granted_cause : (k p : ℕ) (s : ShardState) (h : Handled) (i : HandledIn held k s h) → IsSure held k p s → (circuit : Circuit) (session : ℕ)
+      → IsGrantedOn s.slots h.deed.entry circuit session → YesCause held k s h circuit session
+  granted_cause k p s h i sure circuit session on =
       let number = own_number s.slots session on.asking sure.sound.own on.last in
       elim on.granted [
         | inl before ↦ record {
           asking = on.asking;
           last = on.last;
           number = number;
-          circuit = on.circuit;
+          circuit_is = on.circuit_is;
           told = sure.told session on.asking.number.ask before;
           how = inl before;
         }
@@ -206,17 +208,28 @@ module _ (held : List Held) where
           asking = on.asking;
           last = on.last;
           number = number;
-          circuit = on.circuit;
+          circuit_is = on.circuit_is;
           told = record { turn = k; before = same; state = s; handled = h; at = i; yes = now.0 };
           how = inr refl;
         }
       ]
 
--- each yes has its cause
-pub yes_has_cause : (opening last : Desk) (held : List Held) → HeldRun opening held last → AreFresh opening.shards → HasCount held
-    → (k : ℕ) (s : ShardState) (h : Handled) (o : OutRecord) (port : ℕ) (mac : Mac) (session : ℕ) → HandledIn held k s h
-    → Contains h.deed.outs o → IsYesOn port mac session o.role o.frame → YesCause held k s h port mac session
-yes_has_cause opening last held run fresh count k s h o port mac session i c tells =
-    let le : 0 ≤ k = omega arith in
-    let there = reached held (IsSure held) (sure_kept held count) opening last run 0 k le (sure_opening held opening last run fresh count) s h i in
-    told_cause held k i.place s h i there.0 there.1 o port mac session c tells
+module _ (opening last : Desk) (held : List Held) (run : HeldRun opening held last) (fresh : AreFresh opening.shards) (count : HasCount held) (k : ℕ) (s : ShardState) (h : Handled) (i : HandledIn held k s h) where
+  -- the state in which an entry is handled, and the step by it
+  sure_step : IsSure held k i.place s × Step s.rules s.slots h.limited h.deed
+  sure_step =
+      let le : 0 ≤ k = omega arith in
+      reached held (IsSure held) (sure_kept held count) opening last run 0 k le (sure_opening held opening last run fresh count) s h i
+
+  -- each yes on an access port has its cause
+  pub yes_has_cause : (o : OutRecord) (port : ℕ) (mac : Mac) (session : ℕ) → Contains h.deed.outs o → IsYesOn port mac session o.role o.frame → YesCause held k s h (Pppoe port mac (record { 0 = session })) session
+  yes_has_cause o port mac session c tells =
+      granted_cause held k i.place s h i sure_step.0 (Pppoe port mac (record { 0 = session })) session (step_yes s.rules s.slots h.limited h.deed sure_step.1 sure_step.0.sound port mac session o c tells)
+
+  -- each yes to the peer of a tunnel is that of one of its calls
+  pub yes_is_over : (o : OutRecord) → Contains h.deed.outs o → IsYesOver o.role o.frame → IsGrantedOver s.slots h.deed.entry o.to o.frame
+  yes_is_over o c tells = step_yes_over s.rules s.slots h.limited h.deed sure_step.1 sure_step.0.sound o c tells
+
+  -- and has its cause
+  pub over_has_cause : (to : Peer) (octets : List ℕ) (over : IsGrantedOver s.slots h.deed.entry to octets) → YesCause held k s h (L2tp to over.called.tunnel over.session) over.session.0
+  over_has_cause to octets over = granted_cause held k i.place s h i sure_step.0 (L2tp to over.called.tunnel over.session) over.session.0 over.granted

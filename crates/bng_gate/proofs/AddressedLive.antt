@@ -34,14 +34,14 @@ begun ts = flat_map (λ (t : ShardTurn Handled). t.settlement.starts) ts
 
 -- one of a first part or of a second, each with more before it or behind it
 module _ {X : Type 0} (P : X → Type 0) (us vs xs ys : List X) where
-  any_inner : AnyOf P (us ++ vs) → AnyOf P ((us ++ xs) ++ (vs ++ ys))
+  pub any_inner : AnyOf P (us ++ vs) → AnyOf P ((us ++ xs) ++ (vs ++ ys))
   any_inner h =
       ⊎_elim
       (λ (i : AnyOf P us). any_left P (us ++ xs) (vs ++ ys) (any_left P us xs i))
       (λ (i : AnyOf P vs). any_right P (us ++ xs) (vs ++ ys) (any_left P vs ys i))
       (any_either P us vs h)
 
-  any_outer : AnyOf P (xs ++ ys) → AnyOf P ((us ++ xs) ++ (vs ++ ys))
+  pub any_outer : AnyOf P (xs ++ ys) → AnyOf P ((us ++ xs) ++ (vs ++ ys))
   any_outer h =
       ⊎_elim
       (λ (i : AnyOf P xs). any_left P (us ++ xs) (vs ++ ys) (any_right P us xs i))
@@ -98,7 +98,7 @@ next_live (h ∷ hs) (t ∷ ts) (h' ∷ hs') next =
 next_live hs ts hs' next = absurd next
 
 -- then those that are live are all that are there
-all_kept : (ts : List Term) → AllByRecursion IsLive ts → filter is_live ts ≡ ts
+pub all_kept : (ts : List Term) → AllByRecursion IsLive ts → filter is_live ts ≡ ts
 all_kept [] live = refl
 all_kept (t ∷ ts) live =
     let rest = filter is_live ts in

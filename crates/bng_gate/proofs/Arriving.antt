@@ -1,11 +1,10 @@
--- An entry of an access port that a shard handled is a datagram that the turn took there.
+-- An entry of an access port or of the end for tunnels that a shard handled is a datagram that the turn took there.
 use Rattle.std.proofs.Common.{◌≡◌, inl, inr, ℕ, Bool, true, false, cond, List, [], ◌∷◌, ◌++◌, Option, Some, None, Contains, map, length, slice_get, refl, sym, ap, subst, ◌∙◌, arith}
 use Rattle.std.specs.List.{All, AllByRecursion, flat_map}
 use Rattle.std.specs.Option.{option_map}
 use Rattle.std.proofs.lemmas.Bool.{false≢true}
 use Rattle.std.proofs.lemmas.List.Elements.{All-append, All-cons, All-from_recursion, All-map, All-nil, All-weaker, Contains-append_left, Contains-append_right}
 use Rattle.bng_base.specs.declared.item.Item.{Item}
-use Rattle.bng_base.specs.declared.item.ItemKind.{ItemKind}
 use Rattle.bng_base.specs.declared.item.ItemKind.TheVariants as kind
 use Rattle.bng_base.specs.declared.outside.Datagram.{Datagram}
 use Rattle.bng_base.specs.declared.outside.Role.{Role}
@@ -35,16 +34,20 @@ use Rattle.bng_gate.proofs.Verdicts.{kept_after, of_made, of_end}
 abbrev pub on_port : ℕ → Item → Datagram
 on_port port i = record { role = Access port; peer = i.from; octets = i.frame.payload }
 
--- where the item is of an access port, its datagram is among these
-abbrev IsAmong : List Datagram → Item → Type 0
-IsAmong taken i = (port : ℕ) → i.kind ≡ kind.Access port → Contains taken (on_port port i)
+-- the datagram that an item of the end for tunnels is
+abbrev pub over_tunnel : Item → Datagram
+over_tunnel i = record { role = Tunnel; peer = i.from; octets = i.frame.payload }
 
--- the item is of no access port
+-- where the item is of an access port or of the end for tunnels, its datagram is among these
+abbrev IsAmong : List Datagram → Item → Type 0
+IsAmong taken i = ((port : ℕ) → i.kind ≡ kind.Access port → Contains taken (on_port port i)) × (i.kind ≡ kind.Tunnel → Contains taken (over_tunnel i))
+
+-- the item is of neither
 abbrev IsElse : Item → Type 0
-IsElse i = (port : ℕ) → i.kind ≡ kind.Access port → ⊥
+IsElse i = ((port : ℕ) → i.kind ≡ kind.Access port → ⊥) × (i.kind ≡ kind.Tunnel → ⊥)
 
 else_among : (taken : List Datagram) (i : Item) → IsElse i → IsAmong taken i
-else_among taken i else port e = absurd (else port e)
+else_among taken i else = (λ port e. absurd (else.0 port e), λ e. absurd (else.1 e))
 
 -- What was taken ----------------------------------------------------------------------------------------------------------
 
@@ -57,19 +60,30 @@ role_of Acct port e = absurd cc
 role_of Coa port e = absurd cc
 role_of Control port e = absurd cc
 
+tunnel_of : (role : Role) → kind_of role ≡ kind.Tunnel → role ≡ Tunnel
+tunnel_of (Access number) e = absurd cc
+tunnel_of Core e = absurd cc
+tunnel_of Tunnel e = refl
+tunnel_of Auth e = absurd cc
+tunnel_of Acct e = absurd cc
+tunnel_of Coa e = absurd cc
+tunnel_of Control e = absurd cc
+
 among_left : (xs ys : List Datagram) (i : Item) → IsAmong xs i → IsAmong (xs ++ ys) i
-among_left xs ys i h port e = Contains-append_left xs ys (on_port port i) (h port e)
+among_left xs ys i h = (λ port e. Contains-append_left xs ys (on_port port i) (h.0 port e), λ e. Contains-append_left xs ys (over_tunnel i) (h.1 e))
 
 among_right : (xs ys : List Datagram) (i : Item) → IsAmong ys i → IsAmong (xs ++ ys) i
-among_right xs ys i h port e = Contains-append_right xs ys (on_port port i) (h port e)
+among_right xs ys i h = (λ port e. Contains-append_right xs ys (on_port port i) (h.0 port e), λ e. Contains-append_right xs ys (over_tunnel i) (h.1 e))
 
 reading_among : (role : Role) (arrivals : List Arrival) → All (IsAmong (taken_in role arrivals)) (map (arrived role) arrivals)
 reading_among role [] = All-nil (IsAmong (taken_in role []))
 reading_among role (a ∷ arrivals) =
     let here : Datagram = record { role = role; peer = a.from; octets = a.octets } in
     let rest = taken_in role arrivals in
-    All-cons (IsAmong (here ∷ rest)) (arrived role a) (map (arrived role) arrivals)
-    (λ port e. (0, omega arith, ap (λ (r : Role). record { role = r; peer = a.from; octets = a.octets }) (role_of role port e)))
+    All-cons (IsAmong (here ∷ rest)) (arrived role a) (map (arrived role) arrivals) (
+      λ port e. (0, omega arith, ap (λ (r : Role). record { role = r; peer = a.from; octets = a.octets }) (role_of role port e)),
+      λ e. (0, omega arith, ap (λ (r : Role). record { role = r; peer = a.from; octets = a.octets }) (tunnel_of role e)),
+    )
     (All-weaker (IsAmong rest) (IsAmong (here ∷ rest)) (among_right (here ∷ []) rest) (map (arrived role) arrivals) (reading_among role arrivals))
 
 abbrev taken_of : List DataReading → List Datagram
@@ -88,12 +102,9 @@ taken_among (r ∷ readings) =
 
 -- What else there is in a turn --------------------------------------------------------------------------------------------
 
-other_kind : (i : Item) (k : ItemKind) → i.kind ≡ k → ((port : ℕ) → k ≡ kind.Access port → ⊥) → IsElse i
-other_kind i k is other port e = other port (sym is ∙ e)
-
 -- what stays of a round
 stays_else : (i : Item) → stays i.kind ≡ true → IsElse i
-stays_else i h port e = false≢true (ap stays (sym e) ∙ h)
+stays_else i h = (λ port e. false≢true (ap stays (sym e) ∙ h), λ e. false≢true (ap stays (sym e) ∙ h))
 
 kept_else : (items : List Item) → AllByRecursion IsElse (kept_of items)
 kept_else [] = tt
@@ -108,7 +119,7 @@ changes_else [] = All-nil IsElse
 changes_else (q ∷ requested) = All-append IsElse (change_in q.arrival q.admitted q.target) (change_items requested) (one q.admitted) (changes_else requested)
   where
     one : (admitted : Admitted) → All IsElse (change_in q.arrival admitted q.target)
-    one (New number) = All-cons IsElse (change_item q.arrival number q.target) [] (λ port e. absurd cc) (All-nil IsElse)
+    one (New number) = All-cons IsElse (change_item q.arrival number q.target) [] (λ port e. absurd cc, λ e. absurd cc) (All-nil IsElse)
     one (Repeat frame) = All-nil IsElse
     one InHand = All-nil IsElse
     one (Ignored cause) = All-nil IsElse
@@ -119,16 +130,16 @@ replies_else (x ∷ answers) = All-append IsElse (reply_in x.arrival x.found) (r
   where
     one : (found : Option QuestionNo) → All IsElse (reply_in x.arrival found)
     one None = All-nil IsElse
-    one (Some q) = All-cons IsElse (verdict_item x.arrival q) [] (λ port e. absurd cc) (All-nil IsElse)
+    one (Some q) = All-cons IsElse (verdict_item x.arrival q) [] (λ port e. absurd cc, λ e. absurd cc) (All-nil IsElse)
 
 timeouts_else : (timed : List QuestionNo) → All IsElse (timeout_items timed)
-timeouts_else timed = All-map IsElse (verdict_item silence) timed (λ n d lt port e. absurd cc)
+timeouts_else timed = All-map IsElse (verdict_item silence) timed (λ n d lt. (λ port e. absurd cc, λ e. absurd cc))
 
 ticks_else : (d : Desk) (moment : ℕ) → All IsElse (ticks_of moment d.shards)
-ticks_else d moment = all_due IsElse (λ shard port e. absurd cc) moment d.shards
+ticks_else d moment = all_due IsElse (λ shard. (λ port e. absurd cc, λ e. absurd cc)) moment d.shards
 
 ends_else : (n : ℕ) → All IsElse (ends_of n)
-ends_else n = all_ends IsElse (λ shard port e. absurd cc) n
+ends_else n = all_ends IsElse (λ shard. (λ port e. absurd cc, λ e. absurd cc)) n
 
 -- the items of a turn of serving
 items_among : (d : Desk) (t : Turn) → All IsElse d.kept → All (IsAmong (taken_of t.readings)) (items_of d t)
@@ -216,6 +227,13 @@ module _ (opening over last : Desk) (turns : List Made) (endings : List MadeEnd)
   pub taken_then : (k : ℕ) (s : ShardState) (h : Handled) → HandledIn (held_of turns endings) k s h → (port : ℕ) → h.deed.entry.item.kind ≡ kind.Access port
       → Contains (stage_at (stages_of turns endings) k).taken (on_port port h.deed.entry.item)
   taken_then k s h x port is = elim (in_both of_made of_end turns endings k x.turn x.at) [
-    | inl f ↦ serving k s h x f port is
-    | inr e ↦ absurd (in_ending k s h x e port is)
+    | inl f ↦ (serving k s h x f).0 port is
+    | inr e ↦ absurd ((in_ending k s h x e).0 port is)
+  ]
+
+  pub taken_over : (k : ℕ) (s : ShardState) (h : Handled) → HandledIn (held_of turns endings) k s h → h.deed.entry.item.kind ≡ kind.Tunnel
+      → Contains (stage_at (stages_of turns endings) k).taken (over_tunnel h.deed.entry.item)
+  taken_over k s h x is = elim (in_both of_made of_end turns endings k x.turn x.at) [
+    | inl f ↦ (serving k s h x f).1 is
+    | inr e ↦ absurd ((in_ending k s h x e).1 is)
   ]

@@ -1,7 +1,7 @@
 -- The headline of a run, from its turns.
 use Rattle.std.proofs.Common.{◌≡◌, ◌⊎◌, inl, inr, ℕ, Bool, List, [], ◌∷◌, length, map, Option, refl, sym, ap, subst, ◌∙◌, arith}
 use Rattle.std.specs.Prelude.{◌↔◌, zip}
-use Rattle.std.specs.List.{All, AllByRecursion, AllZip, Contains, sum_by}
+use Rattle.std.specs.List.{AllByRecursion, AllZip, Contains, sum_by}
 use Rattle.bng_base.specs.declared.book.Book.{Book}
 use Rattle.bng_base.specs.declared.book.Profile.{Profile}
 use Rattle.bng_base.specs.declared.outside.Datagram.{Datagram}
@@ -22,6 +22,7 @@ use Rattle.bng_engine.specs.Sums.{is_any}
 use Rattle.bng_engine.specs.Terms.{Key}
 use Rattle.bng_engine.specs.Views.{DeskView, ShardView, rows_where}
 use Rattle.bng_engine.specs.Wire.{went}
+use Rattle.bng_engine.proofs.Everywhere.{all_weaker}
 use Rattle.bng_engine.proofs.Openings.{opening_accounted}
 use Rattle.bng_engine.proofs.Runs.{books_account, rounds_are_right, run_conserves_at, rows_account, rows_account_on_wire}
 use Rattle.bng_engine.proofs.Turns.{balanced}
@@ -40,14 +41,14 @@ use Rattle.bng_desk.specs.Report.{report_text}
 use Rattle.bng_desk.specs.Round.{view_of, views_of}
 use Rattle.bng_gate.specs.declared.texts.Refusal.{Refusal}
 use Rattle.bng_gate.specs.declared.texts.Refusal.TheVariants.{Usage, Refused, CannotOpen, OutOfMemory, TraceFailed, OutputFailed}
-use Rattle.bng_gate.specs.Granted.{Granted, stages_of}
+use Rattle.bng_gate.specs.Granted.{Granted, held_of, stages_of}
 use Rattle.bng_gate.specs.Recorded.{Recorded, formed_of}
 use Rattle.bng_gate.specs.Replied.{AreReplied}
 use Rattle.bng_gate.specs.Reported.{ReportsLive}
 use Rattle.bng_gate.specs.Unanswered.{unanswered_of, NamesStops}
 use Rattle.bng_gate.specs.Headline.{AreStopped, HaveTerms, calls_in_run, Headline, AddsUpTo, IsSafe, IsQuiet, StopsAccount, WasSafe, all_profile_traffic, all_terms_of, all_traffic, terms_of_run, total_in}
 use Rattle.bng_gate.specs.Rounds.{rounds_in, rounds_of, plant_of, on_data, drops_of_run}
-use Rattle.bng_gate.specs.Unchanged.{NothingIsInvented}
+use Rattle.bng_gate.specs.Unchanged.{NothingIsInvented, lived_in}
 use Rattle.bng_gate.specs.Run.{World, turns_most, outside, Prepares, Course, Runs, report_of, IsReady, IsUntouched, WantsToServe, Why, IsUnwritten, RunEnds}
 use Rattle.bng_gate.proofs.AddressedLive.{live_addressed}
 use Rattle.bng_gate.proofs.Addressing.{all_addressed}
@@ -56,13 +57,15 @@ use Rattle.bng_gate.proofs.Changing.{changed_of}
 use Rattle.bng_gate.proofs.Drops.{all_dropped}
 use Rattle.bng_gate.proofs.Follows.{Follows, run_follows}
 use Rattle.bng_gate.proofs.Going.{Shows, balanced_left, books_left, rows_left, shows, stands_itself, wire_left}
-use Rattle.bng_gate.proofs.Invented.{HaveRules, nothing_invented, opened_rules, stages_invent_nothing}
+use Rattle.bng_gate.proofs.Invented.{AllWork, nothing_invented, opened_works, stages_invent_nothing}
 use Rattle.bng_gate.proofs.Keys.{IsOurs}
 use Rattle.bng_gate.proofs.Leaving.{HasNoRows, HasNoTerms, IsEmpty, all_stopped, ended_empty, rows_gone, rows_say_none, shards_say_none, terms_gone}
 use Rattle.bng_gate.proofs.Lines.{lines_gone, one_worker, report_told, rules_gone, stopped_gone, tallies_gone}
+use Rattle.bng_gate.proofs.Lived.{IsLiveDesk, opened_live}
 use Rattle.bng_gate.proofs.LoginsGranted.{logins_granted}
 use Rattle.bng_gate.proofs.Openings.{opens}
 use Rattle.bng_gate.proofs.Owning.{sends_ours}
+use Rattle.bng_gate.proofs.Passing.{IsKnown}
 use Rattle.bng_gate.proofs.Recording.{Said, all_said, recorded_of}
 use Rattle.bng_gate.proofs.Reporting.{GoesLive, reports_go_on}
 use Rattle.bng_gate.proofs.Replying.{replies_of}
@@ -138,9 +141,15 @@ module _ (text : List ℕ) (config : Config) (read : IsRead text config) (seed :
   ours : AllByRecursion (IsOurs (Contains (all_terms_of config rounds))) (sends_of rounds)
   ours = sends_ours (nothing_yet start) goes.history rounds (terms_of_run config rounds) goes.run terms accounted.fine.sound
 
-  -- the shards work by the rules of the configuration, which they had at the opening
-  have_rules : HaveRules r (nothing_yet start).shards
-  have_rules = subst (λ (vs : List (ShardView ShardState Handled)). HaveRules r (map new_history vs)) (sym shards_are) (opened_rules config r now)
+  -- the shards work by the rules of the configuration, which they had at the opening, and are sound
+  works : AllWork r (nothing_yet start).shards
+  works = subst (λ (vs : List (ShardView ShardState Handled)). AllWork r (map new_history vs)) (sym shards_are) (opened_works config rules r now)
+
+  live : IsLiveDesk course.opening
+  live = opened_live course.opening.shards start_opens.new
+
+  known : AllByRecursion (IsKnown (all_terms_of config rounds)) (sends_of rounds)
+  known = all_weaker (IsOurs (Contains (all_terms_of config rounds))) (IsKnown (all_terms_of config rounds)) (λ o is. is.known) (sends_of rounds) ours
 
   right : Chain (RightRound pppoe) (nothing_yet start) rounds goes.history
   right = rounds_are_right pppoe pppoe_laws start rounds goes.history run_from
@@ -148,15 +157,15 @@ module _ (text : List ℕ) (config : Config) (read : IsRead text config) (seed :
   none_kept : course.opening.kept ≡ []
   none_kept = ap (λ (d : Desk). d.kept) course.begins.is_opened.desk
 
-  invented_in_stages : All (λ s. NothingIsInvented config s.taken s.sent) (stages_of course.turns course.endings)
+  invented_in_stages : AllZip (λ s h. NothingIsInvented config (lived_in h) s.taken s.sent) (stages_of course.turns course.endings) (held_of course.turns course.endings)
   invented_in_stages =
       stages_invent_nothing config r course.begins.is_opened.are_rules.access course.begins.is_opened.are_rules.core_peer course.opening course.over course.last course.turns course.endings course.run course.ending
-      none_kept have_rules goes.history right
+      none_kept live works goes.history right (all_terms_of config rounds) known
 
-  invented : NothingIsInvented config (plant_of course.turns course.endings).taken (plant_of course.turns course.endings).sent
+  invented : NothingIsInvented config (all_terms_of config rounds) (plant_of course.turns course.endings).taken (plant_of course.turns course.endings).sent
   invented =
       nothing_invented config r course.begins.is_opened.are_rules.access course.begins.is_opened.are_rules.core_peer course.opening course.over course.last course.turns course.endings course.run course.ending
-      none_kept have_rules goes.history right (plant_of course.turns course.endings).taken (plant_of course.turns course.endings).sent
+      none_kept live works goes.history right (all_terms_of config rounds) known (plant_of course.turns course.endings).taken (plant_of course.turns course.endings).sent
       (stages_taken course.opening course.over course.turns course.endings course.run) (sent_are course.turns course.endings)
 
   lines : course.last.lines ≡ map (line_after (stops_of rounds)) (map line_of config.statics)

@@ -59,7 +59,10 @@ pub mod Traffic
 pub mod Under
 pub mod Drops
 pub mod Arising
+pub mod Ways
 pub mod Passing
+pub mod Lived
 pub mod PassingOn
+pub mod Silent
 pub mod Invented
 pub mod Headlines

@@ -6,6 +6,8 @@ use Rattle.std.proofs.lemmas.Bool.{false≢true}
 use Rattle.std.proofs.lemmas.List.Concat.{flat_map-append}
 use Rattle.std.proofs.lemmas.List.Elements.{filter-append}
 use Rattle.bng_base.specs.declared.address.Peer.{Peer}
+use Rattle.bng_base.specs.declared.circuit.Circuit.{Circuit}
+use Rattle.bng_base.specs.declared.circuit.Circuit.TheVariants.{Pppoe, L2tp}
 use Rattle.bng_base.specs.declared.item.Charge.{Charge}
 use Rattle.bng_base.specs.declared.item.OutRecord.{OutRecord}
 use Rattle.bng_base.specs.declared.outside.Datagram.{Datagram}
@@ -17,7 +19,7 @@ use Rattle.bng_engine.specs.Terms.{Key}
 use Rattle.bng_engine.specs.Wire.{datagram_of, went}
 use Rattle.bng_engine.proofs.Everywhere.{all_weaker}
 use Rattle.bng_lane.specs.Sends.{LaneSend}
-use Rattle.bng_shard.specs.Reader.{is_tunnel, IsInDirection, IsNoPacket}
+use Rattle.bng_shard.specs.Reader.{is_tunnel, IsInDirection, IsNoPacket, IsOutputOn}
 use Rattle.bng_desk.specs.Accounting.{record_datagram, record_sends}
 use Rattle.bng_desk.specs.Coa.{CoaReplies, CoaSend, coa_datagram, coa_sends}
 use Rattle.bng_desk.specs.Control.{Heeded, reply, is_answered}
@@ -46,17 +48,21 @@ no_way_coa Acct e = absurd (false≢true e)
 no_way_coa Coa e = absurd (false≢true e)
 no_way_coa Control e = absurd (false≢true e)
 
-directed_beside : (b : Bool) (c : Charge) (role : Role) (octets : List ℕ) → IsInDirection b c role octets → is_coa role ≡ false
-directed_beside true c role octets h = ap is_coa h.role_is
-directed_beside false c role octets h = ap is_coa h.role_is
+circuit_beside : (k : Circuit) (c : Charge) (role : Role) (to : Peer) (octets : List ℕ) → IsOutputOn k c role to octets → is_coa role ≡ false
+circuit_beside (Pppoe port mac session) c role to octets h = ap is_coa h.role_is
+circuit_beside (L2tp peer tunnel session) c role to octets h = ap is_coa h.role_is
 
-whole_beside : (role : Role) (octets : List ℕ) (charge : Option Charge) → MatchOption charge (IsNoPacket role octets) (λ c. IsInDirection c.input c role octets) → is_coa role ≡ false
-whole_beside role octets None h = no_way_coa role h.on_way
-whole_beside role octets (Some c) h = directed_beside c.input c role octets h
+directed_beside : (b : Bool) (c : Charge) (role : Role) (to : Peer) (octets : List ℕ) → IsInDirection b c role to octets → is_coa role ≡ false
+directed_beside true c role to octets h = ap is_coa h.role_is
+directed_beside false c role to octets h = circuit_beside c.circuit c role to octets h
+
+whole_beside : (role : Role) (to : Peer) (octets : List ℕ) (charge : Option Charge) → MatchOption charge (IsNoPacket role octets) (λ c. IsInDirection c.input c role to octets) → is_coa role ≡ false
+whole_beside role to octets None h = no_way_coa role h.on_way
+whole_beside role to octets (Some c) h = directed_beside c.input c role to octets h
 
 -- each is of another role
 pub all_beside_coa : (Q : Key → Type 0) (os : List OutRecord) → AllByRecursion (IsOurs Q) os → AllByRecursion IsBesideCoa os
-all_beside_coa Q os ours = all_weaker (IsOurs Q) IsBesideCoa (λ o is. whole_beside o.role o.frame o.charge is.whole) os ours
+all_beside_coa Q os ours = all_weaker (IsOurs Q) IsBesideCoa (λ o is. whole_beside o.role o.to o.frame o.charge is.whole) os ours
 
 went_beside : (os : List OutRecord) → AllByRecursion IsBesideCoa os → on_coa (went os) ≡ []
 went_beside [] h = refl

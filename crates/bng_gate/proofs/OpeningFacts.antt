@@ -114,7 +114,7 @@ module _ (config : Config) (kept : KeepsRules config) (r : Rules) (now : ℕ) wh
   abbrev shard_at : ℕ → ShardView ShardState Entry
   shard_at n = opened n r (statics_of config n) now
 
-  fresh : (n : ℕ) → n < config.shards → IsNewShard r n (shard_at n)
+  pub fresh : (n : ℕ) → n < config.shards → IsNewShard r n (shard_at n)
   fresh n low =
       let cs = statics_of config n in
       let apart = AllPairs-filter (λ a b. a.session ≡ b.session → ⊥) (λ c. eqb (shard_of c) n) config.statics kept.sessions in

@@ -1,12 +1,15 @@
 -- What a shard sends of packets for an entry is the packet of the entry's datagram.
-use Rattle.std.proofs.Common.{◌≡◌, ◌⊎◌, inl, inr, ℕ, ◌-◌, ◌≤◌, Bool, true, false, cond, not, ◌&&◌, List, [], ◌∷◌, map, filter, length, take, drop, slice_get, slice_range, Option, Some, None, refl, sym, ap, subst, ◌∙◌, arith, length-take, length-drop}
+use Rattle.std.proofs.Common.{◌≡◌, ◌⊎◌, inl, inr, ℕ, ◌-◌, ◌≤◌, Bool, true, false, cond, not, ◌&&◌, List, [], ◌∷◌, map, filter, length, take, drop, slice_get, slice_range, Contains, Option, Some, None, IfSome, refl, sym, ap, subst, ◌∙◌, arith, length-take, length-drop}
 use Rattle.std.specs.Prelude.{◌==◌}
+use Rattle.std.specs.List.{AllByRecursion}
 use Rattle.std.specs.Option.{option_map_or}
 use Rattle.std.proofs.lemmas.Bool.{eqb-true, false≢true}
 use Rattle.std.proofs.lemmas.Bool.Decides.{nat_tests}
 use Rattle.bng_base.specs.declared.address.Ip4.{Ip4}
 use Rattle.bng_base.specs.declared.address.Mac.{Mac}
 use Rattle.bng_base.specs.declared.address.Peer.{Peer}
+use Rattle.bng_base.specs.declared.address.SessionNo.{SessionNo}
+use Rattle.bng_base.specs.declared.circuit.Circuit.TheVariants.{Pppoe, L2tp}
 use Rattle.bng_base.specs.declared.fate.Fate.{Fate}
 use Rattle.bng_base.specs.declared.fate.Fate.TheVariants.{Forwarded}
 use Rattle.bng_base.specs.declared.ipv4.Ipv4.{Ipv4}
@@ -16,6 +19,7 @@ use Rattle.bng_base.specs.declared.item.ItemKind.{ItemKind}
 use Rattle.bng_base.specs.declared.item.ItemKind.TheVariants as kind
 use Rattle.bng_base.specs.declared.item.OutRecord.{OutRecord}
 use Rattle.bng_base.specs.declared.outside.Datagram.{Datagram}
+use Rattle.bng_base.specs.declared.outside.Role.{Role}
 use Rattle.bng_base.specs.declared.outside.Role.TheVariants.{Access, Core, Tunnel}
 use Rattle.bng_base.specs.declared.settings.AccessPort.{AccessPort}
 use Rattle.bng_base.specs.Ipv4Grammar.{IsIpv4}
@@ -23,26 +27,37 @@ use Rattle.bng_base.specs.PppoeGrammar.{PppoeFrame, PppoeTag, pppoe_text}
 use Rattle.bng_discovery.specs.declared.answers.Answer.{Answer}
 use Rattle.bng_discovery.specs.declared.answers.Answer.TheVariants.{Offer, Make, Again, Refuse, Ended, NoSession, Ignore}
 use Rattle.bng_discovery.specs.declared.port.PortRules.{PortRules}
+use Rattle.bng_engine.specs.Terms.{Key, key_in}
 use Rattle.bng_engine.specs.Wire.{WirePacket, datagram_of, is_from, is_to}
 use Rattle.bng_forward.specs.Fates.{Carries, Found, Holders, IsCorePacket, IsFrame, IsPort, UpFate, DownFate}
 use Rattle.bng_forward.specs.Framed.{IsFrameTo, circuit_frame, session_frame}
 use Rattle.bng_forward.specs.Packets.{IsPassedOn}
-use Rattle.bng_l2tp_wire.specs.Messages.{ControlMessage}
+use Rattle.bng_l2tp_call.specs.Steps.{to_peer}
+use Rattle.bng_l2tp_tunnel.specs.View.{Said}
+use Rattle.bng_l2tp_wire.specs.Messages.{ControlMessage, DataMessage}
+use Rattle.bng_lns.specs.Datagrams.{CarriesOver, IsDataIn}
+use Rattle.bng_lns.specs.Framed.{IsCallFrameTo, call_frame}
 use Rattle.bng_lns.specs.Tunnels.{Answer as TunnelAnswer, NoTunnel, NoRequest, Steps, TunnelsState}
 use Rattle.bng_pppoe_wire.proofs.Spelled.{six}
 use Rattle.bng_radius_wire.specs.Grammar.{Packet as Request}
 use Rattle.bng_shard.specs.Made.{Made}
 use Rattle.bng_shard.specs.declared.rules.Rules.{Rules}
+use Rattle.bng_shard.specs.declared.session.Lease.{Lease}
 use Rattle.bng_shard.specs.declared.session.Service.{Service}
 use Rattle.bng_shard.specs.declared.session.Service.TheVariants.{Provisioned, Discovered}
 use Rattle.bng_shard.specs.declared.session.Session.{Session}
+use Rattle.bng_shard.specs.declared.way.Called.{Called}
+use Rattle.bng_shard.specs.declared.way.Way.{Way}
+use Rattle.bng_shard.specs.declared.way.Way.TheVariants.{Port, Call}
+use Rattle.bng_shard.specs.Calls.{HearsCallMessage, TakesFound, TakesIfLives, is_icrq}
+use Rattle.bng_shard.specs.Datagrams.{HearsAnswer, HearsFor, HearsOver, HearsTunnel, HearsTunnelData, TakesStep, heard_by}
 use Rattle.bng_shard.specs.Changes.{Applies, Found as FoundTerm, HearsChange, Obeys, found_by, refusal_of}
-use Rattle.bng_shard.specs.Deed.{Deed, arrival_in}
+use Rattle.bng_shard.specs.Deed.{Deed, arrival_in, at_of, out}
 use Rattle.bng_shard.specs.Discovery.{Answers, Discovers}
-use Rattle.bng_shard.specs.Frames.{GoesDown, GoesUp, HearsAccess, HearsControl, HearsCore, HearsData, HearsFrame, HearsIn, HearsPpp, charge_of, found_down, found_up}
-use Rattle.bng_shard.specs.L2tp.{HearsAnswer, HearsTunnel, heard_by}
+use Rattle.bng_shard.specs.Frames.{GoesDown, GoesUp, HearsAccess, HearsControl, HearsCore, HearsData, HearsFrame, HearsIn, HearsPpp, IsCarriedDown, IsFramedDown, SentDown, charge_of, found_down, found_up}
 use Rattle.bng_shard.specs.Reader.{pppoe_reader}
-use Rattle.bng_shard.specs.State.{State, port_at, session_of}
+use Rattle.bng_shard.specs.Serving.{AreOwn}
+use Rattle.bng_shard.specs.State.{State, call_of, circuit_in, circuit_of, lives_in, port_at, session_of, with_tunnels}
 use Rattle.bng_shard.specs.Step.{Hears, Step}
 use Rattle.bng_shard.specs.Timers.{HearsEnd, HearsTick}
 use Rattle.bng_shard.specs.Verdicts.{HearsVerdict}
@@ -50,8 +65,9 @@ use Rattle.bng_shard.proofs.Packets.{spelled_down, spelled_up}
 use Rattle.bng_shard.proofs.Reading.{whole_read_as}
 use Rattle.bng_shard.proofs.Sends.{step_sends}
 use Rattle.bng_shard.proofs.Spelling.{AreControl}
-use Rattle.bng_gate.specs.Unchanged.{Arises, IsPassedDown, IsPassedUp}
+use Rattle.bng_gate.specs.Unchanged.{Arises, ComesOnPort, ComesOverCall, GoesOnPort, GoesOverCall, IsPassedDown, IsPassedUp, IsTermOn}
 use Rattle.bng_gate.proofs.Arising.{arises_none}
+use Rattle.bng_gate.proofs.Ways.{call_circuit, port_circuit}
 
 -- The datagrams of items ------------------------------------------------------------------------------------------------------
 
@@ -92,6 +108,10 @@ packet_in port mac session packet is =
     let destination : length mac.0 ≡ 6 = ap length (ap (λ (m : Mac). m.0) (sym is.destination) ∙ is.read.laid.dst) ∙ first_six octets long in
     let source : length port.mac.0 ≡ 6 = ap length (ap (λ (m : Mac). m.0) (sym is.source) ∙ is.read.laid.src) ∙ next_six octets long in
     after_header mac.0 port.mac.0 session packet destination source
+
+-- and that of a call's data message after 10
+packet_over : (tunnel session : ℕ) (packet : List ℕ) → drop 10 (call_frame tunnel session packet) ≡ packet
+packet_over tunnel session packet = refl
 
 -- Fates -----------------------------------------------------------------------------------------------------------------------
 
@@ -134,69 +154,126 @@ record IsReadAs (input : Bool) (address : Ip4) (d : Datagram) : Type 0 where
   its_address : packet.address ≡ address
 
 -- the datagram is the packet that the item carried, of whatever address
-record IsGoneUp (r : Rules) (i : Item) (d : Datagram) : Type 0 where
+record IsGoneUp (r : Rules) (terms : List Key) (i : Item) (d : Datagram) : Type 0 where
   header : Ipv4
-  kind_is : (number : ℕ) × (i.kind ≡ kind.Access number) × IsPassedUp r.access r.core_peer header.src (record { role = Access number; peer = i.from; octets = i.frame.payload }) d
+  taken : Datagram
+  is_taken : datagrams_in i ≡ taken ∷ []
+  passed : IsPassedUp r.access r.core_peer terms header.src taken d
   reads : IsReadAs true header.src d
 
-record IsGoneDown (r : Rules) (i : Item) (d : Datagram) : Type 0 where
+record IsGoneDown (r : Rules) (terms : List Key) (i : Item) (d : Datagram) : Type 0 where
   header : Ipv4
   kind_is : i.kind ≡ kind.Core
-  passed : IsPassedDown r.access r.core_peer header.dst (record { role = Core; peer = i.from; octets = i.frame.payload }) d
+  passed : IsPassedDown r.access r.core_peer terms header.dst (record { role = Core; peer = i.from; octets = i.frame.payload }) d
   reads : IsReadAs false header.dst d
 
 -- what was to be sent for an entry is one such datagram
-record GoesOn (r : Rules) (i : Item) (outs : List OutRecord) : Type 0 where
+record GoesOn (r : Rules) (terms : List Key) (i : Item) (outs : List OutRecord) : Type 0 where
   datagram : Datagram
   outs_are : map datagram_of outs ≡ datagram ∷ []
-  gone : IsGoneUp r i datagram ⊎ IsGoneDown r i datagram
+  gone : IsGoneUp r terms i datagram ⊎ IsGoneDown r terms i datagram
 
-module _ (r : Rules) (s : State) (e : Entry) (d : Deed) (on : d.fate ≡ Forwarded) where
+-- what is charged is charged to one of these terms
+abbrev pub IsKnown : List Key → OutRecord → Type 0
+IsKnown terms o = IfSome o.charge (λ c. Contains terms (key_in c))
+
+-- a packet came in for a term of this session and with this address
+abbrev Comes : Rules → List Key → Datagram → Option Session → List ℕ → Type 0
+Comes r terms taken found info =
+    (x : Session) (a : Ip4) → found ≡ Some x → IsTermOn terms a (circuit_of x) → ComesOnPort r.access terms a taken info ⊎ ComesOverCall terms a taken info
+
+module _ (r : Rules) (terms : List Key) (s : State) (own : AreOwn s.sessions) (e : Entry) (d : Deed) (known : AllByRecursion (IsKnown terms) d.outs) (on : d.fate ≡ Forwarded) where
   abbrev Goes : Type 0
-  Goes = GoesOn r e.item d.outs
+  Goes = GoesOn r terms e.item d.outs
 
   -- what did something else
   other : (f : Deed) → d ≡ f → (f.fate ≡ Forwarded → ⊥) → Goes
   other f is not_on = absurd (not_on (sym (ap (λ (x : Deed). x.fate) is) ∙ on))
 
-  goes_up : (number : ℕ) (p : PppoeFrame) (info : List ℕ) (fate : Fate) → e.item.kind ≡ kind.Access number → IsFrame r.access number (arrival_in e) p → Carries p info
-      → UpFate (found_up s number p) e.moment info fate → fate ≡ Forwarded → GoesUp r s e number p info d → Goes
-  goes_up number p info fate is_kind (port, is_port, came) carries decides forwards h =
-      let whole = whole_read_as Core h.packet (Some (charge_of h.x h.lease true h.header.total)) (spelled_up h.x h.lease h.header info h.packet h.passed h.source) in
+  -- the datagram of the entry, by its kind
+  taken_as : (k : ItemKind) (d : Datagram) → e.item.kind ≡ k → datagrams_as k e.item.from e.item.frame.payload ≡ d ∷ [] → datagrams_in e.item ≡ d ∷ []
+  taken_as k d is one = ap (λ (x : ItemKind). datagrams_as x e.item.from e.item.frame.payload) is ∙ one
+
+  -- what is charged to a session's lease is charged to a term on its circuit
+  its_term : (x : Session) (l : Lease) (input : Bool) (total : ℕ) (a : Ip4) (role : Role) (to : Peer) (octets : List ℕ) → a ≡ l.address
+      → d.outs ≡ out (at_of s e) role to octets (Some (charge_of x l input total)) ∷ [] → IsTermOn terms a (circuit_of x)
+  its_term x l input total a role to octets address outs = record {
+    term = key_in (charge_of x l input total);
+    among = (subst (AllByRecursion (IsKnown terms)) outs known).0;
+    lease = sym address;
+    circuit_is = refl;
+  }
+
+  goes_up : (taken : Datagram) (found : Option Session) (info : List ℕ) (fate : Fate) → datagrams_in e.item ≡ taken ∷ [] → Comes r terms taken found info
+      → UpFate (found_up s found) e.moment info fate → fate ≡ Forwarded → GoesUp r s e found info d → Goes
+  goes_up taken found info fate is_taken comes decides forwards h =
+      let whole = whole_read_as Core r.core_peer h.packet (Some (charge_of h.x h.lease true h.header.total)) (spelled_up h.x h.lease h.header info h.packet h.passed h.source) in
       record {
         datagram = record { role = Core; peer = r.core_peer; octets = h.packet };
         outs_are = ap (λ (x : Deed). map datagram_of x.outs) h.done;
         gone = inl (record {
           header = h.header;
-          kind_is = (
-            number,
-            is_kind,
-            record {
-              port = number;
-              came = refl;
-              frame = p;
-              is_frame = (port, is_port, record { whole = refl; sender = came.sender; frame = came.frame; few = came.few; destination = came.destination });
-              info = info;
-              carries = carries;
-              header = h.header;
-              source = refl;
-              alive = alive_up (found_up s number p) e.moment info fate h.header decides forwards h.passed.was;
-              went = refl;
-              to = refl;
-              packet = h.passed;
-            },
-          );
+          taken = taken;
+          is_taken = is_taken;
+          passed = record {
+            info = info;
+            way = comes h.x h.header.src h.there (its_term h.x h.lease true h.header.total h.header.src Core r.core_peer h.packet h.source (ap (λ (x : Deed). x.outs) h.done));
+            header = h.header;
+            source = refl;
+            alive = alive_up (found_up s found) e.moment info fate h.header decides forwards h.passed.was;
+            went = refl;
+            to = refl;
+            packet = h.passed;
+          };
           reads = record { packet = _; reads = whole; direction = refl; its_address = sym h.source };
         });
       }
 
+  -- on an access port the packet stands after 22 octets, and over a call after 10
+  port_way : (number : ℕ) (mac : Mac) (session : SessionNo) (v : Ipv4) (packet : List ℕ) (out : Datagram) → IsPassedOn v e.item.frame.payload packet
+      → IsFramedDown r number mac session.0 packet out.role out.peer out.octets → IsTermOn terms v.dst (Pppoe number mac session) → GoesOnPort r.access terms v e.item.frame.payload out
+  port_way number mac session v packet out passed f term =
+      let inside : drop 22 out.octets ≡ packet =
+      ap (drop 22) f.octets_are ∙ packet_in f.port mac session.0 packet (subst (λ (xs : List ℕ). IsFrameTo f.port mac session.0 packet xs) f.octets_are f.again) in
+      record {
+        number = number;
+        port = f.port;
+        is_port = its_number r.access number f.port f.its_port;
+        went = f.role_is;
+        to = f.to_is;
+        packet = subst (λ (xs : List ℕ). IsPassedOn v e.item.frame.payload xs) (sym inside) passed;
+        mac = mac;
+        session = session.0;
+        frame = subst (λ (xs : List ℕ). IsFrameTo f.port mac session.0 xs out.octets) (sym inside) f.again;
+        term = term;
+      }
+
+  call_way : (c : Called) (session : SessionNo) (v : Ipv4) (packet : List ℕ) (out : Datagram) → IsPassedOn v e.item.frame.payload packet → IsCarriedDown c packet out.role out.peer out.octets
+      → IsTermOn terms v.dst (L2tp c.peer c.tunnel session) → GoesOverCall terms v e.item.frame.payload out
+  call_way c session v packet out passed f term =
+      let inside : drop 10 out.octets ≡ packet = ap (drop 10) f.octets_are ∙ packet_over c.far (to_peer c.call) packet in
+      record {
+        went = f.role_is;
+        packet = subst (λ (xs : List ℕ). IsPassedOn v e.item.frame.payload xs) (sym inside) passed;
+        far_tunnel = c.far;
+        far_session = to_peer c.call;
+        message = subst (λ (xs : List ℕ). IsCallFrameTo c.far (to_peer c.call) xs out.octets) (sym inside) f.again;
+        tunnel = c.tunnel;
+        session = session;
+        term = subst (λ (p : Peer). IsTermOn terms v.dst (L2tp p c.tunnel session)) (sym f.to_is) term;
+      }
+
+  down_way : (way : Way) (session : SessionNo) (v : Ipv4) (packet : List ℕ) (out : Datagram) → IsPassedOn v e.item.frame.payload packet → SentDown way r session.0 packet out.role out.peer out.octets
+      → IsTermOn terms v.dst (circuit_in way session) → GoesOnPort r.access terms v e.item.frame.payload out ⊎ GoesOverCall terms v e.item.frame.payload out
+  down_way (Port number mac) session v packet out passed f term = inl (port_way number mac session v packet out passed f term)
+  down_way (Call c) session v packet out passed f term = inr (call_way c session v packet out passed f term)
+
   goes_down : (v : Ipv4) (fate : Fate) → e.item.kind ≡ kind.Core → IsCorePacket r.core_peer (arrival_in e) v → DownFate (found_down s) e.moment e.item.frame.payload fate → fate ≡ Forwarded → GoesDown r s e v d → Goes
   goes_down v fate is_kind came decides forwards h =
-      let octets = circuit_frame h.port h.x.mac h.x.number.0 h.packet in
-      let whole = whole_read_as (Access h.x.port) octets (Some (charge_of h.x h.lease false v.total)) (spelled_down h.x h.lease v e.item.frame.payload h.packet h.passed h.port h.address h.again) in
-      let inside : drop 22 octets ≡ h.packet = packet_in h.port h.x.mac h.x.number.0 h.packet h.again in
+      let out : Datagram = record { role = h.role; peer = h.to; octets = h.octets } in
+      let whole = whole_read_as h.role h.to h.octets (Some (charge_of h.x h.lease false v.total)) (spelled_down h.x h.lease v e.item.frame.payload h.packet h.passed h.x.way refl r h.role h.to h.octets h.address h.sent) in
       record {
-        datagram = record { role = Access h.x.port; peer = h.port.peer; octets = octets };
+        datagram = out;
         outs_are = ap (λ (x : Deed). map datagram_of x.outs) h.done;
         gone = inr (record {
           header = v;
@@ -207,15 +284,7 @@ module _ (r : Rules) (s : State) (e : Entry) (d : Deed) (on : d.fate ≡ Forward
             is_packet = record { whole = refl; sender = came.sender; packet = came.packet };
             destination = refl;
             alive = alive_down (found_down s) e.moment e.item.frame.payload fate v decides forwards h.passed.was;
-            number = h.x.port;
-            port = h.port;
-            is_port = its_number r.access h.x.port h.port h.its_port;
-            went = refl;
-            to = refl;
-            packet = subst (λ (xs : List ℕ). IsPassedOn v e.item.frame.payload xs) (sym inside) h.passed;
-            mac = h.x.mac;
-            session = h.x.number.0;
-            frame = subst (λ (xs : List ℕ). IsFrameTo h.port h.x.mac h.x.number.0 xs octets) (sym inside) h.again;
+            way = down_way h.x.way h.x.number v h.packet out h.passed h.sent (its_term h.x h.lease false v.total v.dst h.role h.to h.octets h.address (ap (λ (x : Deed). x.outs) h.done));
           };
           reads = record { packet = _; reads = whole; direction = refl; its_address = sym h.address };
         });
@@ -233,26 +302,40 @@ module _ (r : Rules) (s : State) (e : Entry) (d : Deed) (on : d.fate ≡ Forward
   discovers : (number : ℕ) (p : PppoeFrame) → Discovers r s e number p d → Goes
   discovers number p h = answers h.answer number h.port h.offers p h.tags h.does
 
-  data_goes : (number : ℕ) (p : PppoeFrame) (info : List ℕ) → e.item.kind ≡ kind.Access number → IsFrame r.access number (arrival_in e) p → Carries p info → HearsData r s e number p info d → Goes
-  data_goes number p info is_kind is carries (fate, decides, inl (forwards, h)) = goes_up number p info fate is_kind is carries decides forwards h
-  data_goes number p info is_kind is carries (fate, decides, inr (stays, h)) = other _ h stays
+  data_goes : (taken : Datagram) (found : Option Session) (info : List ℕ) → datagrams_in e.item ≡ taken ∷ [] → Comes r terms taken found info → HearsData r s e found info d → Goes
+  data_goes taken found info is_taken comes (fate, decides, inl (forwards, h)) = goes_up taken found info fate is_taken comes decides forwards h
+  data_goes taken found info is_taken comes (fate, decides, inr (stays, h)) = other _ h stays
 
-  ppp : (x : Session) (made : Made) (p : PppoeFrame) → HearsPpp r s e x made p d → Goes
-  ppp x made p (inl (over, h)) = other _ h (λ f. absurd cc)
-  ppp x made p (inr (live, outs, cause, x', asked', drives, h)) = other _ h (λ f. absurd cc)
+  ppp : (n : ℕ) (x : Session) (made : Made) (octets : List ℕ) → HearsPpp r s e n x made octets d → Goes
+  ppp n x made octets (inl (over, h)) = other _ h (λ f. absurd cc)
+  ppp n x made octets (inr (live, outs, cause, x', beside', drives, h)) = other _ h (λ f. absurd cc)
 
   control : (v : Service) (x : Session) (p : PppoeFrame) → HearsControl v r s e x p d → Goes
   control (Provisioned l) x p h = other _ h (λ f. absurd cc)
   control (Discovered made) x p (inl (padt, inl (over, h))) = other _ h (λ f. absurd cc)
   control (Discovered made) x p (inl (padt, inr (live, h))) = other _ h (λ f. absurd cc)
-  control (Discovered made) x p (inr (data_frame, h)) = ppp x made p h
+  control (Discovered made) x p (inr (data_frame, h)) = ppp p.session x made p.payload h
 
   named : (p : PppoeFrame) (found : Option Session) → HearsIn found r s e p d → Goes
   named p None h = other _ h (λ f. absurd cc)
   named p (Some x) h = control x.service x p h
 
+  -- a frame of an access port, as it was taken whole
+  on_port : (number : ℕ) (p : PppoeFrame) (info : List ℕ) → IsFrame r.access number (arrival_in e) p → Carries p info
+      → Comes r terms (record { role = Access number; peer = e.item.from; octets = e.item.frame.payload }) (session_of s number p.src p.session) info
+  on_port number p info (port, is_port, came) carries x a there term = inl (record {
+    port = number;
+    came = refl;
+    frame = p;
+    is_frame = (port, is_port, record { whole = refl; sender = came.sender; frame = came.frame; few = came.few; destination = came.destination });
+    carries = carries;
+    term = subst (IsTermOn terms a) (port_circuit s own number p.src p.session x there) term;
+  })
+
   frame : (number : ℕ) (p : PppoeFrame) → e.item.kind ≡ kind.Access number → IsFrame r.access number (arrival_in e) p → HearsFrame r s e number p d → Goes
-  frame number p is_kind is (inl (info, carries, h)) = data_goes number p info is_kind is carries h
+  frame number p is_kind is (inl (info, carries, h)) =
+      let taken : Datagram = record { role = Access number; peer = e.item.from; octets = e.item.frame.payload } in
+      data_goes taken (session_of s number p.src p.session) info (taken_as (kind.Access number) taken is_kind refl) (on_port number p info is carries) h
   frame number p is_kind is (inr (inl (names, no_packet, h))) = named p (session_of s number p.src p.session) h
   frame number p is_kind is (inr (inr (before, h))) = discovers number p h
 
@@ -265,15 +348,58 @@ module _ (r : Rules) (s : State) (e : Entry) (d : Deed) (on : d.fate ≡ Forward
   core is_kind (inr (v, is, (fate, decides, inl (forwards, h)))) = goes_down v fate is_kind is decides forwards h
   core is_kind (inr (v, is, (fate, decides, inr (stays, h)))) = other _ h stays
 
-  told : (answer : TunnelAnswer) (m : ControlMessage) (t : TunnelsState) → HearsAnswer answer s e m t d → Goes
+  -- messages of calls, in the state in which the tunnel took them
+  if_lives : (t : State) (b : Bool) (number : ℕ) (said : Said) (m : ControlMessage) (x : Session) → TakesIfLives b number said m x r t e d → Goes
+  if_lives t true number said m x h = other _ h.done (λ f. absurd cc)
+  if_lives t false number said m x h = other _ h.done (λ f. absurd cc)
+
+  call_found : (t : State) (found : Option Session) (number : ℕ) (said : Said) (m : ControlMessage) → TakesFound found number said m r t e d → Goes
+  call_found t None number said m h = other _ h.done (λ f. absurd cc)
+  call_found t (Some x) number said m h = if_lives t (lives_in x.service) number said m x h
+
+  call_message : (t : State) (b : Bool) (number : ℕ) (said : Said) (m : ControlMessage) → HearsCallMessage b number said m r t e d → Goes
+  call_message t true number said m h = other _ h.done (λ f. absurd cc)
+  call_message t false number said m h = call_found t (call_of t e.item.from number m.session) number said m h
+
+  took : (b : Bool) (number : ℕ) (said : Said) (m : ControlMessage) (t : TunnelsState) → TakesStep b number said m r s e t d → Goes
+  took true number said m t h = call_message (with_tunnels s t) (is_icrq m) number said m h
+  took false number said m t (spelled, h) = other _ h (λ f. absurd cc)
+
+  told : (answer : TunnelAnswer) (m : ControlMessage) (t : TunnelsState) → HearsAnswer answer m r s e t d → Goes
   told NoTunnel m t h = other _ h (λ f. absurd cc)
   told NoRequest m t h = other _ h (λ f. absurd cc)
-  told (Steps number said) m t (frames, t', takes, spelled, h) = other _ h (λ f. absurd cc)
+  told (Steps number said) m t h = took said.call number said m t h
 
-  tunnel : HearsTunnel r s e d → Goes
-  tunnel (inl (neither, h)) = other _ h (λ f. absurd cc)
-  tunnel (inr (inl (m, is, h))) = told (heard_by r s e m).answer m (heard_by r s e m).after h
-  tunnel (inr (inr (m, is, h))) = other _ h (λ f. absurd cc)
+  -- data of calls
+  over : (v : Service) (x : Session) (p : DataMessage) → HearsOver v r s e x p d → Goes
+  over (Provisioned l) x p h = other _ h (λ f. absurd cc)
+  over (Discovered made) x p (inl (connected, h)) = ppp p.session x made p.ppp h
+  over (Discovered made) x p (inr (unconnected, h)) = other _ h (λ f. absurd cc)
+
+  over_found : (found : Option Session) (p : DataMessage) → HearsFor found r s e p d → Goes
+  over_found None p h = other _ h (λ f. absurd cc)
+  over_found (Some x) p h = over x.service x p h
+
+  over_call : (p : DataMessage) (info : List ℕ) → IsDataIn e.item.cut e.item.frame.payload p → CarriesOver p info
+      → Comes r terms (record { role = Tunnel; peer = e.item.from; octets = e.item.frame.payload }) (call_of s e.item.from p.tunnel p.session) info
+  over_call p info is carries x a there term = inr (record {
+    came = refl;
+    message = p;
+    is_data = record { whole = refl; message = is.message };
+    carries = carries;
+    term = subst (IsTermOn terms a) (call_circuit s own e.item.from p.tunnel p.session x there) term;
+  })
+
+  tunnel_data : (p : DataMessage) → e.item.kind ≡ kind.Tunnel → IsDataIn e.item.cut e.item.frame.payload p → HearsTunnelData r s e p d → Goes
+  tunnel_data p is_kind is (inl (info, carries, h)) =
+      let taken : Datagram = record { role = Tunnel; peer = e.item.from; octets = e.item.frame.payload } in
+      data_goes taken (call_of s e.item.from p.tunnel p.session) info (taken_as kind.Tunnel taken is_kind refl) (over_call p info is carries) h
+  tunnel_data p is_kind is (inr (no_packet, h)) = over_found (call_of s e.item.from p.tunnel p.session) p h
+
+  tunnel : e.item.kind ≡ kind.Tunnel → HearsTunnel r s e d → Goes
+  tunnel is_kind (inl (neither, h)) = other _ h (λ f. absurd cc)
+  tunnel is_kind (inr (inl (m, is, h))) = told (heard_by r s e m).answer m (heard_by r s e m).after h
+  tunnel is_kind (inr (inr (p, is, h))) = tunnel_data p is_kind is h
 
   judged : (limited : Bool) → HearsVerdict r s e limited d → Goes
   judged limited (inl (asks, t, decides, h)) = other _ h.done (λ f. absurd cc)
@@ -281,7 +407,7 @@ module _ (r : Rules) (s : State) (e : Entry) (d : Deed) (on : d.fate ≡ Forward
   judged limited (inr (inr (unasked, no_claim, h))) = other _ h (λ f. absurd cc)
 
   tick : HearsTick r s e d → Goes
-  tick (first, t, tell, rest, s', ticks, h) = other _ h (λ f. absurd cc)
+  tick (first, next, reminds, rest, s', ticks, h) = other _ h (λ f. absurd cc)
 
   ends : HearsEnd r s e d → Goes
   ends (first, next, all, rest, t, stops, h) = other _ h (λ f. absurd cc)
@@ -302,7 +428,7 @@ module _ (r : Rules) (s : State) (e : Entry) (d : Deed) (on : d.fate ≡ Forward
   hears_goes : (k : ItemKind) (limited : Bool) → e.item.kind ≡ k → Hears k r s limited e d → Goes
   hears_goes (kind.Access number) limited is_kind h = access number is_kind h
   hears_goes kind.Core limited is_kind h = core is_kind h
-  hears_goes kind.Tunnel limited is_kind h = tunnel h
+  hears_goes kind.Tunnel limited is_kind h = tunnel is_kind h
   hears_goes kind.Verdict limited is_kind h = judged limited h
   hears_goes kind.Change limited is_kind h = change h
   hears_goes kind.Tick limited is_kind h = tick h
@@ -318,7 +444,7 @@ none_among : (test : WirePacket → Bool) (seat : ℕ) (outs : List OutRecord) �
 none_among test seat [] h = refl
 none_among test seat (o ∷ outs) h =
     let rest = those test (map datagram_of outs) in
-    ap (λ (w : Option WirePacket). cond (option_map_or test w false) (datagram_of o ∷ rest) rest) (whole_read_as o.role o.frame None h.0.no_packet) ∙ none_among test seat outs h.1
+    ap (λ (w : Option WirePacket). cond (option_map_or test w false) (datagram_of o ∷ rest) rest) (whole_read_as o.role o.to o.frame None h.0.no_packet) ∙ none_among test seat outs h.1
 
 -- one that is there is there for its reason
 one_among : (R : Datagram → Datagram → Type 0) (test : WirePacket → Bool) (xs : List Datagram) (d : Datagram) (w : WirePacket) → pppoe_reader d.role d.octets ≡ Some w → (test w ≡ true → Arises R xs (d ∷ [])) → Arises R xs (those test (d ∷ []))
@@ -347,49 +473,47 @@ module _ (a : Ip4) where
   pub to_it : (w : WirePacket) → is_to a w ≡ true → (not w.input ≡ true) × (w.address ≡ a)
   to_it w is = let parts = both (not w.input) (w.address.0 == a.0) is in (parts.0, same_address w.address a (eqb-true w.address.0 a.0 parts.1))
 
-  module _ (r : Rules) where
+  module _ (r : Rules) (terms : List Key) where
     abbrev Up : Datagram → Datagram → Type 0
-    Up = IsPassedUp r.access r.core_peer a
+    Up = IsPassedUp r.access r.core_peer terms a
 
     abbrev Down : Datagram → Datagram → Type 0
-    Down = IsPassedDown r.access r.core_peer a
+    Down = IsPassedDown r.access r.core_peer terms a
 
     -- from the datagram of the item
-    of_kind : (R : Datagram → Datagram → Type 0) (i : Item) (k : ItemKind) (taken d : Datagram) → i.kind ≡ k → datagrams_as k i.from i.frame.payload ≡ taken ∷ [] → R taken d → Arises R (datagrams_in i) (d ∷ [])
-    of_kind R i k taken d is one h =
-        subst (λ (x : ItemKind). Arises R (datagrams_as x i.from i.frame.payload) (d ∷ [])) (sym is) (subst (λ (xs : List Datagram). Arises R xs (d ∷ [])) (sym one) (inr (h, refl)))
+    of_item : (R : Datagram → Datagram → Type 0) (i : Item) (taken d : Datagram) → datagrams_in i ≡ taken ∷ [] → R taken d → Arises R (datagrams_in i) (d ∷ [])
+    of_item R i taken d one h = subst (λ (xs : List Datagram). Arises R xs (d ∷ [])) (sym one) (inr (h, refl))
 
-    gone_up : (i : Item) (d : Datagram) → IsGoneUp r i d ⊎ IsGoneDown r i d → Arises Up (datagrams_in i) (those (is_from a) (d ∷ []))
+    gone_up : (i : Item) (d : Datagram) → IsGoneUp r terms i d ⊎ IsGoneDown r terms i d → Arises Up (datagrams_in i) (those (is_from a) (d ∷ []))
     gone_up i d (inl g) =
-        let (number, is, passed) = g.kind_is in
         one_among Up (is_from a) (datagrams_in i) d g.reads.packet g.reads.reads (λ from.
         let its : g.header.src ≡ a = sym g.reads.its_address ∙ (from_it g.reads.packet from).1 in
-        of_kind Up i (kind.Access number) (record { role = Access number; peer = i.from; octets = i.frame.payload }) d is refl
-        (subst (λ (x : Ip4). IsPassedUp r.access r.core_peer x (record { role = Access number; peer = i.from; octets = i.frame.payload }) d) its passed))
+        of_item Up i g.taken d g.is_taken (subst (λ (x : Ip4). IsPassedUp r.access r.core_peer terms x g.taken d) its g.passed))
     gone_up i d (inr g) = one_among Up (is_from a) (datagrams_in i) d g.reads.packet g.reads.reads (λ from. absurd (false≢true (sym g.reads.direction ∙ (from_it g.reads.packet from).0)))
 
-    gone_down : (i : Item) (d : Datagram) → IsGoneUp r i d ⊎ IsGoneDown r i d → Arises Down (datagrams_in i) (those (is_to a) (d ∷ []))
+    gone_down : (i : Item) (d : Datagram) → IsGoneUp r terms i d ⊎ IsGoneDown r terms i d → Arises Down (datagrams_in i) (those (is_to a) (d ∷ []))
     gone_down i d (inl g) = one_among Down (is_to a) (datagrams_in i) d g.reads.packet g.reads.reads (λ to. absurd (unlike g.reads.packet.input (to_it g.reads.packet to).0 g.reads.direction))
     gone_down i d (inr g) =
         one_among Down (is_to a) (datagrams_in i) d g.reads.packet g.reads.reads (λ to.
         let its : g.header.dst ≡ a = sym g.reads.its_address ∙ (to_it g.reads.packet to).1 in
-        of_kind Down i kind.Core (record { role = Core; peer = i.from; octets = i.frame.payload }) d g.kind_is refl
-        (subst (λ (x : Ip4). IsPassedDown r.access r.core_peer x (record { role = Core; peer = i.from; octets = i.frame.payload }) d) its g.passed))
+        let taken : Datagram = record { role = Core; peer = i.from; octets = i.frame.payload } in
+        of_item Down i taken d (ap (λ (k : ItemKind). datagrams_as k i.from i.frame.payload) g.kind_is)
+        (subst (λ (x : Ip4). IsPassedDown r.access r.core_peer terms x taken d) its g.passed))
 
     -- whatever a step sends, where it is so of each packet that goes on
-    step_sent : (R : Datagram → Datagram → Type 0) (test : WirePacket → Bool) → ((i : Item) (d : Datagram) → IsGoneUp r i d ⊎ IsGoneDown r i d → Arises R (datagrams_in i) (those test (d ∷ [])))
-        → (s : State) (limited : Bool) (d : Deed) → Step r s limited d → Arises R (datagrams_in d.entry.item) (those test (map datagram_of d.outs))
-    step_sent R test gone s limited d is = elim (step_sends r s limited d is) [
+    step_sent : (R : Datagram → Datagram → Type 0) (test : WirePacket → Bool) → ((i : Item) (d : Datagram) → IsGoneUp r terms i d ⊎ IsGoneDown r terms i d → Arises R (datagrams_in i) (those test (d ∷ [])))
+        → (s : State) (limited : Bool) (d : Deed) → AreOwn s.sessions → AllByRecursion (IsKnown terms) d.outs → Step r s limited d → Arises R (datagrams_in d.entry.item) (those test (map datagram_of d.outs))
+    step_sent R test gone s limited d own known is = elim (step_sends r s limited d is) [
       | inl none ↦ let i = d.entry.item in subst (λ (ds : List Datagram). Arises R (datagrams_in i) ds) (sym (none_among test d.entry.seat d.outs none.outs)) (arises_none R (datagrams_in i))
       | inr one ↦
           let i = d.entry.item in
-          let g = hears_goes r s d.entry d one.fate i.kind limited refl is.hears in
+          let g = hears_goes r terms s own d.entry d known one.fate i.kind limited refl is.hears in
           subst (λ (ds : List Datagram). Arises R (datagrams_in i) (those test ds)) (sym g.outs_are) (gone i g.datagram g.gone)
     ]
 
     -- of what a step sends, the packets from an address and those to it
-    pub step_up : (s : State) (limited : Bool) (d : Deed) → Step r s limited d → Arises Up (datagrams_in d.entry.item) (those (is_from a) (map datagram_of d.outs))
-    step_up s limited d is = step_sent Up (is_from a) gone_up s limited d is
+    pub step_up : (s : State) (limited : Bool) (d : Deed) → AreOwn s.sessions → AllByRecursion (IsKnown terms) d.outs → Step r s limited d → Arises Up (datagrams_in d.entry.item) (those (is_from a) (map datagram_of d.outs))
+    step_up s limited d own known is = step_sent Up (is_from a) gone_up s limited d own known is
 
-    pub step_down : (s : State) (limited : Bool) (d : Deed) → Step r s limited d → Arises Down (datagrams_in d.entry.item) (those (is_to a) (map datagram_of d.outs))
-    step_down s limited d is = step_sent Down (is_to a) gone_down s limited d is
+    pub step_down : (s : State) (limited : Bool) (d : Deed) → AreOwn s.sessions → AllByRecursion (IsKnown terms) d.outs → Step r s limited d → Arises Down (datagrams_in d.entry.item) (those (is_to a) (map datagram_of d.outs))
+    step_down s limited d own known is = step_sent Down (is_to a) gone_down s limited d own known is

@@ -28,17 +28,21 @@ use Rattle.bng_engine.proofs.Wire.{went_append}
 use Rattle.bng_shard.specs.declared.rules.Rules.{Rules}
 use Rattle.bng_shard.specs.declared.whose.Whose.{Whose}
 use Rattle.bng_shard.specs.Deed.{Deed}
+use Rattle.bng_shard.specs.Granting.{IsSound}
 use Rattle.bng_shard.specs.Protocol.{Handled, ShardState, entry_of, pppoe, terms_of}
 use Rattle.bng_shard.specs.Reader.{IsWhole, tells_pppoe, pppoe_reader}
+use Rattle.bng_shard.specs.Serving.{AreOwn}
 use Rattle.bng_shard.specs.State.{State}
 use Rattle.bng_shard.specs.Step.{Step}
+use Rattle.bng_shard.proofs.GrantLaws.{settled_sound, step_sound}
 use Rattle.bng_shard.proofs.Reading.{whole_read}
 use Rattle.bng_shard.proofs.StepLaws.{pppoe_laws, step_whole}
 use Rattle.bng_desk.specs.Items.{entries_in, stands_in, without_claim}
 use Rattle.bng_desk.specs.Round.{AreParts, IsPart, entries_of, of_seat}
 use Rattle.bng_gate.specs.Unchanged.{Arises}
 use Rattle.bng_gate.proofs.Arising.{arises_append, arises_fewer, arises_later, arises_none, arises_under}
-use Rattle.bng_gate.proofs.Passing.{datagrams_in, those}
+use Rattle.bng_gate.proofs.Lists.{all_left, all_right}
+use Rattle.bng_gate.proofs.Passing.{IsKnown, datagrams_in, those}
 
 -- Entries and items ---------------------------------------------------------------------------------------------------------------
 
@@ -108,6 +112,29 @@ fewer_sent test (o ∷ os) = by o.sent (fewer_sent test os)
     by : (b : Bool) → Arises Same (those test (map datagram_of os)) (those test (went os)) → Arises Same (those test (map datagram_of (o ∷ os))) (those test (map datagram_of (cond b (o ∷ filter (λ (r : OutRecord). r.sent) os) (filter (λ (r : OutRecord). r.sent) os))))
     by true h = with_it (option_map_or test (pppoe_reader o.role o.frame) false) (datagram_of o) (those test (map datagram_of os)) (those test (went os)) h
     by false h = without_it (option_map_or test (pppoe_reader o.role o.frame) false) (datagram_of o) (those test (map datagram_of os)) (those test (went os)) h
+
+-- What is known of a shard's state: it works by these rules, and it is sound.
+pub record Works (r : Rules) (s : ShardState) : Type 0 where
+  pub rules : s.rules ≡ r
+  pub sound : IsSound s.slots
+
+-- so it is after an entry, after a journal, and once the round is settled
+works_on : (r : Rules) (s : ShardState) (e : Handled) → Works r s → pppoe.is_step s e → Works r (pppoe.next s e)
+works_on r s e works is = record { rules = works.rules; sound = step_sound s.rules s.slots e.limited e.deed is.step works.sound }
+
+works_after : (r : Rules) (s : ShardState) (es : List Handled) → Works r s → AreSteps pppoe s es → Works r (after pppoe s es)
+works_after r s [] works is = works
+works_after r s (e ∷ es) works is = works_after r (pppoe.next s e) es (works_on r s e works is.0) is.1
+
+pub works_settled : (r : Rules) (s : ShardState) (es : List Handled) → Works r s → AreSteps pppoe s es → Works r (pppoe.settled (after pppoe s es))
+works_settled r s es works is =
+    let end = works_after r s es works is in
+    record { rules = end.rules; sound = settled_sound (after pppoe s es).slots end.sound }
+
+-- a charge is the same before it is sent
+unsent_known : (terms : List Key) (os : List OutRecord) → AllByRecursion (IsKnown terms) os → AllByRecursion (IsKnown terms) (map unsent os)
+unsent_known terms [] known = tt
+unsent_known terms (o ∷ os) known = (known.0, unsent_known terms os known.1)
 
 module _ (a : Ip4) (test : WirePacket → Bool) (its : (w : WirePacket) → test w ≡ true → w.address ≡ a) where
   -- where a packet of the address is charged to one of these keys, a key has the address
@@ -181,33 +208,36 @@ module _ (a : Ip4) (test : WirePacket → Bool) (its : (w : WirePacket) → test
       ∙ none_of_all hs vs hs' zip.1 (omega (arith, sum, claims, none))
   none_of_all hs vs hs' zip none = absurd zip
 
-  module _ (r : Rules) (R : Datagram → Datagram → Type 0) (steps : (s : State) (limited : Bool) (d : Deed) → Step r s limited d → Arises R (datagrams_in d.entry.item) (those test (map datagram_of d.outs))) where
+  module _ (r : Rules) (terms : List Key) (R : Datagram → Datagram → Type 0)
+      (steps : (s : State) (limited : Bool) (d : Deed) → AreOwn s.sessions → AllByRecursion (IsKnown terms) d.outs → Step r s limited d → Arises R (datagrams_in d.entry.item) (those test (map datagram_of d.outs))) where
     -- What a journal sends comes of its entries, each once and in their order.
-    journal_sends : (s : ShardState) (es : List Handled) → s.rules ≡ r → AreSteps pppoe s es → Arises R (heard_in es) (those test (map datagram_of (outs_of pppoe s es)))
-    journal_sends s [] rules is = refl
-    journal_sends s (e ∷ es) rules is =
+    journal_sends : (s : ShardState) (es : List Handled) → Works r s → AllByRecursion (IsKnown terms) (outs_of pppoe s es) → AreSteps pppoe s es → Arises R (heard_in es) (those test (map datagram_of (outs_of pppoe s es)))
+    journal_sends s [] works known is = refl
+    journal_sends s (e ∷ es) works known is =
         let later = outs_of pppoe (pppoe.next s e) es in
-        let here = subst (λ (x : Rules). Step x s.slots e.limited e.deed) rules is.0.step in
+        let here = subst (λ (x : Rules). Step x s.slots e.limited e.deed) works.rules is.0.step in
         let split : those test (map datagram_of (e.deed.outs ++ later)) ≡ those test (map datagram_of e.deed.outs) ++ those test (map datagram_of later) =
         ap (those test) (map-append datagram_of e.deed.outs later) ∙ those_append test (map datagram_of e.deed.outs) (map datagram_of later) in
         subst (Arises R (heard_in (e ∷ es))) (sym split)
         (arises_append R (datagrams_in e.deed.entry.item) (heard_in es) (those test (map datagram_of e.deed.outs)) (those test (map datagram_of later))
-        (steps s.slots e.limited e.deed here) (journal_sends (pppoe.next s e) es rules is.1))
+        (steps s.slots e.limited e.deed works.sound.own (all_left (IsKnown terms) e.deed.outs later known) here)
+        (journal_sends (pppoe.next s e) es (works_on r s e works is.0) (all_right (IsKnown terms) e.deed.outs later known) is.1))
 
-    shard_sends : (items : List Item) (whose : List (List Whose)) (shard moment : ℕ) (h h' : ShardHistory ShardState) (v : ShardView ShardState Handled) → NextInShard pppoe h (turn_in v) h' → h.state.rules ≡ r
-        → IsPart (items ∷ []) whose shard moment (map without_claim (entries_of v)) → Arises R (flat_map datagrams_in items) (those test (went v.sends))
-    shard_sends items whose shard moment h h' v next rules part =
+    shard_sends : (items : List Item) (whose : List (List Whose)) (shard moment : ℕ) (h h' : ShardHistory ShardState) (v : ShardView ShardState Handled) → NextInShard pppoe h (turn_in v) h' → Works r h.state
+        → AllByRecursion (IsKnown terms) v.sends → IsPart (items ∷ []) whose shard moment (map without_claim (entries_of v)) → Arises R (flat_map datagrams_in items) (those test (went v.sends))
+    shard_sends items whose shard moment h h' v next works known part =
         arises_fewer R (flat_map datagrams_in items) (those test (map datagram_of v.sends)) (those test (went v.sends))
         (of_part R items whose shard moment v.journal part (those test (map datagram_of v.sends))
-        (subst (λ (ds : List Datagram). Arises R (heard_in v.journal) (those test ds)) (were_outs h h' v next) (journal_sends h.state v.journal rules next.round.steps)))
+        (subst (λ (ds : List Datagram). Arises R (heard_in v.journal) (those test ds)) (were_outs h h' v next) (journal_sends h.state v.journal works (subst (AllByRecursion (IsKnown terms)) next.settlement.outs (unsent_known terms v.sends known)) next.round.steps)))
         (fewer_sent test v.sends)
 
     -- What the shards of a round send of the address comes of its items: one of them alone sends any.
     pub round_sends : (items : List Item) (whose : List (List Whose)) (shard moment : ℕ) (hs : List (ShardHistory ShardState)) (vs : List (ShardView ShardState Handled)) (hs' : List (ShardHistory ShardState))
-        → Zip3 (NextInShard pppoe) hs (map turn_in vs) hs' → AllByRecursion (λ (h : ShardHistory ShardState). h.state.rules ≡ r) hs → AreParts (items ∷ []) whose shard moment vs
+        → Zip3 (NextInShard pppoe) hs (map turn_in vs) hs' → AllByRecursion (λ (h : ShardHistory ShardState). Works r h.state) hs → AllByRecursion (IsKnown terms) (flat_map (λ v. v.sends) vs)
+        → AreParts (items ∷ []) whose shard moment vs
         → holders pppoe a.0 hs + claimed_at pppoe a.0 (journals_of (rounds_of (map turn_in vs))) ≤ 1 → Arises R (flat_map datagrams_in items) (those test (went (flat_map (λ v. v.sends) vs)))
-    round_sends items whose shard moment [] [] [] zip rules parts few = arises_none R (flat_map datagrams_in items)
-    round_sends items whose shard moment (h ∷ hs) (v ∷ vs) (h' ∷ hs') zip rules parts few =
+    round_sends items whose shard moment [] [] [] zip works known parts few = arises_none R (flat_map datagrams_in items)
+    round_sends items whose shard moment (h ∷ hs) (v ∷ vs) (h' ∷ hs') zip works known parts few =
         let later = flat_map (λ (x : ShardView ShardState Handled). x.sends) vs in
         let sum = sum_by-cons (λ (x : ShardHistory ShardState). leases_at a.0 (keys (terms_of x.state))) h hs in
         let claims = sum_by-cons (λ (es : List Handled). times_in a.0 (claims_of pppoe es)) v.journal (journals_of (rounds_of (map turn_in vs))) in
@@ -217,9 +247,9 @@ module _ (a : Ip4) (test : WirePacket → Bool) (its : (w : WirePacket) → test
         (⊎_elim
         (λ (none : here < 1).
         subst (λ (ds : List Datagram). Arises R (flat_map datagrams_in items) (ds ++ those test (went later))) (sym (none_sent h h' v zip.0 (omega (arith, none))))
-        (round_sends items whose (shard + 1) moment hs vs hs' zip.1 rules.1 parts.1 (omega (arith, sum, claims, few))))
+        (round_sends items whose (shard + 1) moment hs vs hs' zip.1 works.1 (all_right (IsKnown terms) v.sends later known) parts.1 (omega (arith, sum, claims, few))))
         (λ (some : 1 ≤ here).
         subst (λ (ds : List Datagram). Arises R (flat_map datagrams_in items) (those test (went v.sends) ++ ds)) (sym (none_of_all hs vs hs' zip.1 (omega (arith, sum, claims, few, some))))
-        (subst (Arises R (flat_map datagrams_in items)) (sym (append-nil (those test (went v.sends)))) (shard_sends items whose shard moment h h' v zip.0 rules.0 parts.0)))
+        (subst (Arises R (flat_map datagrams_in items)) (sym (append-nil (those test (went v.sends)))) (shard_sends items whose shard moment h h' v zip.0 works.0 (all_left (IsKnown terms) v.sends later known) parts.0)))
         (cases_lt here 1))
-    round_sends items whose shard moment hs vs hs' zip rules parts few = absurd zip
+    round_sends items whose shard moment hs vs hs' zip works known parts few = absurd zip

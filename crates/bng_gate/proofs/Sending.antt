@@ -63,6 +63,7 @@ module _ (held : List Held) (k : ℕ) (turn : Held) (at : slice_get held k ≡ S
           };
           among = among;
           role = refl;
+          to = refl;
           frame = refl;
         })
         h.deed.outs (recursion_from_All (Contains h.deed.outs) h.deed.outs (All-contains_itself h.deed.outs))

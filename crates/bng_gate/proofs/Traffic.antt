@@ -50,7 +50,7 @@ sums_same f none a b e = sum_on_data f none a ∙ ap (sum_by f) e ∙ sym (sum_o
 none_told : (q : Quantity) (test : WirePacket → Bool) (role : Role) (octets : List ℕ) → carries_data role ≡ false → counted q test (pppoe_reader role octets) ≡ 0
 none_told q test (Access n) octets e = absurd cc
 none_told q test Core octets e = absurd cc
-none_told q test Tunnel octets e = refl
+none_told q test Tunnel octets e = absurd cc
 none_told q test Auth octets e = refl
 none_told q test Acct octets e = refl
 none_told q test Coa octets e = refl

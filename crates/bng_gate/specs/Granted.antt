@@ -3,11 +3,16 @@
 use Rattle.std.specs.Prelude.{◌≡◌, ◌⊎◌, ℕ, ◌<◌, ◌≤◌, true, false, List, [], ◌∷◌, ◌++◌, Option, Some, None, map, slice_get, slice_index_or}
 use Rattle.std.specs.List.{All, AllPairs, Contains, flat_map}
 use Rattle.std.specs.Option.{option_map}
-use Rattle.bng_base.specs.declared.circuit.Circuit.TheVariants.{Pppoe}
 use Rattle.bng_base.specs.declared.address.Mac.{Mac}
+use Rattle.bng_base.specs.declared.address.Peer.{Peer}
+use Rattle.bng_base.specs.declared.address.SessionNo.{SessionNo}
+use Rattle.bng_base.specs.declared.address.TunnelNo.{TunnelNo}
+use Rattle.bng_base.specs.declared.circuit.Circuit.{Circuit}
+use Rattle.bng_base.specs.declared.circuit.Circuit.TheVariants.{Pppoe, L2tp}
 use Rattle.bng_base.specs.declared.item.OutRecord.{OutRecord}
 use Rattle.bng_base.specs.declared.outside.Datagram.{Datagram}
-use Rattle.bng_base.specs.declared.outside.Role.TheVariants.{Access, Auth, Acct, Coa}
+use Rattle.bng_base.specs.declared.outside.Role.TheVariants.{Access, Auth, Acct, Tunnel, Coa}
+use Rattle.bng_base.specs.declared.settings.AccessPort.{AccessPort}
 use Rattle.bng_base.specs.FateOf.{Arrival}
 use Rattle.bng_base.specs.PppoeGrammar.{PppoeFrame}
 use Rattle.bng_config.specs.declared.config.Config.{Config}
@@ -20,6 +25,8 @@ use Rattle.bng_access.specs.Request.{request_of}
 use Rattle.bng_forward.specs.Fates.{IsFrame}
 use Rattle.bng_lane.specs.Laws.{but_for_digest}
 use Rattle.bng_lane.specs.Sends.{LaneAsk}
+use Rattle.bng_l2tp_wire.specs.Messages.{DataMessage}
+use Rattle.bng_lns.specs.Datagrams.{IsDataIn}
 use Rattle.bng_ppp.specs.declared.authentication.Authentication.{Authentication}
 use Rattle.bng_ppp.specs.Claims.{claim_of}
 use Rattle.bng_ppp.specs.Saying.{Says}
@@ -28,10 +35,15 @@ use Rattle.bng_radius_wire.specs.Digests.{IsSigned}
 use Rattle.bng_radius_wire.specs.Grammar.{Packet, IsRadius}
 use Rattle.bng_shard.specs.Claiming.{IsAskedBy}
 use Rattle.bng_shard.specs.Deed.{arrival_in}
-use Rattle.bng_shard.specs.Granting.{GivesYes, IsYesOn, accepted_ask_at}
+use Rattle.bng_shard.specs.Granting.{GivesYes, IsYesOn, IsYesOver, accepted_ask_at}
+use Rattle.bng_shard.specs.Link.{call_octets}
 use Rattle.bng_shard.specs.Protocol.{ShardState, Handled, key_in, pppoe}
 use Rattle.bng_shard.specs.Questions.{Asking, asking_from, last_asking_at}
 use Rattle.bng_shard.specs.Tenures.{Tenure}
+use Rattle.bng_shard.specs.declared.session.Session.{Session}
+use Rattle.bng_shard.specs.declared.way.Called.{Called}
+use Rattle.bng_shard.specs.declared.way.Way.TheVariants.{Call}
+use Rattle.bng_slots.specs.Sessions.{value_at}
 use Rattle.bng_verdict.specs.declared.question.AuthAsk.{AuthAsk}
 use Rattle.bng_verdict.specs.Verdicts.{Saying, IsVerdict}
 use Rattle.bng_desk.specs.Accounting.{record_datagram, record_sends}
@@ -174,8 +186,8 @@ abbrev pub HaveOwnDraws : Login → Login → Type 0
 HaveOwnDraws a b = a.draw ≡ b.draw → AreOneAsk a b
 
 -- the login is that of this circuit, and was answered in this turn or before it
-pub record LetsIn (port : ℕ) (mac : Mac) (session k : ℕ) (g : Login) : Type 0 where
-  pub circuit : g.ask.circuit ≡ Pppoe port mac (record { 0 = session })
+pub record LetsIn (circuit : Circuit) (k : ℕ) (g : Login) : Type 0 where
+  pub circuit_is : g.ask.circuit ≡ circuit
   pub answered : g.answered ≤ k
 
 -- the entry is the reply of the login, as the yes to its question
@@ -185,8 +197,8 @@ pub record IsItsReply (h : Handled) (session : ℕ) (g : Login) : Type 0 where
 
 -- And it is the very question that the link of the session asked last, in the state of its shard in which this entry is handled; the
 -- link was accepted on this question before, or the entry is the login's reply.
-pub record LetsInOwn (s : ShardState) (h : Handled) (port : ℕ) (mac : Mac) (session k : ℕ) (g : Login) : Type 0 where
-  pub lets_in : LetsIn port mac session k g
+pub record LetsInOwn (s : ShardState) (h : Handled) (circuit : Circuit) (session k : ℕ) (g : Login) : Type 0 where
+  pub lets_in : LetsIn circuit k g
   pub own : last_asking_at s.slots session ≡ Some (asking_from g.ask)
   pub by : (accepted_ask_at s.slots session ≡ Some g.ask.number.ask) ⊎ IsItsReply h session g
 
@@ -233,27 +245,53 @@ pub record IsAskedIn (held : List Held) (k session : ℕ) (arrival : Arrival) (s
   pub arrival_is : arrival_in handled.deed.entry ≡ arrival
   pub auth : by.made.link.auth ≡ stands
 
--- The question of the login was heard. In the turn in which it was asked, or in one before it, a datagram was taken on the access port
--- of the question's circuit. It came whole from that port's other end, and is a frame of the session stage from the circuit's MAC in its
--- session (RFC 2516 section 6). In the PPP frame in it stands what the question claims, by how the authentication of the session's link
--- stood then: the Peer-ID and the Password of an Authenticate-Request (RFC 1334 section 2.2.1), or the Name and the Value of a Response
--- to the Challenge that the link had sent (RFC 1994 section 4.1). By this very datagram the link asked the question.
+-- The arrival was taken on this access port. It came whole from that port's other end, and is a frame of the session stage from this MAC in
+-- this session (RFC 2516 section 6), with this PPP frame.
+pub record CameAt (ports : List AccessPort) (taken : List Datagram) (a : Arrival) (port : ℕ) (mac : Mac) (session : SessionNo) (ppp : List ℕ) : Type 0 where
+  pub taken_is : Contains taken (record { role = Access port; peer = a.from; octets = a.octets })
+  pub frame : PppoeFrame
+  pub came : IsFrame ports port a frame
+  pub no_discovery : frame.discovery ≡ false
+  pub from : frame.src ≡ mac
+  pub session_is : frame.session ≡ session.0
+  pub ppp_is : frame.payload ≡ ppp
+
+-- The arrival was taken at the end for tunnels. It came whole from this peer, and is a data message to this tunnel and this session (RFC 2661
+-- section 3.1), with this PPP frame.
+pub record CameOver (taken : List Datagram) (a : Arrival) (peer : Peer) (tunnel : TunnelNo) (session : SessionNo) (ppp : List ℕ) : Type 0 where
+  pub taken_is : Contains taken (record { role = Tunnel; peer = a.from; octets = a.octets })
+  pub message : DataMessage
+  pub came : IsDataIn a.cut a.octets message
+  pub from : a.from ≡ peer
+  pub tunnel_is : message.tunnel ≡ tunnel.0
+  pub session_is : message.session ≡ session.0
+  pub ppp_is : message.ppp ≡ ppp
+
+-- it came on this circuit
+abbrev pub CameOn : Circuit → List AccessPort → List Datagram → Arrival → List ℕ → Type 0
+CameOn (Pppoe port mac session) ports taken a ppp = CameAt ports taken a port mac session ppp
+CameOn (L2tp peer tunnel session) ports taken a ppp = CameOver taken a peer tunnel session ppp
+
+-- the session's number in a circuit
+abbrev pub session_in : Circuit → ℕ
+session_in (Pppoe port mac session) = session.0
+session_in (L2tp peer tunnel session) = session.0
+
+-- The question of the login was heard. In the turn in which it was asked, or in one before it, a datagram of the question's circuit was taken:
+-- a frame on its access port, or a data message of its call at the end for tunnels. In the PPP frame in it stands what the question claims, by
+-- how the authentication of the session's link stood then: the Peer-ID and the Password of an Authenticate-Request (RFC 1334 section 2.2.1),
+-- or the Name and the Value of a Response to the Challenge that the link had sent (RFC 1994 section 4.1). By this very datagram the link
+-- asked the question.
 pub record IsHeard (config : Config) (stages : List Stage) (held : List Held) (g : Login) : Type 0 where
   pub turn : ℕ
   pub before : turn ≤ g.asked
-  pub port : ℕ
-  pub mac : Mac
-  pub session : ℕ
-  pub circuit : g.ask.circuit ≡ Pppoe port mac (record { 0 = session })
   pub arrival : Arrival
-  pub taken : Contains (stage_at stages turn).taken (record { role = Access port; peer = arrival.from; octets = arrival.octets })
-  pub frame : PppoeFrame
-  pub came : IsFrame config.access port arrival frame
-  pub no_discovery : frame.discovery ≡ false
-  pub from : frame.src ≡ mac
-  pub session_is : frame.session ≡ session
+  pub ppp : List ℕ
+  pub came : CameOn g.ask.circuit config.access (stage_at stages turn).taken arrival ppp
   pub stands : Authentication
-  pub says : Says stands frame.payload (claim_of g.ask.credentials)
+  pub says : Says stands ppp (claim_of g.ask.credentials)
+  pub session : ℕ
+  pub session_is : session_in g.ask.circuit ≡ session
   pub asks : IsAskedIn held turn session arrival stands (asking_from g.ask)
 
 -- in the turn with this number a shard handled an entry, and the datagram is one that it had to send for it
@@ -264,12 +302,34 @@ pub record SentBy (held : List Held) (k : ℕ) (d : Datagram) : Type 0 where
   pub at : HandledIn held k state handled
   pub among : Contains handled.deed.outs out
   pub role : out.role ≡ d.role
+  pub to : out.to ≡ d.peer
   pub frame : out.frame ≡ d.octets
 
 -- and one of the logins lets the peer in there
-pub record IsLetIn (held : List Held) (logins : List Login) (k : ℕ) (d : Datagram) (port : ℕ) (mac : Mac) (session : ℕ) : Type 0 where
+pub record IsLetIn (held : List Held) (logins : List Login) (k : ℕ) (d : Datagram) (circuit : Circuit) (session : ℕ) : Type 0 where
   pub by : SentBy held k d
-  pub login : AnyOf (LetsInOwn by.state by.handled port mac session k) logins
+  pub login : AnyOf (LetsInOwn by.state by.handled circuit session k) logins
+
+-- In this state there is a session that is a call of this peer, and these octets are a data message to the numbers that the peer gave its
+-- tunnel and the call (RFC 2661 section 3.1). The numbers of two calls of a peer may be the same there, so that octets do not tell the call.
+pub record IsOverCall (s : ShardState) (to : Peer) (octets : List ℕ) : Type 0 where
+  pub session : SessionNo
+  pub x : Session
+  pub found : value_at s.slots.sessions session.0 ≡ Some x
+  pub called : Called
+  pub way_is : x.way ≡ Call called
+  pub peer : called.peer ≡ to
+  pub ppp : List ℕ
+  pub sent : octets ≡ call_octets called ppp
+
+-- and one of the logins lets the peer of that call in
+pub record LetsInOver (s : ShardState) (h : Handled) (to : Peer) (octets : List ℕ) (k : ℕ) (logins : List Login) : Type 0 where
+  pub over : IsOverCall s to octets
+  pub login : AnyOf (LetsInOwn s h (L2tp to over.called.tunnel over.session) over.session.0 k) logins
+
+pub record IsLetInOver (held : List Held) (logins : List Login) (k : ℕ) (d : Datagram) : Type 0 where
+  pub by : SentBy held k d
+  pub login : LetsInOver by.state by.handled d.peer d.octets k logins
 
 -- The term that began by an entry, handled from this state, is that of the login: the login's question is the one that the link of the
 -- session had asked last, about the circuit of the term and by its User-Name, and the entry is the login's reply.
@@ -292,9 +352,11 @@ pub record BeganIn (held : List Held) (logins : List Login) (k : ℕ) (key : Key
 
 -- There are logins, each of them right, the question of each heard from the subscriber, no two with the same datagram of the server, and
 -- no two of different questions with the same draw as the authenticator of their requests, such that each yes that was sent to a peer is
--- that of a login: whoever reads what was sent finds one of the same circuit (`granted`); each such datagram comes from an entry of a
--- shard, and a login of that entry is the one of the question that the link asked last (`sent_by`); and so it is of each yes that a
--- shard had to send, sent or not (`own`). Each term of which a Start was formed in a turn began in it by the reply of a login (`terms`): no
+-- that of a login: whoever reads what was sent on an access port finds one of the same circuit (`granted`); each such datagram comes from an
+-- entry of a shard, and a login of that entry is the one of the question that the link asked last (`sent_by`); and so it is of each yes that a
+-- shard had to send, sent or not (`own`). Each yes that was sent to the peer of a tunnel comes from an entry of a shard too: it goes to the
+-- numbers of a call of that peer, and a login of that call is the one of the question that its link asked last (`sent_over`); and so it is of
+-- each that a shard had to send (`own_over`). Each term of which a Start was formed in a turn began in it by the reply of a login (`terms`): no
 -- subscriber gets an address without the server.
 pub record Granted (config : Config) (seed : List ℕ) (turns : List Made) (endings : List MadeEnd) : Type 0 where
   pub logins : List Login
@@ -303,10 +365,13 @@ pub record Granted (config : Config) (seed : List ℕ) (turns : List Made) (endi
   pub once : AllPairs AreApart logins
   pub draws : AllPairs HaveOwnDraws logins
   pub granted : (k : ℕ) (d : Datagram) (port : ℕ) (mac : Mac) (session : ℕ) → Contains (stage_at (stages_of turns endings) k).sent d
-      → IsYesOn port mac session d.role d.octets → AnyOf (LetsIn port mac session k) logins
+      → IsYesOn port mac session d.role d.octets → AnyOf (LetsIn (Pppoe port mac (record { 0 = session })) k) logins
   pub sent_by : (k : ℕ) (d : Datagram) (port : ℕ) (mac : Mac) (session : ℕ) → Contains (stage_at (stages_of turns endings) k).sent d
-      → IsYesOn port mac session d.role d.octets → IsLetIn (held_of turns endings) logins k d port mac session
+      → IsYesOn port mac session d.role d.octets → IsLetIn (held_of turns endings) logins k d (Pppoe port mac (record { 0 = session })) session
   pub own : (k : ℕ) (s : ShardState) (h : Handled) (o : OutRecord) (port : ℕ) (mac : Mac) (session : ℕ) → HandledIn (held_of turns endings) k s h
-      → Contains h.deed.outs o → IsYesOn port mac session o.role o.frame → AnyOf (LetsInOwn s h port mac session k) logins
+      → Contains h.deed.outs o → IsYesOn port mac session o.role o.frame → AnyOf (LetsInOwn s h (Pppoe port mac (record { 0 = session })) session k) logins
+  pub sent_over : (k : ℕ) (d : Datagram) → Contains (stage_at (stages_of turns endings) k).sent d → IsYesOver d.role d.octets → IsLetInOver (held_of turns endings) logins k d
+  pub own_over : (k : ℕ) (s : ShardState) (h : Handled) (o : OutRecord) → HandledIn (held_of turns endings) k s h → Contains h.deed.outs o → IsYesOver o.role o.frame
+      → LetsInOver s h o.to o.frame k logins
   pub terms : (k : ℕ) (turn : Held) (round : Round) → slice_get (held_of turns endings) k ≡ Some turn → turn.round ≡ Some round
       → All (BeganIn (held_of turns endings) logins k) (starts_of round)

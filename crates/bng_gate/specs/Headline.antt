@@ -1,13 +1,15 @@
 -- What a run says in the subject's own words.
-use Rattle.std.specs.Prelude.{◌≡◌, ℕ, ◌+◌, ◌++◌, true, false, List, [], ◌∷◌, Option, None, Some, filter, length, map, take, drop, slice_get, count_by, sum_by, zip}
+use Rattle.std.specs.Prelude.{◌≡◌, ℕ, ◌+◌, ◌++◌, true, false, List, [], ◌∷◌, Option, None, Some, filter, length, map, take, drop, slice_get, slice_index, count_by, sum_by, zip}
 use Rattle.std.specs.List.{All, AllZip, Contains, flat_map, range_with_len}
 use Rattle.byteorder.specs.Endian.{big_from}
 use Rattle.bng_base.specs.declared.address.Ip4.{Ip4}
 use Rattle.bng_base.specs.declared.address.Mac.{Mac}
+use Rattle.bng_base.specs.declared.address.Peer.{Peer}
 use Rattle.bng_base.specs.declared.address.SessionNo.{SessionNo}
+use Rattle.bng_base.specs.declared.address.TunnelNo.{TunnelNo}
 use Rattle.bng_base.specs.declared.book.Book.{Book}
 use Rattle.bng_base.specs.declared.circuit.Circuit.{Circuit}
-use Rattle.bng_base.specs.declared.circuit.Circuit.TheVariants.{Pppoe}
+use Rattle.bng_base.specs.declared.circuit.Circuit.TheVariants.{Pppoe, L2tp}
 use Rattle.bng_base.specs.declared.ipv4.Ipv4.{Ipv4}
 use Rattle.bng_base.specs.declared.outside.Datagram.{Datagram}
 use Rattle.bng_base.specs.declared.outside.Heard.{Heard}
@@ -33,10 +35,11 @@ use Rattle.bng_engine.specs.Sums.{stopped_where, has_lease, has_circuit, is_at, 
 use Rattle.bng_engine.specs.Terms.{Key, Stop, is_live, keys, stopped_keys}
 use Rattle.bng_engine.specs.Wire.{is_input, is_from, is_output, is_to, is_on, is_on_to, told_of, went}
 use Rattle.bng_l2tp_tunnel.specs.Sound.{IsSpelled}
+use Rattle.bng_l2tp_wire.specs.Messages.{type_bit}
 use Rattle.bng_shard.specs.declared.sums.Traffic.{Traffic}
 use Rattle.bng_shard.specs.Protocol.{Handled, ShardState, terms_of, terms_of_circuits, pppoe}
 use Rattle.bng_shard.specs.Lasting.{IsCause, IsCircuitCause}
-use Rattle.bng_shard.specs.Reader.{is_session_data, is_tunnel, pppoe_reader, tells_pppoe}
+use Rattle.bng_shard.specs.Reader.{IsDataSpelled, is_call_data, is_session_data, is_tunnel, pppoe_reader, tells_pppoe}
 use Rattle.bng_desk.specs.Counting.{by_number}
 use Rattle.bng_desk.specs.Model.{traffic_by}
 use Rattle.bng_desk.specs.Opening.{line_of, statics_of}
@@ -44,14 +47,14 @@ use Rattle.bng_desk.specs.Reading.{taken_in}
 use Rattle.bng_desk.specs.Report.{report_text}
 use Rattle.bng_desk.specs.Round.{not_sent, view_of}
 use Rattle.bng_gate.specs.Changed.{Changed}
-use Rattle.bng_gate.specs.Granted.{Granted, stages_of}
+use Rattle.bng_gate.specs.Granted.{Granted, held_of, stages_of}
 use Rattle.bng_gate.specs.Recorded.{Recorded, calls_of}
 use Rattle.bng_gate.specs.Replied.{AreReplied}
 use Rattle.bng_gate.specs.Reported.{ReportsLive}
 use Rattle.bng_gate.specs.Rounds.{rounds_of, history_of, plant_of, on_auth, on_data, on_acct, on_coa, beside_control, readings_of, requests_of, records_of, replies_of, is_unsent, is_lost, drops_of_run}
 use Rattle.bng_gate.specs.Run.{World, outside, Prepares, Course, Runs}
 use Rattle.bng_gate.specs.Unanswered.{NamesStops}
-use Rattle.bng_gate.specs.Unchanged.{NothingIsInvented}
+use Rattle.bng_gate.specs.Unchanged.{NothingIsInvented, lived_in}
 
 -- the octets are an IPv4 packet of which this holds, and nothing else
 pub record IsWhole (Holds : Ipv4 → Type 0) (octets : List ℕ) : Type 0 where
@@ -80,24 +83,41 @@ pub record IsToTerm (terms : List Key) (role : Role) (octets : List ℕ) : Type 
   pub session_is : big_from 16 2 octets ≡ session.0
   pub packet : IsWhole (λ v. v.dst ≡ term.lease) (drop 22 octets)
 
+-- They went to the peer of the tunnel of the circuit of one of these terms, which is a call, and after 10 octets they are a packet whose
+-- destination is the term's address. Octets 2 to 5 are the numbers that the peer gave the tunnel and the call: those of the circuit are the
+-- gateway's own.
+pub record IsToCall (terms : List Key) (to : Peer) (octets : List ℕ) : Type 0 where
+  pub term : Key
+  pub among : Contains terms term
+  pub peer : Peer
+  pub tunnel : TunnelNo
+  pub session : SessionNo
+  pub circuit : term.circuit ≡ L2tp peer tunnel session
+  pub to_is : to ≡ peer
+  pub packet : IsWhole (λ v. v.dst ≡ term.lease) (drop 10 octets)
+
 -- What went to the core is a packet from the address of one of these terms. What went out on an access port as session data of IPv4
--- (ETHER_TYPE 8864, PPP protocol 0021) is a packet on the circuit of one of them, to its address. What went to the other end of a tunnel is
--- a control message (RFC 2661 section 3.1), and no packet.
+-- (ETHER_TYPE 8864, PPP protocol 0021) is a packet on the circuit of one of them, to its address. What went to the peer of a tunnel as data
+-- of IPv4 (RFC 2661 section 3.1: the T bit is 0; PPP protocol 0021) is a packet to that peer for the call of one of them, to its address. All
+-- that went there as data is a data message in its one spelling, so that its PPP protocol stands in octets 8 and 9 and no packet hides behind
+-- other fields; and what went there with the T bit set is a control message in its one spelling.
 pub record IsAddressed (terms : List Key) (d : Datagram) : Type 0 where
   pub to_core : is_core d.role ≡ true → IsFromTerm terms d.octets
   pub to_circuit : is_access d.role ≡ true → is_session_data d.octets ≡ true → IsToTerm terms d.role d.octets
-  pub to_tunnel : is_tunnel d.role ≡ true → IsSpelled d.octets
+  pub to_call : is_tunnel d.role ≡ true → is_call_data d.octets ≡ true → IsToCall terms d.peer d.octets
+  pub spelled : is_tunnel d.role ≡ true → type_bit (slice_index d.octets 0) ≡ 0 → IsDataSpelled d.octets
+  pub to_tunnel : is_tunnel d.role ≡ true → type_bit (slice_index d.octets 0) ≡ 1 → IsSpelled d.octets
 
 -- Over the octets alone of what was sent, as anyone reads them. Input: the lengths of the datagrams to the core whose source (octets 12
--- to 15) is the circuit's address. Output: the lengths, without their first 22 octets, of the session data of IPv4 that went out on access
--- ports to its address.
+-- to 15) is the circuit's address. Output: the lengths of the packets to its address that went out on access ports, which are the session
+-- data of IPv4 without their first 22 octets, and to peers of tunnels, which are the data of IPv4 without their first 10.
 abbrev pub traffic_of : List Datagram → Static → Traffic
 traffic_of sent c = record {
   input = told_of pppoe_reader Octets (is_from c.address) sent;
   output = told_of pppoe_reader Octets (is_to c.address) sent;
 }
 
--- and the octets and the number of all packets: those to the core, and those that went out on access ports
+-- and the octets and the number of all packets: those to the core, and those that went out on access ports and to peers of tunnels
 abbrev pub total_in : List Datagram → Book
 total_in sent = record {
   input = told_of pppoe_reader Octets is_input sent;
@@ -156,8 +176,8 @@ abbrev pub live_in : History ShardState → List (ShardTurn Handled) → List Ke
 live_in h ts = flat_map (λ (x : ShardHistory ShardState). keys (filter is_live (terms_of x.state))) h.shards ++ flat_map (λ (t : ShardTurn Handled). t.settlement.starts) ts
 
 -- A round of which each datagram that was sent is addressed by one of them: what went to the core is a packet from the address of such a
--- term, each packet that went out on an access port is on the circuit of such a term, to its address, and what went to the other end of a
--- tunnel is a control message.
+-- term, each packet that went out on an access port is on the circuit of such a term, to its address, each packet that went to the peer of a
+-- tunnel is for the call of such a term, to its address, and each message that went there is a control message in its one spelling.
 pub record AddressesLive (h : History ShardState) (ts : List (ShardTurn Handled)) (h' : History ShardState) : Type 0 where
   pub next : NextRound pppoe h ts h'
   pub octets : All (IsAddressed (live_in h ts)) (went (sends_in ts))
@@ -171,9 +191,9 @@ abbrev pub AreStopped : ShardHistory ShardState → List Key → Type 0
 AreStopped h ks = Same (stopped_keys h.stops) ks
 
 -- Over the octets alone of what was sent. For each address: the Input octets of the Stops with it sum to the lengths of the packets to the
--- core with that source, and the Output octets to those of the packets on access ports with that destination. For each PPPoE circuit:
--- the Output octets of the Stops with it sum to the lengths of the packets on it, and so for each circuit and address. So it is of the
--- numbers of packets.
+-- core with that source, and the Output octets to those of the packets on access ports and to peers of tunnels with that destination. For
+-- each PPPoE circuit: the Output octets of the Stops with it sum to the lengths of the packets on it, and so for each circuit and address; of
+-- the circuit of a call octets tell nothing. So it is of the numbers of packets.
 pub record StopsAccount (stops : List Stop) (sent : List Datagram) : Type 0 where
   pub from : (q : Quantity) (address : Ip4) → stopped_where q (has_lease address) true stops ≡ told_of pppoe_reader q (is_from address) sent
   pub to : (q : Quantity) (address : Ip4) → stopped_where q (has_lease address) false stops ≡ told_of pppoe_reader q (is_to address) sent
@@ -215,15 +235,18 @@ pub record IsSafe (config : Config) (seed : List ℕ) (old new : World) (course 
   pub conserved : ConservedAt pppoe history.shards
   pub balanced : Balanced (view_of course.last.shards course.last.pool course.last.tallies) history
   -- Each datagram to the core was a packet from the address of a term, each packet on an access port was on the circuit of a term, to
-  -- its address, and each datagram to the other end of a tunnel was a control message.
+  -- its address, and each packet to the peer of a tunnel was for the call of a term, to its address. Each other message that went there was a
+  -- control message in its one spelling, or carried no packet.
   pub addressed : All (IsAddressed (all_terms_of config (rounds_of course.turns course.endings))) sent
   -- And that term was live when its round was opened, or began in that round: so it is of each round's sends that were sent.
   pub addressed_live : Chain AddressesLive (history_of course.opening) (rounds_of course.turns course.endings) history
   -- No packet was invented, doubled or put into another order: for each address the packets that were sent from it and to it come of the
-  -- datagrams that were taken, each of another one and in their order, and nothing of a packet changed but what forwarding changes.
-  pub invented_nothing : NothingIsInvented config taken sent
-  -- And so it is of each turn by itself: what its round sent comes of what the same turn took, and of nothing that was taken later.
-  pub stages_invented_nothing : All (λ s. NothingIsInvented config s.taken s.sent) (stages_of course.turns course.endings)
+  -- datagrams that were taken, each of another one and in their order, and nothing of a packet changed but what forwarding changes. Each was
+  -- taken on the circuit of a term with that address, or sent on such a circuit.
+  pub invented_nothing : NothingIsInvented config (all_terms_of config (rounds_of course.turns course.endings)) taken sent
+  -- And so it is of each turn by itself, by the terms that lived in it: what its round sent comes of what the same turn took, and of nothing
+  -- that was taken later.
+  pub stages_invented_nothing : AllZip (λ s h. NothingIsInvented config (lived_in h) s.taken s.sent) (stages_of course.turns course.endings) (held_of course.turns course.endings)
   -- What was taken from Auth, each datagram once and in order, are the datagrams that the stages of the turns heard, and so what was taken
   -- from Acct, from Coa, and from the access ports, the core and the end for tunnels, those that they took there. What was sent on all roles but
   -- Control, each datagram once and in order, is what each stage sent there for its round, then its replies to requests for changes, then its
@@ -237,7 +260,8 @@ pub record IsSafe (config : Config) (seed : List ℕ) (old new : World) (course 
   -- request of that question, which was open and asked in an earlier turn, and whose request was sent since.
   pub replied : AreReplied config seed course.turns
   -- Each yes that was sent to a peer, a Success of CHAP or an Authenticate-Ack of PAP, is that of a login of its circuit: of a question
-  -- that was heard, with its name and its proof, in a frame of the circuit that was taken on its port, and was then asked; whose very
+  -- that was heard, with its name and its proof, in a frame of the circuit that was taken on its port, or in a data message of its call that
+  -- was taken from the peer of its tunnel, and was then asked; whose very
   -- request, with that name and proof, was sent to the configured server, and to which later an Access-Accept was taken from that
   -- server, signed for this request. It is the question that the peer's link asked last. No datagram of the server is that of two
   -- logins, and no two logins of different questions have requests with the same draw as their authenticator.
@@ -250,8 +274,9 @@ pub record IsSafe (config : Config) (seed : List ℕ) (old new : World) (course 
   -- been sent for that term by then.
   pub interims : Chain ReportsLive (history_of course.opening) (zip (rounds_of course.turns course.endings) recorded.interims) history
   -- What was sent on Coa are the replies to requests for changes of sessions (RFC 5176) that were taken there and admitted. Each says what
-  -- the shard of the request said of it, in the state in which it was handled, or, where it led to no shard, for which fault it was
-  -- refused, and no session at the last; a request that comes again within 30 s is answered by the same octets.
+  -- the shard of the request said of it, in the state in which it was handled. One that stood in no shard of its turn is refused for the
+  -- first fault of the request itself, and else as one whose session there is not; of the sessions of all shards nothing is said there. A
+  -- request that comes again within 30 s is answered by the same octets.
   pub changed : Changed config course.turns course.endings course.last taken sent
   -- Of what the rounds had to send, the replies to requests for changes, the requests of the turns and their Accounting-Requests, no more was
   -- not sent than the plant's count rose, unless that stands at its end.

@@ -13,18 +13,25 @@ use std::thread::Threads;
 
 mod accounting;
 mod authentication;
+mod calls;
 mod changes;
+mod concentrator;
 mod counting;
 mod disconnects;
 mod discovery;
+mod established;
 mod forwarding;
 mod host;
 mod limits;
 mod link;
 mod logins;
 mod metering;
+mod mru;
+mod refusals;
+mod sequence;
 mod statistics;
 mod statuses;
+mod teardown;
 mod tunnels;
 
 const CONFIGURATION: &str = r#"[gateway]
@@ -192,6 +199,11 @@ fn script_of(alloc: Global, list: &[(Role, u16, &[u8])]) -> Result<Vec<Arrival>,
     }
     script.push(Arrival::new(Role::Control, loopback(5), b"stop"))?;
     Ok(script)
+}
+
+/// A datagram of nobody to Acct, which is not answered. What comes after it comes a turn later.
+fn a_turn_later() -> Arrival {
+    Arrival::new(Role::Acct, loopback(9), &[])
 }
 
 /// The datagrams that a run sent, but for those of Acct, are these, of these roles and to these ports of 127.0.0.1.

@@ -57,6 +57,7 @@ const SUBSCRIBER: Ip4 = Ip4(0x0a00_0002);
 const OPEN: TermView = TermView {
     lease: SUBSCRIBER,
     opened: true,
+    mru: 1492,
     input: None,
     output: None,
 };
@@ -64,6 +65,7 @@ const OPEN: TermView = TermView {
 const CLOSED: TermView = TermView {
     lease: SUBSCRIBER,
     opened: false,
+    mru: 1492,
     input: None,
     output: None,
 };
@@ -71,6 +73,7 @@ const CLOSED: TermView = TermView {
 const OTHER: TermView = TermView {
     lease: Ip4(0x0a00_0003),
     opened: true,
+    mru: 1492,
     input: None,
     output: None,
 };
@@ -182,6 +185,50 @@ fn a_packet_of_the_core_is_passed_on_or_left_as_it_is(rt: HostRuntime) {
     goes_down(&rt, Some(OPEN), &DOWN_SENT, expired, &DOWN_SENT);
 }
 
+// A term whose subscriber takes packets of so many octets, which is open or not.
+fn taking(mru: u16, opened: bool) -> Option<TermView> {
+    Some(TermView {
+        lease: SUBSCRIBER,
+        opened,
+        mru,
+        input: None,
+        output: None,
+    })
+}
+
+#[test]
+fn a_packet_of_the_core_is_no_longer_than_the_mru(rt: HostRuntime) {
+    let mut padded = [0; 46];
+    padded[..20].copy_from_slice(&DOWN);
+    goes_down(&rt, taking(20, true), &DOWN, Fate::Forwarded, &DOWN_SENT);
+    goes_down(&rt, taking(20, true), &padded, Fate::Forwarded, &DOWN_SENT);
+    let too_big = Fate::Dropped(DropCause::TooBig);
+    goes_down(&rt, taking(19, true), &DOWN, too_big, &DOWN);
+    goes_down(&rt, taking(19, true), &padded, too_big, &padded);
+    let not_open = Fate::Dropped(DropCause::NotOpen);
+    goes_down(&rt, taking(19, false), &DOWN, not_open, &DOWN);
+    let expired = Fate::Dropped(DropCause::Expired);
+    goes_down(&rt, taking(19, true), &DOWN_SENT, expired, &DOWN_SENT);
+    goes_up(&rt, Some(taking(19, true)), &UP, Fate::Forwarded, &UP_SENT);
+}
+
+#[test]
+fn a_packet_that_is_too_big_takes_no_token(rt: HostRuntime) {
+    let mut holder = Some(TermView {
+        lease: SUBSCRIBER,
+        opened: true,
+        mru: 19,
+        input: None,
+        output: slow(),
+    });
+    let too_big = Fate::Dropped(DropCause::TooBig);
+    goes_down_at(&rt, &mut holder, 0, &DOWN, too_big, &DOWN);
+    if let Some(view) = &mut holder {
+        view.mru = 20;
+    }
+    goes_down_at(&rt, &mut holder, 0, &DOWN, Fate::Forwarded, &DOWN_SENT);
+}
+
 // A meter that starts at 0 with tokens for one of the packets, and gets those for three more in a second.
 fn slow() -> Option<Meter> {
     let rate = Rate {
@@ -211,6 +258,7 @@ fn a_packet_of_the_subscriber_passes_by_the_input_meter(rt: HostRuntime) {
     let mut found = Some(Some(TermView {
         lease: SUBSCRIBER,
         opened: true,
+        mru: 1492,
         input: slow(),
         output: None,
     }));
@@ -230,6 +278,7 @@ fn a_packet_of_the_core_passes_by_the_output_meter(rt: HostRuntime) {
     let mut holder = Some(TermView {
         lease: SUBSCRIBER,
         opened: true,
+        mru: 1492,
         input: None,
         output: slow(),
     });

@@ -36,8 +36,8 @@ module _ (s s' : State) (outs outs' : List OutRecord) (a : At) (now : ℕ) (item
     pub by_discovery : (¬ (NamesSession p)) → DoesWith (λ e d. Discovers r s e number p d) 6 s s' outs outs' a now item fate → DoesFrame
     by_discovery other = does_more (λ e d. Discovers r s e number p d) (λ e d. HearsFrame r s e number p d) 6 10 (omega arith) (λ d says. inr (inr (other, says)))
 
-    pub by_data : (info : List ℕ) → Carries p info → DoesWith (λ e d. HearsData r s e number p info d) 1 s s' outs outs' a now item fate → DoesFrame
-    by_data info carries = does_more (λ e d. HearsData r s e number p info d) (λ e d. HearsFrame r s e number p d) 1 10 (omega arith) (λ d says. inl (info, carries, says))
+    pub by_data : (info : List ℕ) → Carries p info → DoesWith (λ e d. HearsData r s e (session_of s number p.src p.session) info d) 1 s s' outs outs' a now item fate → DoesFrame
+    by_data info carries = does_more (λ e d. HearsData r s e (session_of s number p.src p.session) info d) (λ e d. HearsFrame r s e number p d) 1 10 (omega arith) (λ d says. inl (info, carries, says))
 
     pub by_control : NamesSession p → ((info : List ℕ) → ¬ (Carries p info)) → DoesWith (λ e d. HearsIn (session_of s number p.src p.session) r s e p d) 5 s s' outs outs' a now item fate → DoesFrame
     by_control names none = does_more (λ e d. HearsIn (session_of s number p.src p.session) r s e p d) (λ e d. HearsFrame r s e number p d) 5 10 (omega arith) (λ d says. inr (inl (names, none, says)))

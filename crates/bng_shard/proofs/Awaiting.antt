@@ -2,7 +2,7 @@
 use Rattle.std.proofs.Common.{◌≡◌, ℕ, ◌+◌, ◌≤◌, max, Bool, not, List, Option, Some, None, IfSome, option_map, inl, inr, refl, sym, subst, ◌∙◌, arith}
 use Rattle.bng_base.specs.declared.address.Ip4.{Ip4}
 use Rattle.bng_base.specs.declared.item.OutRecord.{OutRecord}
-use Rattle.bng_ppp.specs.declared.whole_input.WholeInput.TheVariants.{Close}
+use Rattle.bng_ppp.specs.declared.whole_input.WholeInput.TheVariants.{Start, Close}
 use Rattle.bng_term.specs.declared.limits.Limits.{Limits}
 use Rattle.bng_term.specs.Lifetimes.{HasAllowedInterval, seconds_after}
 use Rattle.bng_base.specs.declared.item.ItemKind.{ItemKind}
@@ -12,12 +12,13 @@ use Rattle.bng_shard.specs.declared.rules.Rules.{Rules}
 use Rattle.bng_base.specs.declared.item.At.{At}
 use Rattle.bng_shard.specs.declared.session.Lease.{Lease}
 use Rattle.bng_shard.specs.declared.session.Session.{Session}
+use Rattle.bng_shard.specs.Calls.{called_session, linked_anew, turned}
 use Rattle.bng_shard.specs.Changes.{AnswersKind, AnswersRequest, HearsChange, IsAnswerOf, answer_to}
-use Rattle.bng_shard.specs.Deed.{Deed, at_of, ignored}
+use Rattle.bng_shard.specs.Deed.{Deed, at_of, beside_of, ignored}
 use Rattle.bng_shard.specs.Interims.{AwaitsInterims, Reports, interim_in, reported_at}
 use Rattle.bng_shard.specs.Link.{Drives, LinkStep, Told, ended, settles, told}
 use Rattle.bng_shard.specs.Passing.{lapsed, looked, looked_on}
-use Rattle.bng_shard.specs.State.{State, leaves, settled}
+use Rattle.bng_shard.specs.State.{Beside, State, leaves, settled}
 use Rattle.bng_shard.specs.Step.{Step}
 use Rattle.bng_shard.specs.Tenures.{kept_lease}
 use Rattle.bng_shard.specs.Verdicts.{Judges, next_lease, settled_by}
@@ -56,8 +57,8 @@ module _ (t : Reports) where
   abbrev Awaits : Session → Type 0
   Awaits x = LeaseAwaits (reported_at t.last x.number) x.lease
 
-  driven_awaits : (r : Rules) (a : At) (asked : ℕ) (x x' : Session) (outs : List OutRecord) (cause : Option ℕ) (asked' : ℕ) (Steps : LinkStep) → Drives r a asked x Steps outs cause x' asked' → Awaits x → Awaits x'
-  driven_awaits r a asked x x' outs cause asked' Steps d h = subst Awaits (sym d.session) (kept_awaits (reported_at t.last x.number) d.says.term_ended x.lease h)
+  driven_awaits : (r : Rules) (a : At) (beside : Beside) (x x' : Session) (outs : List OutRecord) (cause : Option ℕ) (beside' : Beside) (Steps : LinkStep) → Drives r a beside x Steps outs cause x' beside' → Awaits x → Awaits x'
+  driven_awaits r a beside x x' outs cause beside' Steps d h = subst Awaits (sym d.session) (kept_awaits (reported_at t.last x.number) d.says.term_ended x.lease h)
 
   none_awaits : (x : Session) → x.lease ≡ None → Awaits x
   none_awaits x none = subst (LeaseAwaits (reported_at t.last x.number)) (sym none) tt
@@ -71,15 +72,20 @@ module _ (t : Reports) where
   keeps_walk r = record {
     same = λ s s' e h. subst (λ (u : State). AwaitsInterims u t) (sym e) h;
     then = λ s s' s'' f g h. g (f h);
-    driven = λ Steps e s n x x' outs cause asked' at d h. with_kept Awaits s n x' (driven_awaits r (at_of s e) s.asked x x' outs cause asked' Steps d (h n x at)) h;
-    made = λ Steps e s n x x' outs cause asked' none d h. with_kept Awaits s n x' (driven_awaits r (at_of s e) s.asked x x' outs cause asked' Steps d (none_awaits x none)) h;
-    padt = λ s n x m at is h. with_kept Awaits s n (ended x) tt h;
+    driven = λ Steps e s n x x' outs cause beside' at d h. with_kept Awaits s n x' (driven_awaits r (at_of s e) (beside_of s e) x x' outs cause beside' Steps d (h n x at)) h;
+    made = λ Steps e s n x x' outs cause beside' none d h. with_kept Awaits s n x' (driven_awaits r (at_of s e) (beside_of s e) x x' outs cause beside' Steps d (none_awaits x none)) h;
+    ends = λ s n x m cause lost at is h. with_kept Awaits s n (ended x) tt h;
     passes = λ s n moment ms h. h;
     looks = λ s n at x found h. with_kept Awaits s n (looked at x) (looked_awaits (reported_at t.last x.number) at x.lease (h n x found)) h;
-    lapses = λ e s n x x' outs cause none asked' at over d h.
-        with_kept Awaits s n x' (driven_awaits r (at_of s e) s.asked (lapsed x) x' outs none asked' (told r e Close) d tt) h;
-    lapses_circuit = λ s n x over cause at is lapse h. with_kept Awaits s n (lapsed x) tt h;
+    lapses = λ e s n x x' outs cause none beside' at over d h.
+        with_kept Awaits s n x' (driven_awaits r (at_of s e) (beside_of s e) (lapsed x) x' outs none beside' (told r e Close) d tt) h;
+    lapses_circuit = λ e s n x over cause at is lapse h. with_kept Awaits s n (lapsed x) tt h;
     tells = λ s u h. h;
+    comes = λ e s n number peer u c link vacant new h. with_kept Awaits s n (called_session n peer number u c link) tt h;
+    turns = λ s n x c call at is h. with_kept Awaits s n (turned x c call) (h n x at) h;
+    over = λ s n x m c call at is way h. with_kept Awaits s n (ended (turned x c call)) tt h;
+    connects = λ e s n x x' m c call link outs none beside' at is way new d h.
+        with_kept Awaits s n x' (driven_awaits r (at_of s e) (beside_of s e) (linked_anew (turned x c call) link) x' outs none beside' (told r e Start) d tt) h;
   }
 
   keeps_stops : Stops Keeps
@@ -87,9 +93,9 @@ module _ (t : Reports) where
 
   module _ (r : Rules) (s : State) (limited : Bool) (d : Deed) (near : t.next ≤ d.entry.moment + 60000) where
     judged_keeps : (u : Told) (j : Judges r s d.entry u d) → HasAllowedInterval u.limits → (lease : Option Ip4)
-        → Keeps s (settled_by s d.entry.item.target j.x j.question u d.entry.moment j.after j.asked lease)
+        → Keeps s (settled_by s d.entry.item.target j.x j.question u d.entry.moment j.after j.beside lease)
     judged_keeps u j long None h =
-        with_kept Awaits s d.entry.item.target j.after (driven_awaits r (at_of s d.entry) s.asked j.x j.after j.outs j.cause j.asked (settles r d.entry u) j.drives (none_awaits j.x j.no_term)) h
+        with_kept Awaits s d.entry.item.target j.after (driven_awaits r (at_of s d.entry) (beside_of s d.entry) j.x j.after j.outs j.cause j.beside (settles r d.entry u) j.drives (none_awaits j.x j.no_term)) h
     judged_keeps u j long (Some a) h =
         let lease = next_lease s u.plan u.limits d.entry.moment a in
         with_kept Awaits s d.entry.item.target (record j.after { lease = Some lease }) (begun_awaits (reported_at t.last j.after.number) s u.plan u.limits d.entry.moment a long near) h

@@ -10,14 +10,13 @@ use Rattle.bng_base.specs.declared.item.Item.{Item}
 use Rattle.bng_base.specs.declared.item.ItemKind.{ItemKind}
 use Rattle.bng_base.specs.declared.item.ItemKind.TheVariants.{Tick, End}
 use Rattle.bng_base.specs.declared.item.OutRecord.{OutRecord}
-use Rattle.bng_lns.specs.Timed.{reminded}
 use Rattle.bng_shard.specs.declared.changes.Answer.{Answer}
 use Rattle.bng_shard.specs.declared.rules.Rules.{Rules}
 use Rattle.bng_base.specs.declared.item.At.{At}
 use Rattle.bng_shard.specs.State.{State, with_ended, with_tunnels}
 use Rattle.bng_shard.specs.Changes.{AnswersKind, IsAnswerOf}
 use Rattle.bng_shard.specs.Deed.{at_of, handled}
-use Rattle.bng_shard.specs.L2tp.{TellInTurn, tunnels_most}
+use Rattle.bng_shard.specs.L2tp.{tunnels_most}
 use Rattle.bng_shard.specs.Link.{ended as ended_session, nas_request}
 use Rattle.bng_shard.specs.Doing.{DoesWith}
 use Rattle.bng_shard.specs.Hearing.{Does, outs_most}
@@ -28,7 +27,7 @@ use Rattle.bng_shard.specs.declared.wish.Wish.TheVariants.{Nothing}
 use Rattle.bng_shard.specs.Wished.{IsAnswered, WishesFor}
 use Rattle.bng_shard.specs.Wishes.{IsAnswerTo}
 use Rattle.bng_shard.specs.Timed.{TickDone, EndDone}
-use Rattle.bng_shard.specs.Timers.{Ends, StopsTunnels, at_once}
+use Rattle.bng_shard.specs.Timers.{Ends, StopsTunnels, at_once, Reminds}
 use Rattle.bng_shard.proofs.Carrying.{its_place}
 
 -- sessions that end leave the shard its number
@@ -85,7 +84,7 @@ module _ (r : Rules) (s s' : State) (outs outs' : List OutRecord) (a : At) (now 
         entry = refl;
         fate_is = refl;
         next = refl;
-        says = (t.first, t.tunnels, subst (λ (b : At). TellInTurn reminded tunnels_most 0 b now s.tunnels t.first t.tunnels) at t.tells, t.rest, s', t.ticks entry refl refl (sym at), refl);
+        says = (t.first, t.next, subst (λ (b : At). Reminds tunnels_most 0 b now s t.first t.next) at t.reminds, t.rest, s', t.ticks entry refl refl (sym at), refl);
         outs_are = t.outs_are;
         few = t.few;
       })

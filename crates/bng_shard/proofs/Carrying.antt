@@ -11,14 +11,13 @@ use Rattle.bng_base.specs.declared.ipv4.Ipv4.{Ipv4}
 use Rattle.bng_base.specs.declared.item.Entry.{Entry}
 use Rattle.bng_base.specs.declared.item.Item.{Item}
 use Rattle.bng_base.specs.declared.item.OutRecord.{OutRecord}
-use Rattle.bng_base.specs.declared.outside.Role.TheVariants.{Access, Core}
-use Rattle.bng_base.specs.declared.settings.AccessPort.{AccessPort}
-use Rattle.bng_base.specs.PppoeGrammar.{PppoeFrame}
+use Rattle.bng_base.specs.declared.address.Peer.{Peer}
+use Rattle.bng_base.specs.declared.outside.Role.{Role}
+use Rattle.bng_base.specs.declared.outside.Role.TheVariants.{Core}
 use Rattle.bng_engine.specs.Lists.{AnyOf}
 use Rattle.bng_forward.specs.declared.view.TermView.{TermView}
 use Rattle.bng_forward.specs.Fates.{UpFate, DownFate}
 use Rattle.bng_forward.specs.Meters.{with_input, with_output}
-use Rattle.bng_forward.specs.Framed.{circuit_frame, IsFrameTo}
 use Rattle.bng_forward.specs.Packets.{IsPassedOn, MayPassUp}
 use Rattle.bng_slots.specs.Listed.{values}
 use Rattle.bng_shard.specs.declared.rules.Rules.{Rules}
@@ -26,10 +25,10 @@ use Rattle.bng_base.specs.declared.item.At.{At}
 use Rattle.bng_shard.specs.declared.meters.Meters.{Meters}
 use Rattle.bng_shard.specs.declared.session.Lease.{Lease}
 use Rattle.bng_shard.specs.declared.session.Session.{Session}
-use Rattle.bng_shard.specs.State.{State, IsTermOf, port_at, session_of, holder_of, is_kept, passes_in, leases}
+use Rattle.bng_shard.specs.State.{State, IsTermOf, holder_of, is_kept, passes_in, leases, mru_in}
 use Rattle.bng_shard.specs.Deed.{Deed, at_of, out, only}
 use Rattle.bng_shard.specs.Doing.{DoesWith}
-use Rattle.bng_shard.specs.Frames.{HearsData, HearsPacket, charge_of, forwarded, found_among, found_up, found_down}
+use Rattle.bng_shard.specs.Frames.{HearsData, HearsPacket, charge_of, forwarded, found_among, found_up, found_down, SentDown}
 use Rattle.bng_shard.specs.Metered.{meters_at, meters_found, meters_in, spent_input, spent_output, view_in}
 use Rattle.bng_shard.specs.Passing.{with_passed}
 use Rattle.bng_shard.specs.Protocol.{entry_of}
@@ -58,6 +57,7 @@ abbrev its_view : State → Session → Lease → TermView
 its_view s x l = record {
   lease = l.address;
   opened = passes_in x.service;
+  mru = mru_in x.service;
   input = (meters_at s.meters x.number).input;
   output = (meters_at s.meters x.number).output;
 }
@@ -85,18 +85,18 @@ module _ (r : Rules) (s : State) (a : At) (item : Item) (outs : List OutRecord) 
   nothing_done Says most fate says moment = nothing_at Says most fate moment (says moment)
 
   -- a packet of a circuit that does not go on
-  pub drops_up : (moment number : ℕ) (p : PppoeFrame) (info : List ℕ) (found : Option (Option TermView)) (fate : Fate) → found ≡ found_up s number p → UpFate found moment info fate → fate ≢ Forwarded
-      → DoesWith (λ e d. HearsData r s e number p info d) 1 s s outs outs a moment item fate
-  drops_up moment number p info found fate is up other =
-      nothing_at (λ e d. HearsData r s e number p info d) 1 fate moment (fate, subst (λ (f : Option (Option TermView)). UpFate f moment info fate) is up, inr (other, refl))
+  pub drops_up : (moment : ℕ) (session : Option Session) (info : List ℕ) (found : Option (Option TermView)) (fate : Fate) → found ≡ found_up s session → UpFate found moment info fate → fate ≢ Forwarded
+      → DoesWith (λ e d. HearsData r s e session info d) 1 s s outs outs a moment item fate
+  drops_up moment session info found fate is up other =
+      nothing_at (λ e d. HearsData r s e session info d) 1 fate moment (fate, subst (λ (f : Option (Option TermView)). UpFate f moment info fate) is up, inr (other, refl))
 
   -- one that goes to the core, where the view that was found has these meters then
-  pub goes_up : (moment number : ℕ) (p : PppoeFrame) (info packet : List ℕ) (found after : Option (Option TermView)) (x : Session) (l : Lease) (octets : ℕ) (outs' : List OutRecord)
-      → found ≡ found_up s number p → session_of s number p.src p.session ≡ Some x → x.lease ≡ Some l → AnyOf (IsTermOf x l) s.terms
+  pub goes_up : (moment : ℕ) (session : Option Session) (info packet : List ℕ) (found after : Option (Option TermView)) (x : Session) (l : Lease) (octets : ℕ) (outs' : List OutRecord)
+      → found ≡ found_up s session → session ≡ Some x → x.lease ≡ Some l → AnyOf (IsTermOf x l) s.terms
       → UpFate found moment info Forwarded → (v : Ipv4) × MayPassUp found moment v × IsPassedOn v info packet × (after ≡ with_input found moment v.total) → length packet ≡ octets
       → outs' ≡ outs ++ out a Core r.core_peer packet (Some (charge_of x l true octets)) ∷ []
-      → DoesWith (λ e d. HearsData r s e number p info d) 1 s (with_passed s x.number moment (meters_found after)) outs outs' a moment item Forwarded
-  goes_up moment number p info packet found after x l octets outs' is at leased term up (v, may, passed, spends) count pushed =
+      → DoesWith (λ e d. HearsData r s e session info d) 1 s (with_passed s x.number moment (meters_found after)) outs outs' a moment item Forwarded
+  goes_up moment session info packet found after x l octets outs' is at leased term up (v, may, passed, spends) count pushed =
       let e : Entry = entry_of a.seat a.place moment item in
       let sent : At → ℕ → OutRecord = λ b n. out b Core r.core_peer packet (Some (charge_of x l true n)) in
       let total : octets ≡ v.total = sym count ∙ passed.whole in
@@ -112,7 +112,7 @@ module _ (r : Rules) (s : State) (a : At) (item : Item) (outs : List OutRecord) 
         says = (
           Forwarded,
           subst (λ (f : Option (Option TermView)). UpFate f moment info Forwarded) is up,
-          inl (refl, record { x = x; found = at; lease = l; live = leased; term = term; header = v; packet = packet; source = may.source ∙ ap (λ (t : TermView). t.lease) same; passed = passed; done = refl }),
+          inl (refl, record { x = x; there = at; lease = l; live = leased; term = term; header = v; packet = packet; source = may.source ∙ ap (λ (t : TermView). t.lease) same; passed = passed; done = refl }),
         );
         outs_are = pushed ∙ ap (λ (n : ℕ). outs ++ sent a n ∷ []) total ∙ ap (λ (b : At). outs ++ sent b v.total ∷ []) (its_place s a moment item here);
         few = omega arith;
@@ -124,19 +124,18 @@ module _ (r : Rules) (s : State) (a : At) (item : Item) (outs : List OutRecord) 
   drops_down moment v fate down other = nothing_at (λ e d. HearsPacket r s e v d) 1 fate moment (fate, down, inr (other, refl))
 
   -- one that goes to a subscriber, where the view of the holder has these meters then
-  pub goes_down : (moment : ℕ) (v : Ipv4) (packet octets : List ℕ) (x : Session) (l : Lease) (port : AccessPort) (holder after : Option TermView) (outs' : List OutRecord)
-      → holder ≡ found_down s v.dst → after ≡ with_output holder moment v.total → holder_of s v.dst ≡ Some x → x.lease ≡ Some l → AnyOf (IsTermOf x l) s.terms → port_at r.access x.port ≡ Some port
+  pub goes_down : (moment : ℕ) (v : Ipv4) (packet octets : List ℕ) (role : Role) (to : Peer) (x : Session) (l : Lease) (holder after : Option TermView) (outs' : List OutRecord)
+      → holder ≡ found_down s v.dst → after ≡ with_output holder moment v.total → holder_of s v.dst ≡ Some x → x.lease ≡ Some l → AnyOf (IsTermOf x l) s.terms → SentDown x.way r x.number.0 packet role to octets
       → DownFate (found_down s) moment item.frame.payload Forwarded → IsPassedOn v item.frame.payload packet
-      → octets ≡ circuit_frame port x.mac x.number.0 packet → IsFrameTo port x.mac x.number.0 packet octets
-      → outs' ≡ outs ++ out a (Access x.port) port.peer octets (Some (charge_of x l false v.total)) ∷ []
+      → outs' ≡ outs ++ out a role to octets (Some (charge_of x l false v.total)) ∷ []
       → DoesWith (λ e d. HearsPacket r s e v d) 1 s (with_passed s x.number moment (meters_in after)) outs outs' a moment item Forwarded
-  goes_down moment v packet octets x l port holder after outs' is spends at leased term its_port down passed framed again pushed =
+  goes_down moment v packet octets role to x l holder after outs' is spends at leased term sends down passed pushed =
       let e : Entry = entry_of a.seat a.place moment item in
       let holder_is : holder ≡ Some (its_view s x l) = is ∙ ap (λ (o : Option Session). found_among s.meters o (is_kept s v.dst) v.dst) at ∙ viewed s x l leased in
       let meters : meters_in after ≡ spent_output (meters_at s.meters x.number) moment v.total = ap meters_in (spends ∙ ap (λ (h : Option TermView). with_output h moment v.total) holder_is) in
-      let sent : At → List ℕ → OutRecord = λ b f. out b (Access x.port) port.peer f (Some (charge_of x l false v.total)) in
+      let sent : At → OutRecord = λ b. out b role to octets (Some (charge_of x l false v.total)) in
       record {
-        deed = forwarded s e x.number (spent_output (meters_at s.meters x.number) moment v.total) (sent (at_of s e) (circuit_frame port x.mac x.number.0 packet));
+        deed = forwarded s e x.number (spent_output (meters_at s.meters x.number) moment v.total) (sent (at_of s e));
         entry = refl;
         fate_is = refl;
         next = ap (λ (ms : Meters). with_passed s x.number moment ms) (sym meters);
@@ -152,15 +151,16 @@ module _ (r : Rules) (s : State) (a : At) (item : Item) (outs : List OutRecord) 
               live = leased;
               term = term;
               address = held_address s v.dst x l at leased;
-              port = port;
-              its_port = its_port;
               packet = packet;
               passed = passed;
-              again = subst (λ (f : List ℕ). IsFrameTo port x.mac x.number.0 packet f) framed again;
+              role = role;
+              to = to;
+              octets = octets;
+              sent = sends;
               done = refl;
             },
           ),
         );
-        outs_are = pushed ∙ ap (λ (f : List ℕ). outs ++ sent a f ∷ []) framed ∙ ap (λ (b : At). outs ++ sent b (circuit_frame port x.mac x.number.0 packet) ∷ []) (its_place s a moment item here);
+        outs_are = pushed ∙ ap (λ (b : At). outs ++ sent b ∷ []) (its_place s a moment item here);
         few = omega arith;
       }

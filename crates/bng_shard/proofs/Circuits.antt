@@ -20,12 +20,15 @@ use Rattle.bng_base.specs.declared.book.Profile.{Profile}
 use Rattle.bng_base.specs.declared.settings.Static.{Static}
 use Rattle.bng_slots.specs.Sessions.{Sessions, IsNumberOf, NoneShares, value_at, with_value}
 use Rattle.bng_slots.specs.Listed.{values}
+use Rattle.bng_base.specs.declared.address.SessionNo.{SessionNo}
 use Rattle.bng_shard.specs.declared.session.Session.{Session}
 use Rattle.bng_shard.specs.Indexed.{address_of, term_of}
 use Rattle.bng_shard.specs.Listing.{AreListed, does_pass, passing_in}
 use Rattle.bng_shard.specs.Opening.{circuit_at, in_order, no_tunnels, none_passed, numbered_after, opened_meters, opened_slots, provisioned, tenures_after}
 use Rattle.bng_shard.specs.Serving.{AreLeased, KeepsLease, AreApart, AreOwn, AreOfShard}
-use Rattle.bng_shard.specs.State.{State, circuit_of}
+use Rattle.bng_shard.specs.declared.way.Way.{Way}
+use Rattle.bng_shard.specs.declared.way.Way.TheVariants.{Port, Call}
+use Rattle.bng_shard.specs.State.{State, circuit_in, circuit_of}
 use Rattle.bng_shard.proofs.Earliest.{read_there}
 use Rattle.bng_shard.proofs.InOrder.{Apart, AtMostOne, apart_addresses, apart_of, at_most_one, sum_in_order}
 use Rattle.bng_shard.proofs.Values.{from_entries_of, none_some, number_same, numbered, same_some, sum_nothing}
@@ -205,6 +208,10 @@ abbrev circuit_session : Circuit → ℕ
 circuit_session (Pppoe port mac session) = session.0
 circuit_session (L2tp peer tunnel session) = session.0
 
+its_session : (way : Way) (n : SessionNo) → circuit_session (circuit_in way n) ≡ n.0
+its_session (Port port mac) n = refl
+its_session (Call c) n = refl
+
 abbrev session_of_term : Option TermId → ℕ
 session_of_term None = 0
 session_of_term (Some t) = t.session.0
@@ -261,7 +268,7 @@ module _ (now number : ℕ) (circuits : List Static) (k : ℕ) (sessions : Sessi
     shares_circuit serial m circuit mine has =
         let x = read_there (λ (y : Session). Some (circuit_of y)) (value_at sessions m) circuit has in
         let same = same_some (circuit_of x.0) circuit x.2 ∙ sym (same_some (circuit_of (provisioned now c serial)) circuit mine) in
-        other_session m serial x.0 x.1 (ap circuit_session same)
+        other_session m serial x.0 x.1 (sym (its_session x.0.way x.0.number) ∙ ap circuit_session same)
 
     pub shares_term : (serial : ℕ) → NoneShares term_of sessions (provisioned now c serial)
     shares_term serial m term mine has =

@@ -21,15 +21,16 @@ use Rattle.bng_base.specs.declared.item.At.{At}
 use Rattle.bng_shard.specs.declared.session.Lease.{Lease}
 use Rattle.bng_shard.specs.declared.session.Service.TheVariants.{Provisioned}
 use Rattle.bng_shard.specs.declared.session.Session.{Session}
-use Rattle.bng_shard.specs.Deed.{Deed, at_of}
+use Rattle.bng_shard.specs.Calls.{called_session, linked_anew, turned}
+use Rattle.bng_shard.specs.Deed.{Deed, at_of, beside_of}
 use Rattle.bng_shard.specs.Discovery.{new_session}
 use Rattle.bng_shard.specs.Changes.{Found, changed_by, found_by, lease_after, place_of, recast_by}
 use Rattle.bng_shard.specs.Lasting.{CircuitsLast, IsCause, IsCircuitCause, IsLapse}
-use Rattle.bng_shard.specs.Link.{Drives, LinkStep, Told, ended, hears, nas_request, settles, told, user_request}
+use Rattle.bng_shard.specs.Link.{Drives, LinkStep, Told, ended, hears, nas_request, settles, told, lost_carrier}
 use Rattle.bng_shard.specs.Metered.{meters_of}
 use Rattle.bng_shard.specs.Opening.{in_order, numbered_after, opened_slots, tenures_after}
 use Rattle.bng_shard.specs.Passing.{lapsed, looked}
-use Rattle.bng_shard.specs.State.{State, leaves, made_one, settled, with_driven, with_ended, with_session}
+use Rattle.bng_shard.specs.State.{Beside, beside_at, State, leaves, made_one, settled, with_driven, with_ended, with_session}
 use Rattle.bng_shard.specs.Step.{Step}
 use Rattle.bng_shard.specs.Tenures.{Tenure, closed, is_over, kept_lease, over_by}
 use Rattle.bng_shard.specs.Verdicts.{Judges, next_lease, next_term, settled_by, with_term}
@@ -38,7 +39,7 @@ use Rattle.bng_shard.proofs.KnownCauses.{heard_known, lapse_known, told_known}
 use Rattle.bng_shard.proofs.SeenLeases.{looked_was}
 use Rattle.bng_shard.proofs.Changing.{found_is}
 use Rattle.bng_shard.proofs.Values.{kept_from, none_some, same_some, stands}
-use Rattle.bng_shard.proofs.Walking.{Stops, WalksBy, change_walks_by, step_walks_by}
+use Rattle.bng_shard.proofs.Walking.{IsLost, Stops, WalksBy, change_walks_by, step_walks_by}
 
 pub lease_was : (cause : Option ℕ) (lease : Option Lease) (l : Lease) → kept_lease cause lease ≡ Some l → lease ≡ Some l
 lease_was None lease l e = e
@@ -74,6 +75,11 @@ module _ (P : Tenure → Type 0) where
 
   closed_holds : (lease : Option Lease) (cause : Option ℕ) (ts : List Tenure) → Ending lease cause → All P ts → All P (closed lease cause ts)
   closed_holds lease cause ts ends h = All-from_recursion P (closed lease cause ts) (each_closed lease cause ts ends (recursion_from_All P ts h))
+
+-- a session that is lost has such a cause
+lost_known : (cause : ℕ) → IsLost cause → IsCause cause
+lost_known cause (inl is) = inl is
+lost_known cause (inr is) = inr (inl is)
 
 -- a term that has ended has one of the causes that there are
 abbrev HasKnownCause : Tenure → Type 0
@@ -113,9 +119,9 @@ module _ (circuits : ℕ) where
       ]
 
   -- a step of a link gives no lease
-  drives_was : (r : Rules) (a : At) (asked : ℕ) (x x' : Session) (outs : List OutRecord) (cause : Option ℕ) (asked' : ℕ) (Steps : LinkStep) → Drives r a asked x Steps outs cause x' asked'
+  drives_was : (r : Rules) (a : At) (beside : Beside) (x x' : Session) (outs : List OutRecord) (cause : Option ℕ) (beside' : Beside) (Steps : LinkStep) → Drives r a beside x Steps outs cause x' beside'
       → (l : Lease) → x'.lease ≡ Some l → x.lease ≡ Some l
-  drives_was r a asked x x' outs cause asked' Steps h l leased = lease_was h.says.term_ended x.lease l (sym (ap (λ (y : Session). y.lease) h.session) ∙ leased)
+  drives_was r a beside x x' outs cause beside' Steps h l leased = lease_was h.says.term_ended x.lease l (sym (ap (λ (y : Session). y.lease) h.session) ∙ leased)
 
   none_later : (x : Session) → x.lease ≡ None → IsLater x
   none_later x none l made leased = absurd (none_some l (sym none ∙ leased))
@@ -126,9 +132,9 @@ module _ (circuits : ℕ) where
   Keeps s s' = CircuitsLast circuits s → CircuitsLast circuits s'
 
   -- a session is another one, and a term may have ended
-  keeps_with : (s : State) (n : ℕ) (lease : Option Lease) (cause : Option ℕ) (y : Session) (asked : ℕ) → IfSome cause IsCause → (CircuitsLast circuits s → IsLater y) → (CircuitsLast circuits s → Spares lease cause)
-      → Keeps s (with_driven s n lease cause y asked)
-  keeps_with s n lease cause y asked known later spares h = record {
+  keeps_with : (s : State) (n : ℕ) (lease : Option Lease) (cause : Option ℕ) (y : Session) (beside : Beside) → IfSome cause IsCause → (CircuitsLast circuits s → IsLater y) → (CircuitsLast circuits s → Spares lease cause)
+      → Keeps s (with_driven s n lease cause y beside)
+  keeps_with s n lease cause y beside known later spares h = record {
     few = h.few;
     later = later_with s n y (later h) h.later;
     causes = closed_lasts lease cause s.terms (spares h) h.causes;
@@ -136,7 +142,7 @@ module _ (circuits : ℕ) where
   }
 
   keeps_ended : (s : State) (n : ℕ) (x : Session) (cause : ℕ) → IsCause cause → (CircuitsLast circuits s → Spares x.lease (Some cause)) → Keeps s (with_ended s n x.lease cause (ended x))
-  keeps_ended s n x cause known spares = keeps_with s n x.lease (Some cause) (ended x) s.asked known (λ h. none_later (ended x) refl) spares
+  keeps_ended s n x cause known spares = keeps_with s n x.lease (Some cause) (ended x) (beside_at 0 s.asked s.tunnels) known (λ h. none_later (ended x) refl) spares
 
   -- what a session that discovery made ends is no circuit's
   made_spares : (s : State) (n : ℕ) (x : Session) (cause : Option ℕ) → value_at s.sessions n ≡ Some x → made_one x.service ≡ 1 → CircuitsLast circuits s → Spares x.lease cause
@@ -149,35 +155,45 @@ module _ (circuits : ℕ) where
       omega (arith, h.later n x was.0 found made was.1, ap (λ (k : Lease). k.serial) was.2)
 
   -- a step of a link that ends its term by one of the causes that there are
-  keeps_driven : (r : Rules) (a : At) (s : State) (n : ℕ) (x x' : Session) (outs : List OutRecord) (cause : Option ℕ) (asked' : ℕ) (Steps : LinkStep) → IfSome cause IsCause → value_at s.sessions n ≡ Some x
-      → Drives r a s.asked x Steps outs cause x' asked' → Keeps s (with_driven s n x.lease cause x' asked')
-  keeps_driven r a s n x x' outs cause asked' Steps known at drives =
+  keeps_driven : (r : Rules) (a : At) (moment : ℕ) (s : State) (n : ℕ) (x x' : Session) (outs : List OutRecord) (cause : Option ℕ) (beside' : Beside) (Steps : LinkStep) → IfSome cause IsCause → value_at s.sessions n ≡ Some x
+      → Drives r a (beside_at moment s.asked s.tunnels) x Steps outs cause x' beside' → Keeps s (with_driven s n x.lease cause x' beside')
+  keeps_driven r a moment s n x x' outs cause beside' Steps known at drives =
       let made : made_one x.service ≡ 1 = ap made_one drives.is_made in
-      keeps_with s n x.lease cause x' asked' known (λ h l is leased. h.later n x l at made (drives_was r a s.asked x x' outs cause asked' Steps drives l leased)) (made_spares s n x cause at made)
+      keeps_with s n x.lease cause x' beside' known (λ h l is leased. h.later n x l at made (drives_was r a (beside_at moment s.asked s.tunnels) x x' outs cause beside' Steps drives l leased)) (made_spares s n x cause at made)
 
   keeps_walk : (r : Rules) → WalksBy r Keeps
   keeps_walk r = record {
     same = λ s s' e h. subst (CircuitsLast circuits) (sym e) h;
     then = λ s s' s'' f g h. g (f h);
-    timed = λ e s n x x' outs cause asked' at drives.
-        keeps_driven r (at_of s e) s n x x' outs cause asked' (told r e Timer) (told_known r e (at_of s e) s.asked x x' outs cause asked' Timer drives) at drives;
-    heard = λ octets e s n x x' outs cause asked' at drives.
-        keeps_driven r (at_of s e) s n x x' outs cause asked' (hears r e octets) (heard_known r e (at_of s e) s.asked x x' outs cause asked' octets drives) at drives;
-    made = λ e s n port mac host_uniq link x' outs cause asked' vacant new drives.
+    timed = λ e s n x x' outs cause beside' at drives.
+        keeps_driven r (at_of s e) e.moment s n x x' outs cause beside' (told r e Timer) (told_known r e (at_of s e) (beside_of s e) x x' outs cause beside' Timer drives) at drives;
+    heard = λ octets e s n x x' outs cause beside' at drives.
+        keeps_driven r (at_of s e) e.moment s n x x' outs cause beside' (hears r e octets) (heard_known r e (at_of s e) (beside_of s e) x x' outs cause beside' octets drives) at drives;
+    made = λ e s n port mac host_uniq link x' outs cause beside' vacant new drives.
         let x = new_session n port mac host_uniq link in
-        keeps_with s n None cause x' asked' (told_known r e (at_of s e) s.asked x x' outs cause asked' Start drives)
-        (λ h l is leased. absurd (none_some l (drives_was r (at_of s e) s.asked x x' outs cause asked' (told r e Start) drives l leased))) (λ h l c leased. absurd (none_some l leased));
-    padt = λ s n x m at is. keeps_ended s n x user_request (inl refl) (made_spares s n x (Some user_request) at (ap made_one is));
+        keeps_with s n None cause x' beside' (told_known r e (at_of s e) (beside_of s e) x x' outs cause beside' Start drives)
+        (λ h l is leased. absurd (none_some l (drives_was r (at_of s e) (beside_of s e) x x' outs cause beside' (told r e Start) drives l leased))) (λ h l c leased. absurd (none_some l leased));
+    ends = λ s n x m cause lost at is. keeps_ended s n x cause (lost_known cause lost) (made_spares s n x (Some cause) at (ap made_one is));
     passes = λ s n moment ms h. record { few = h.few; later = h.later; causes = h.causes; known = h.known };
     looks = λ s n at x found h. record { few = h.few; later = later_with s n (looked at x) (looked_later s n at x found h) h.later; causes = h.causes; known = h.known };
-    lapses = λ e s n x x' outs cause none asked' at over drives.
-        keeps_with s n x.lease (Some cause) x' asked' (lapse_known cause over)
-        (λ h l is leased. absurd (none_some l (drives_was r (at_of s e) s.asked (lapsed x) x' outs none asked' (told r e Close) drives l leased)))
+    lapses = λ e s n x x' outs cause none beside' at over drives.
+        keeps_with s n x.lease (Some cause) x' beside' (lapse_known cause over)
+        (λ h l is leased. absurd (none_some l (drives_was r (at_of s e) (beside_of s e) (lapsed x) x' outs none beside' (told r e Close) drives l leased)))
         (made_spares s n x (Some cause) at (ap made_one drives.is_made));
-    lapses_circuit = λ s n x over cause at is lapse.
-        keeps_with s n x.lease (Some cause) (lapsed x) s.asked (lapse_known cause lapse) (λ h. none_later (lapsed x) refl)
+    lapses_circuit = λ e s n x over cause at is lapse.
+        keeps_with s n x.lease (Some cause) (lapsed x) (beside_of s e) (lapse_known cause lapse) (λ h. none_later (lapsed x) refl)
         (λ h l c leased same low. inl (subst IsLapse (same_some cause c same) lapse));
     tells = λ s t h. record { few = h.few; later = h.later; causes = h.causes; known = h.known };
+    comes = λ e s n number peer t c link vacant new h.
+        let y = called_session n peer number t c link in record { few = h.few; later = later_with s n y (none_later y refl) h.later; causes = h.causes; known = h.known };
+    turns = λ s n x c call at way h. record { few = h.few; later = later_with s n (turned x c call) (λ l made leased. h.later n x l at made leased) h.later; causes = h.causes; known = h.known };
+    over = λ s n x m c call at is way.
+        let y = ended (turned x c call) in
+        keeps_with s n x.lease (Some lost_carrier) y (beside_at 0 s.asked s.tunnels) (inr (inl refl)) (λ h. none_later y refl) (made_spares s n x (Some lost_carrier) at (ap made_one is));
+    connects = λ e s n x x' m c call link outs none beside' at is way new drives.
+        keeps_with s n x.lease (Some lost_carrier) x' beside' (inr (inl refl))
+        (λ h l made leased. absurd (none_some l (drives_was r (at_of s e) (beside_of s e) (linked_anew (turned x c call) link) x' outs none beside' (told r e Start) drives l leased)))
+        (made_spares s n x (Some lost_carrier) at (ap made_one is));
   }
 
   keeps_stops : Stops Keeps
@@ -211,8 +227,8 @@ module _ (circuits : ℕ) where
       }
 
   -- a term begins, numbered on
-  begun_keeps : (s : State) (n : ℕ) (y : Session) (asked : ℕ) (k : Lease) (t : Tenure) (ms : Meters) → k.serial ≡ s.begun + 1 → t.cause ≡ None → Keeps s (with_term s n y asked k t ms)
-  begun_keeps s n y asked k t ms serial live h = record {
+  begun_keeps : (s : State) (n : ℕ) (y : Session) (beside : Beside) (k : Lease) (t : Tenure) (ms : Meters) → k.serial ≡ s.begun + 1 → t.cause ≡ None → Keeps s (with_term s n y beside k t ms)
+  begun_keeps s n y beside k t ms serial live h = record {
     few = omega (arith, h.few);
     later = later_with s n (record y { lease = Some k }) (λ l made is. omega (arith, h.few, serial, ap (λ (j : Lease). j.serial) (same_some k l is))) h.later;
     causes = All-push Lasting s.terms t h.causes (λ low. subst (λ (o : Option ℕ). IfSome o IsCircuitCause) (sym live) tt);
@@ -220,11 +236,11 @@ module _ (circuits : ℕ) where
   }
 
   module _ (r : Rules) (s : State) (limited : Bool) (d : Deed) where
-    judged_keeps : (t : Told) (h : Judges r s d.entry t d) → (lease : Option Ip4) → Keeps s (settled_by s d.entry.item.target h.x h.question t d.entry.moment h.after h.asked lease)
+    judged_keeps : (t : Told) (h : Judges r s d.entry t d) → (lease : Option Ip4) → Keeps s (settled_by s d.entry.item.target h.x h.question t d.entry.moment h.after h.beside lease)
     judged_keeps t h None =
-        let after : (l : Lease) → h.after.lease ≡ Some l → h.x.lease ≡ Some l = drives_was r (at_of s d.entry) s.asked h.x h.after h.outs h.cause h.asked (settles r d.entry t) h.drives in
-        keeps_with s d.entry.item.target None None h.after h.asked tt (λ k l made leased. absurd (none_some l (sym h.no_term ∙ after l leased))) (λ k l c leased. absurd (none_some l leased))
-    judged_keeps t h (Some a) = begun_keeps s d.entry.item.target h.after h.asked (next_lease s t.plan t.limits d.entry.moment a) (next_term s h.x h.question t.plan t.class d.entry.moment a) (meters_of t.plan d.entry.moment) refl refl
+        let after : (l : Lease) → h.after.lease ≡ Some l → h.x.lease ≡ Some l = drives_was r (at_of s d.entry) (beside_of s d.entry) h.x h.after h.outs h.cause h.beside (settles r d.entry t) h.drives in
+        keeps_with s d.entry.item.target None None h.after h.beside tt (λ k l made leased. absurd (none_some l (sym h.no_term ∙ after l leased))) (λ k l c leased. absurd (none_some l leased))
+    judged_keeps t h (Some a) = begun_keeps s d.entry.item.target h.after h.beside (next_lease s t.plan t.limits d.entry.moment a) (next_term s h.x h.question t.plan t.class d.entry.moment a) (meters_of t.plan d.entry.moment) refl refl
 
     pub circuits_kept : Step r s limited d → CircuitsLast circuits s → CircuitsLast circuits d.next
     circuits_kept =

@@ -1,5 +1,5 @@
 -- What was done with a frame that names a session and carries no IPv4 packet, of what is known of its parts.
-use Rattle.std.proofs.Common.{◌≡◌, ℕ, ◌+◌, ◌≤◌, Bool, true, false, not, List, [], Option, Some, None, length, inl, inr, refl, sym, ap, subst, ◌∙◌, arith}
+use Rattle.std.proofs.Common.{◌≡◌, ℕ, ◌+◌, ◌≤◌, Bool, true, false, not, List, [], Option, Some, None, length, inl, inr, refl, sym, ap, subst, ◌∙◌, arith, ◌&&◌}
 use Rattle.std.specs.Prelude.{if◌then◌else◌}
 use Rattle.std.proofs.lemmas.List.{append-nil}
 use Rattle.bng_base.specs.declared.address.Mac.{Mac}
@@ -12,21 +12,26 @@ use Rattle.bng_base.specs.PppoeGrammar.{PppoeFrame}
 use Rattle.bng_ppp.specs.PppRelation.{PppSaid}
 use Rattle.bng_ppp.specs.PppState.{PppState}
 use Rattle.bng_slots.specs.Sessions.{value_at}
+use Rattle.bng_l2tp_wire.specs.Messages.{DataMessage}
+use Rattle.bng_base.specs.declared.address.Peer.{Peer}
+use Rattle.std.proofs.lemmas.Bool.{and_parts}
+use Rattle.bng_shard.proofs.Naming.{call_number}
+use Rattle.bng_shard.specs.Datagrams.{HearsFor, HearsOver}
 use Rattle.bng_shard.specs.declared.frames.Control.TheVariants.{Unknown, Ignored, Heard}
 use Rattle.bng_shard.specs.declared.rules.Rules.{Rules}
 use Rattle.bng_base.specs.declared.item.At.{At}
 use Rattle.bng_shard.specs.declared.session.Service.{Service}
 use Rattle.bng_shard.specs.declared.session.Service.TheVariants.{Provisioned, Discovered}
 use Rattle.bng_shard.specs.declared.session.Session.{Session}
-use Rattle.bng_shard.specs.State.{State, is_on, session_of, where_on, with_driven, with_ended}
-use Rattle.bng_shard.specs.Controlling.{IsControl}
-use Rattle.bng_shard.specs.Deed.{at_of, dropped, handled, ignored}
+use Rattle.bng_shard.specs.State.{Beside, State, is_on, session_of, where_on, with_driven, with_ended, beside_at, lives_in, call_of, is_connected}
+use Rattle.bng_shard.specs.Controlling.{IsControl, IsControlOver}
+use Rattle.bng_shard.specs.Deed.{at_of, beside_of, dropped, handled, ignored}
 use Rattle.bng_shard.specs.Doing.{DoesWith}
 use Rattle.bng_shard.specs.Driven.{Driven}
 use Rattle.bng_shard.specs.Frames.{HearsControl, HearsIn}
 use Rattle.bng_shard.specs.Link.{Drives, HearsPppFrame, LinkStep, ended, hears, user_request}
 use Rattle.bng_shard.specs.Protocol.{entry_of}
-use Rattle.bng_shard.specs.Timers.{does_live, lives_at, lives_in}
+use Rattle.bng_shard.specs.Timers.{does_live, lives_at}
 use Rattle.bng_shard.proofs.Carrying.{nothing_done}
 use Rattle.bng_shard.proofs.Speaking.{drives, drives_so, driven_few}
 
@@ -111,28 +116,100 @@ module _ (r : Rules) (s : State) (a : At) (item : Item) (outs : List OutRecord) 
         few = omega arith;
       }
 
-  hears_so : (e : Entry) (x x' : Session) (cause : Option ℕ) (asked' : ℕ) (v : Service) (sent : List OutRecord) → x.service ≡ v → lives_in v ≡ true → p.discovery ≡ false → Drives r (at_of s e) s.asked x (hears r e p.payload) sent cause x' asked'
-      → HearsControl v r s e x p (handled s e sent (with_driven s p.session x.lease cause x' asked'))
-  hears_so e x x' cause asked' (Provisioned l) sent is h d step = absurd (let never : ⊥ = cc in never)
-  hears_so e x x' cause asked' (Discovered m) sent is h d step = inr (d, inr (going m.ended h, sent, cause, x', asked', step, refl))
+  hears_so : (e : Entry) (x x' : Session) (cause : Option ℕ) (beside' : Beside) (v : Service) (sent : List OutRecord) → x.service ≡ v → lives_in v ≡ true → p.discovery ≡ false → Drives r (at_of s e) (beside_of s e) x (hears r e p.payload) sent cause x' beside'
+      → HearsControl v r s e x p (handled s e sent (with_driven s p.session x.lease cause x' beside'))
+  hears_so e x x' cause beside' (Provisioned l) sent is h d step = absurd (let never : ⊥ = cc in never)
+  hears_so e x x' cause beside' (Discovered m) sent is h d step = inr (d, inr (going m.ended h, sent, cause, x', beside', step, refl))
 
   -- the link of one that lives hears another frame
   pub hears_it : (Steps : LinkStep) (now : ℕ) → ((old : PppState) (says : PppSaid) (new : PppState) → Steps old says new → HearsPppFrame r.link p.payload now item.random old says new)
       → IsControl its Heard → p.discovery ≡ false → (s' : State) (outs' : List OutRecord)
-      → ((x : Session) → value_at s.sessions p.session ≡ Some x → (x' : Session) × (cause : Option ℕ) × (asked' : ℕ) × Driven r a Steps s.asked x cause x' asked' outs outs' × (s' ≡ with_driven s p.session x.lease cause x' asked'))
+      → ((x : Session) → value_at s.sessions p.session ≡ Some x → (x' : Session) × (cause : Option ℕ) × (beside' : Beside) × Driven r a Steps (beside_at now s.asked s.tunnels) x cause x' beside' outs outs' × (s' ≡ with_driven s p.session x.lease cause x' beside'))
       → length outs' ≤ length outs + 5 → DoesWith (λ e d. HearsIn its r s e p d) 5 s s' outs outs' a now item Consumed
   hears_it Steps now turn h d s' outs' driven few =
       let is = heard_is its h in
       let e = entry_of a.seat a.place now item in
-      let (x', cause, asked', step, next) = driven is.0 (stands_at s number p.src p.session is.0 is.1) in
+      let (x', cause, beside', step, next) = driven is.0 (stands_at s number p.src p.session is.0 is.1) in
       record {
-        deed = handled s e step.more (with_driven s p.session is.0.lease cause x' asked');
+        deed = handled s e step.more (with_driven s p.session is.0.lease cause x' beside');
         entry = refl;
         fate_is = refl;
         next = sym next;
-        says = subst (λ (o : Option Session). HearsIn o r s e p (handled s e step.more (with_driven s p.session is.0.lease cause x' asked'))) (sym is.1)
-            (hears_so e is.0 x' cause asked' is.0.service step.more refl is.2 d
-            (drives_so r (at_of s e) s.asked is.0 x' Steps (hears r e p.payload) step.more cause asked' turn (drives r s a now item outs outs' is.0 x' Steps s.asked cause asked' here step)));
+        says = subst (λ (o : Option Session). HearsIn o r s e p (handled s e step.more (with_driven s p.session is.0.lease cause x' beside'))) (sym is.1)
+            (hears_so e is.0 x' cause beside' is.0.service step.more refl is.2 d
+            (drives_so r (at_of s e) (beside_of s e) is.0 x' Steps (hears r e p.payload) step.more cause beside' turn (drives r s a now item outs outs' is.0 x' Steps (beside_of s e) cause beside' here step)));
         outs_are = step.outs_are;
-        few = driven_few r s a now item outs outs' is.0 x' Steps s.asked cause asked' here step 5 few;
+        few = driven_few r s a now item outs outs' is.0 x' Steps (beside_of s e) cause beside' here step 5 few;
+      }
+
+-- Calls -------------------------------------------------------------------------------------------------------------------
+
+alone : (b : Bool) → (b && true) ≡ false → b ≡ false
+alone true h = h
+alone false h = refl
+
+over_unknown : (o : Option Session) → IsControlOver o Unknown → o ≡ None
+over_unknown None h = refl
+over_unknown (Some x) h = absurd h
+
+over_ignored : (o : Option Session) → IsControlOver o Ignored → (x : Session) × (o ≡ Some x) × ((lives_in x.service && is_connected x.way) ≡ false)
+over_ignored None h = absurd (let never : ⊥ = cc in never)
+over_ignored (Some x) h = (x, refl, h)
+
+pub over_heard : (o : Option Session) → IsControlOver o Heard → (x : Session) × (o ≡ Some x) × (lives_in x.service ≡ true) × (is_connected x.way ≡ true)
+over_heard None h = absurd (let never : ⊥ = cc in never)
+over_heard (Some x) h = let parts = and_parts (lives_in x.service) (is_connected x.way) h in (x, refl, parts.0, parts.1)
+
+-- the call of a PPP frame lives
+pub call_lives : (s : State) (peer : Peer) (tunnel n : ℕ) → IsControlOver (call_of s peer tunnel n) Heard → lives_at s n ≡ true
+call_lives s peer tunnel n h =
+    let is = over_heard (call_of s peer tunnel n) h in
+    ap does_live (call_number peer tunnel (value_at s.sessions n) is.0 is.1) ∙ is.2
+
+module _ (r : Rules) (s : State) (a : At) (item : Item) (outs : List OutRecord) (here : a.shard ≡ s.sessions.shard) (p : DataMessage) where
+  abbrev its_call : Option Session
+  its_call = call_of s item.from p.tunnel p.session
+
+  pub no_call : IsControlOver its_call Unknown → (now : ℕ) → DoesWith (λ e d. HearsFor its_call r s e p d) 5 s s outs outs a now item (Dropped NoSession)
+  no_call h =
+      nothing_done r s a item outs here (λ e d. HearsFor its_call r s e p d) 5 (Dropped NoSession)
+      (λ moment. let e = entry_of a.seat a.place moment item in subst (λ (o : Option Session). HearsFor o r s e p (dropped s e NoSession)) (sym (over_unknown its_call h)) refl)
+
+  -- one that has ended, or is not established, does nothing
+  call_idle : (e : Entry) (x : Session) (v : Service) (b : Bool) → is_connected x.way ≡ b → (lives_in v && b) ≡ false → HearsOver v r s e x p (ignored s e)
+  call_idle e x (Provisioned over) b is h = refl
+  call_idle e x (Discovered m) true is h = inl (is, inl (over m.ended (alone (not m.ended) h), refl))
+  call_idle e x (Discovered m) false is h = inr (is, refl)
+
+  pub call_stays_idle : IsControlOver its_call Ignored → (now : ℕ) → DoesWith (λ e d. HearsFor its_call r s e p d) 5 s s outs outs a now item Consumed
+  call_stays_idle h =
+      let is = over_ignored its_call h in
+      nothing_done r s a item outs here (λ e d. HearsFor its_call r s e p d) 5 Consumed
+      (λ moment. let e = entry_of a.seat a.place moment item in
+      subst (λ (o : Option Session). HearsFor o r s e p (ignored s e)) (sym is.1) (call_idle e is.0 is.0.service (is_connected is.0.way) refl is.2))
+
+  call_hears : (e : Entry) (x x' : Session) (cause : Option ℕ) (beside' : Beside) (v : Service) (sent : List OutRecord) → lives_in v ≡ true → is_connected x.way ≡ true
+      → Drives r (at_of s e) (beside_of s e) x (hears r e p.ppp) sent cause x' beside' → HearsOver v r s e x p (handled s e sent (with_driven s p.session x.lease cause x' beside'))
+  call_hears e x x' cause beside' (Provisioned over) sent lives up step = absurd (let never : ⊥ = cc in never)
+  call_hears e x x' cause beside' (Discovered m) sent lives up step = inl (up, inr (going m.ended lives, sent, cause, x', beside', step, refl))
+
+  -- the link of one that lives and is established hears the frame
+  pub call_hears_it : (Steps : LinkStep) (now : ℕ) → ((old : PppState) (says : PppSaid) (new : PppState) → Steps old says new → HearsPppFrame r.link p.ppp now item.random old says new)
+      → IsControlOver its_call Heard → (s' : State) (outs' : List OutRecord)
+      → ((x : Session) → value_at s.sessions p.session ≡ Some x → (x' : Session) × (cause : Option ℕ) × (beside' : Beside) × Driven r a Steps (beside_at now s.asked s.tunnels) x cause x' beside' outs outs' × (s' ≡ with_driven s p.session x.lease cause x' beside'))
+      → length outs' ≤ length outs + 5 → DoesWith (λ e d. HearsFor its_call r s e p d) 5 s s' outs outs' a now item Consumed
+  call_hears_it Steps now turn h s' outs' driven few =
+      let is = over_heard its_call h in
+      let e = entry_of a.seat a.place now item in
+      let (x', cause, beside', step, next) = driven is.0 (call_number item.from p.tunnel (value_at s.sessions p.session) is.0 is.1) in
+      record {
+        deed = handled s e step.more (with_driven s p.session is.0.lease cause x' beside');
+        entry = refl;
+        fate_is = refl;
+        next = sym next;
+        says = subst (λ (o : Option Session). HearsFor o r s e p (handled s e step.more (with_driven s p.session is.0.lease cause x' beside'))) (sym is.1)
+            (call_hears e is.0 x' cause beside' is.0.service step.more is.2 is.3
+            (drives_so r (at_of s e) (beside_of s e) is.0 x' Steps (hears r e p.ppp) step.more cause beside' turn (drives r s a now item outs outs' is.0 x' Steps (beside_of s e) cause beside' here step)));
+        outs_are = step.outs_are;
+        few = driven_few r s a now item outs outs' is.0 x' Steps (beside_of s e) cause beside' here step 5 few;
       }

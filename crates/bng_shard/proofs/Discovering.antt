@@ -19,8 +19,8 @@ use Rattle.bng_ppp.specs.PppRelation.{PppSteps}
 use Rattle.bng_shard.specs.declared.rules.Rules.{Rules}
 use Rattle.bng_base.specs.declared.item.At.{At}
 use Rattle.bng_shard.specs.declared.session.Session.{Session}
-use Rattle.bng_shard.specs.State.{State, port_at, offers_at, with_driven}
-use Rattle.bng_shard.specs.Deed.{Deed, at_of, frame_outs, handled, ignored}
+use Rattle.bng_shard.specs.State.{Beside, State, port_at, offers_at, with_driven, beside_at}
+use Rattle.bng_shard.specs.Deed.{Deed, at_of, frame_outs, handled, ignored, beside_of}
 use Rattle.bng_shard.specs.Discovery.{Answers, Discovers, host_uniq_of, new_session, repeated}
 use Rattle.bng_shard.specs.Doing.{DoesWith}
 use Rattle.bng_shard.specs.Driven.{Driven}
@@ -118,22 +118,22 @@ module _ (r : Rules) (s : State) (a : At) (now : ℕ) (item : Item) (number : �
       frame_said v answer.Again (pads x.number.0) outs' row (record { x = x; found = found; done = refl }) (sent ∙ ap (λ (n : ℕ). outs ++ frame_at a (pads n)) (sym same)) short
 
   -- a session was made, and its PADS stands before what its link says
-  pub session_made : (session : ℕ) (new x : Session) (cause : Option ℕ) (asked' : ℕ) (first all : List OutRecord) (s' : State) → IsAnswer s number offers p tags (Some session) answer.Make
+  pub session_made : (session : ℕ) (new x : Session) (cause : Option ℕ) (beside' : Beside) (first all : List OutRecord) (s' : State) → IsAnswer s number offers p tags (Some session) answer.Make
       → IsNewSession session number p.src (host_uniq_of tags) item.random new → first ≡ outs ++ frame_at a (pads_of offers p.src session tags) → length first ≤ length outs + 1
-      → Driven r a (PppSteps r.link Start now item.random) s.asked new cause x asked' first all → length all ≤ length first + 5 → s' ≡ with_driven s session None cause x asked' → DoesThis s' all
-  session_made session new x cause asked' first all s' row is sent short d few_more next =
+      → Driven r a (PppSteps r.link Start now item.random) (beside_at now s.asked s.tunnels) new cause x beside' first all → length all ≤ length first + 5 → s' ≡ with_driven s session None cause x beside' → DoesThis s' all
+  session_made session new x cause beside' first all s' row is sent short d few_more next =
       let f = pads_of offers p.src session tags in
-      let starts : Drives r (at_of s entry) s.asked (new_session session number p.src (host_uniq_of tags) is.0) (told r entry Start) d.more cause x asked' =
-      subst (λ (y : Session). Drives r (at_of s entry) s.asked y (told r entry Start) d.more cause x asked') is.2 (drives r s a now item first all new x (PppSteps r.link Start now item.random) s.asked cause asked' here d) in
+      let starts : Drives r (at_of s entry) (beside_of s entry) (new_session session number p.src (host_uniq_of tags) is.0) (told r entry Start) d.more cause x beside' =
+      subst (λ (y : Session). Drives r (at_of s entry) (beside_of s entry) y (told r entry Start) d.more cause x beside') is.2 (drives r s a now item first all new x (PppSteps r.link Start now item.random) (beside_of s entry) cause beside' here d) in
       let outs_are : all ≡ outs ++ (frame_at (at_of s entry) f ++ d.more) =
       d.outs_are ∙ ap (λ (o : List OutRecord). o ++ d.more) (sent_there f first sent) ∙ append_assoc outs (frame_at (at_of s entry) f) d.more in
-      let deed = handled s entry (frame_at (at_of s entry) f ++ d.more) (with_driven s session None cause x asked') in
+      let deed = handled s entry (frame_at (at_of s entry) f ++ d.more) (with_driven s session None cause x beside') in
       record {
         deed = deed;
         entry = refl;
         fate_is = refl;
         next = sym next;
-        says = answered (Some session) answer.Make deed row (record { session = session; vacant = row.0; link = is.0; new = is.1; outs = d.more; x = x; cause = cause; asked = asked'; starts = starts; done = refl });
+        says = answered (Some session) answer.Make deed row (record { session = session; vacant = row.0; link = is.0; new = is.1; outs = d.more; x = x; cause = cause; beside = beside'; starts = starts; done = refl });
         outs_are = outs_are;
         few = omega (arith, ap length outs_are, length-append outs (frame_at (at_of s entry) f ++ d.more), short, few_more);
       }

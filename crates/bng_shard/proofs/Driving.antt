@@ -1,5 +1,5 @@
 -- What a session's link sends does not depend on the link, nor on whether the session has ended.
-use Rattle.std.proofs.Common.{◌≡◌, ◌⊎◌, ℕ, ◌-◌, ◌<◌, ◌≤◌, ◌==◌, Bool, true, false, Option, Some, None, inl, inr, List, [], ◌++◌, length, ◌∙◌, refl, sym, ap, append_assoc, append-nil, arith}
+use Rattle.std.proofs.Common.{◌≡◌, ◌⊎◌, ℕ, ◌-◌, ◌<◌, ◌≤◌, ◌==◌, Bool, true, false, Option, Some, None, inl, inr, List, [], ◌++◌, length, ◌∙◌, refl, sym, ap, subst, append_assoc, append-nil, arith}
 use Rattle.std.specs.Prelude.{if◌then◌else◌, slice_get, get_or}
 use Rattle.std.proofs.lemmas.Option.{slice_get_cases, slice_get_within}
 use Rattle.bng_base.specs.declared.address.SessionNo.{SessionNo}
@@ -8,13 +8,14 @@ use Rattle.bng_base.specs.declared.settings.AccessPort.{AccessPort}
 use Rattle.bng_discovery.specs.declared.port.PortRules.{PortRules}
 use Rattle.bng_ppp.specs.PppRelation.{PppSaid}
 use Rattle.bng_ppp.specs.PppState.{PppState}
+use Rattle.bng_lns.specs.Tunnels.{TunnelsState}
 use Rattle.bng_shard.specs.Made.{Made}
 use Rattle.bng_shard.specs.declared.rules.Rules.{Rules}
 use Rattle.bng_base.specs.declared.item.At.{At}
 use Rattle.bng_shard.specs.declared.session.Service.TheVariants.{Discovered}
 use Rattle.bng_shard.specs.declared.session.Session.{Session}
-use Rattle.bng_shard.specs.State.{port_at, offers_at}
-use Rattle.bng_shard.specs.Link.{IsAt, EndsWith, LinkStep, asked_after, ppp_outs, padt_outs, with_link}
+use Rattle.bng_shard.specs.State.{port_at, offers_at, Beside, beside_at}
+use Rattle.bng_shard.specs.Link.{LinkStep, asked_after, with_link, IsParted, PartsOn, SaysOn, after_link, parted_way, way_after}
 use Rattle.bng_shard.specs.Driven.{Driven}
 use Rattle.bng_shard.proofs.Values.{none_some}
 
@@ -35,57 +36,63 @@ beside false ports offers i port same is = there offers i (omega (arith, slice_g
 pub offered : (r : Rules) (n : ℕ) (port : AccessPort) → length r.offers ≡ length r.access → port_at r.access n ≡ Some port → (o : PortRules) × (offers_at r.offers n ≡ Some o)
 offered r n port same is = beside (n == 0) r.access r.offers (n - 1) port same is
 
-closed : (b : Bool) (outs frames padt sent all : List OutRecord) → b ≡ true → sent ≡ outs ++ frames → all ≡ sent ++ padt → all ≡ outs ++ (frames ++ (if b then padt else []))
-closed b outs frames padt sent all e f g = rw e (g ∙ ap (λ (front : List OutRecord). front ++ padt) f ∙ append_assoc outs frames padt)
+module _ (r : Rules) (a : At) (Steps : LinkStep) (beside : Beside) (x : Session) (made : Made) (is_made : x.service ≡ Discovered made) (says : PppSaid) (l : PppState) (steps : Steps made.link says l)
+    (outs sent first : List OutRecord) (tells : SaysOn x.way r a x.number says.outs first) (sent_are : sent ≡ outs ++ first) where
+  -- the session once it has ended on its way, and where it has not
+  pub finished_link : says.finished ≡ true → (let y : Session = record (with_link x made beside.asked says l) { way = parted_way x.way } in y) ≡ after_link x made beside.asked says l
+  finished_link e = ap (λ (b : Bool). let y : Session = record (with_link x made beside.asked says l) { way = way_after b x.way } in y) (sym e)
 
-open_still : (b : Bool) (outs frames padt sent : List OutRecord) → b ≡ false → sent ≡ outs ++ frames → sent ≡ outs ++ (frames ++ (if b then padt else []))
-open_still b outs frames padt sent e f = rw e (f ∙ ap (λ (more : List OutRecord). outs ++ more) (sym (append-nil frames)))
+  pub going_link : says.finished ≡ false → with_link x made beside.asked says l ≡ after_link x made beside.asked says l
+  going_link e = ap (λ (b : Bool). let y : Session = record (with_link x made beside.asked says l) { way = way_after b x.way } in y) (sym e)
 
-module _ (r : Rules) (a : At) (Steps : LinkStep) (asked : ℕ) (x : Session) (made : Made) (is_made : x.service ≡ Discovered made) (says : PppSaid) (l : PppState) (steps : Steps made.link says l) (outs sent : List OutRecord)
-    (frames : (port : AccessPort) → port_at r.access x.port ≡ Some port → sent ≡ outs ++ ppp_outs a x port says.outs) where
-  -- LCP finished, and the PADT stands last
-  pub driven_finished : (all padt : List OutRecord) → says.finished ≡ true → EndsWith r a (with_link x made asked says l) padt → all ≡ sent ++ padt → Driven r a Steps asked x says.term_ended (with_link x made asked says l) (asked_after asked says.asked) outs all
-  driven_finished all padt finished ends last =
-      let last_is : all ≡ sent ++ padt_outs a x ends.port ends.offers = last ∙ ap (λ (o : List OutRecord). sent ++ o) ends.outs_are in
-      record {
-        more = ppp_outs a x ends.port says.outs ++ (if says.finished then padt_outs a x ends.port ends.offers else []);
-        drives = record {
-          made = made;
-          is_made = is_made;
-          port = ends.port;
-          offers = ends.offers;
-          at = record { port_is = ends.at.port_is; offers_are = ends.at.offers_are };
-          says = says;
-          link = l;
-          steps = steps;
-          outs_are = refl;
-          closes = refl;
-          session = refl;
-          count = refl;
-        };
-        outs_are = closed says.finished outs (ppp_outs a x ends.port says.outs) (padt_outs a x ends.port ends.offers) sent all finished (frames ends.port ends.at.port_is) last_is;
-      }
-
-  pub driven_on : (port : AccessPort) (offers : PortRules) → IsAt r x port offers → says.finished ≡ false → Driven r a Steps asked x says.term_ended (with_link x made asked says l) (asked_after asked says.asked) outs sent
-  driven_on port offers at going = record {
-    more = ppp_outs a x port says.outs ++ (if says.finished then padt_outs a x port offers else []);
+  -- LCP finished, and last its way is told so
+  pub driven_finished : (all last : List OutRecord) (t : TunnelsState) → says.finished ≡ true → PartsOn x.way r a beside.moment x.number beside.tunnels last t → length last ≤ 1 → all ≡ sent ++ last
+      → Driven r a Steps beside x says.term_ended (after_link x made beside.asked says l) (beside_at beside.moment (asked_after beside.asked says.asked) t) outs all
+  driven_finished all last t finished parts few are = record {
+    more = first ++ last;
     drives = record {
       made = made;
       is_made = is_made;
-      port = port;
-      offers = offers;
-      at = at;
       says = says;
       link = l;
       steps = steps;
+      first = first;
+      tells = tells;
+      last = last;
+      tunnels = t;
+      parts = subst (λ (b : Bool). IsParted b x.way r a beside.moment x.number beside.tunnels last t) (sym finished) parts;
       outs_are = refl;
       closes = refl;
       session = refl;
       count = refl;
     };
-    outs_are = open_still says.finished outs (ppp_outs a x port says.outs) (padt_outs a x port offers) sent going (frames port at.port_is);
+    outs_are = are ∙ ap (λ (front : List OutRecord). front ++ last) sent_are ∙ append_assoc outs first last;
+    few_last = few;
+  }
+
+  pub driven_on : says.finished ≡ false → Driven r a Steps beside x says.term_ended (after_link x made beside.asked says l) (beside_at beside.moment (asked_after beside.asked says.asked) beside.tunnels) outs sent
+  driven_on going = record {
+    more = first ++ [];
+    drives = record {
+      made = made;
+      is_made = is_made;
+      says = says;
+      link = l;
+      steps = steps;
+      first = first;
+      tells = tells;
+      last = [];
+      tunnels = beside.tunnels;
+      parts = subst (λ (b : Bool). IsParted b x.way r a beside.moment x.number beside.tunnels [] beside.tunnels) (sym going) (refl, refl);
+      outs_are = refl;
+      closes = refl;
+      session = refl;
+      count = refl;
+    };
+    outs_are = sent_are ∙ ap (λ (more : List OutRecord). outs ++ more) (sym (append-nil first));
+    few_last = omega arith;
   }
 
 -- a session keeps its number
-pub number_of : {r : Rules} {a : At} {Steps : LinkStep} {asked : ℕ} {x x' : Session} {cause : Option ℕ} {asked' : ℕ} {outs outs' : List OutRecord} {n : SessionNo} → Driven r a Steps asked x cause x' asked' outs outs' → x.number ≡ n → x'.number.0 ≡ n.0
+pub number_of : {r : Rules} {a : At} {Steps : LinkStep} {beside : Beside} {x x' : Session} {cause : Option ℕ} {beside' : Beside} {outs outs' : List OutRecord} {n : SessionNo} → Driven r a Steps beside x cause x' beside' outs outs' → x.number ≡ n → x'.number.0 ≡ n.0
 number_of d is = ap (λ (y : Session). y.number.0) d.drives.session ∙ ap (λ (m : SessionNo). m.0) is

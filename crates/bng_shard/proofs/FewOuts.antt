@@ -1,7 +1,8 @@
--- By its timers a link sends two frames at most, and by Close one; and a session that goes on sends no more than its link.
-use Rattle.std.proofs.Common.{◌≡◌, ◌≤◌, ◌+◌, ℕ, Bool, true, false, nat_le, List, [], ◌∷◌, ◌++◌, length, length-append, Option, Some, None, inl, inr, refl, ap, arith}
+-- By its timers a link sends two frames at most, by Close one, and by Start one where it was told nothing before; and a session that goes on sends no more than its link.
+use Rattle.std.proofs.Common.{◌≡◌, ◌≤◌, ◌+◌, ℕ, Bool, true, false, nat_le, List, [], ◌∷◌, ◌++◌, length, length-append, Option, Some, None, inl, inr, refl, sym, ap, ◌∙◌, arith, eqb}
 use Rattle.std.specs.Prelude.{◌&&◌, IsSome, if◌then◌else◌}
 use Rattle.std.specs.List.{list_all, sum_by}
+use Rattle.std.proofs.lemmas.Bool.{false≢true}
 use Rattle.std.proofs.lemmas.Bool.Decides.{nat_tests}
 use Rattle.std.proofs.lemmas.List.Sums.{sum_by-cons}
 use Rattle.bng_automaton.specs.declared.action.Action.{Action}
@@ -10,19 +11,20 @@ use Rattle.bng_automaton.specs.declared.event.Event.{Event}
 use Rattle.bng_automaton.specs.declared.event.Event.TheVariants.{Up, Down, Open, Close, ToPlus, ToMinus, RcrPlus, RcrMinus, Rca, Rcn, Rtr, Rta, Ruc, RxjPlus, RxjMinus, Rxr}
 use Rattle.bng_automaton.specs.Machine.{Machine}
 use Rattle.bng_automaton.specs.Steps.{Steps}
-use Rattle.bng_automaton.specs.Table.{Transition, row, table}
+use Rattle.bng_automaton.specs.Table.{Transition, column, row, table}
 use Rattle.bng_automaton.proofs.TableLaws.{passes}
 use Rattle.bng_base.specs.declared.item.OutRecord.{OutRecord}
 use Rattle.bng_base.specs.declared.settings.AccessPort.{AccessPort}
 use Rattle.bng_base.specs.declared.settings.AuthKind.{AuthKind}
 use Rattle.bng_base.specs.declared.settings.AuthKind.TheVariants as kind
+use Rattle.bng_base.specs.declared.address.Mac.{Mac}
+use Rattle.bng_base.specs.declared.address.SessionNo.{SessionNo}
 use Rattle.bng_base.specs.declared.frame.TheConstants.{LONGEST}
-use Rattle.bng_base.specs.declared.outside.Role.TheVariants.{Access}
+use Rattle.bng_base.specs.declared.outside.Role.TheVariants.{Access, Tunnel}
 use Rattle.bng_base.specs.PppGrammar.{ControlPacket, packet_text, ppp_text}
 use Rattle.bng_base.specs.PppoeGrammar.{PppoeFrame, pppoe_text}
-use Rattle.bng_discovery.specs.declared.port.PortRules.{PortRules}
-use Rattle.bng_discovery.specs.Reply.{padt_of}
 use Rattle.bng_forward.specs.Framed.{session_frame}
+use Rattle.bng_lns.specs.Tunnels.{TunnelsState}
 use Rattle.bng_ppp.specs.declared.authentication.Authentication.{Authentication}
 use Rattle.bng_ppp.specs.declared.authentication.Authentication.TheVariants as auth
 use Rattle.bng_ppp.specs.declared.rules.LinkRules.{LinkRules}
@@ -32,8 +34,8 @@ use Rattle.bng_ppp.specs.Automaton.{Doing, Follows, Moves, Why, acted, all_acted
 use Rattle.bng_ppp.specs.Encapsulation.{sent_some}
 use Rattle.bng_ppp.specs.IpcpAutomaton.{IpcpDoing, IpcpWhy, all_ipcp_acted, ipcp_acted}
 use Rattle.bng_ppp.specs.Layers.{Above, IpcpMoves, LcpCloses, Turn, authenticates, begun, ipcp_of, leaves, silenced, with_auth_until, with_lcp}
-use Rattle.bng_ppp.specs.LinkState.{LinkState}
-use Rattle.bng_ppp.specs.LowerLayer.{Loses}
+use Rattle.bng_ppp.specs.LinkState.{LinkState, unused}
+use Rattle.bng_ppp.specs.LowerLayer.{Loses, Starts}
 use Rattle.bng_ppp.specs.PppRelation.{PppSaid, PppSteps}
 use Rattle.bng_ppp.specs.PppState.{PppState}
 use Rattle.bng_ppp.specs.Said.{Said, quiet}
@@ -43,10 +45,17 @@ use Rattle.bng_shard.specs.declared.rules.Rules.{Rules}
 use Rattle.bng_base.specs.declared.item.At.{At}
 use Rattle.bng_shard.specs.declared.session.Lease.{Lease}
 use Rattle.bng_shard.specs.declared.session.Session.{Session}
+use Rattle.bng_shard.specs.Made.{Made}
+use Rattle.bng_shard.specs.declared.session.Service.TheVariants.{Discovered}
+use Rattle.bng_shard.specs.declared.way.Called.{Called}
+use Rattle.bng_shard.specs.declared.way.Way.{Way}
+use Rattle.bng_shard.specs.declared.way.Way.TheVariants.{Port, Call}
+use Rattle.bng_shard.specs.State.{Beside}
 use Rattle.bng_shard.specs.Deed.{frame_outs, has_macs, out}
-use Rattle.bng_shard.specs.Link.{Drives, padt_outs, ppp_outs, said_outs}
+use Rattle.bng_shard.specs.Link.{Drives, IsParted, LinkStep, SaysOn, call_octets, call_outs, data_outs, ppp_outs}
 use Rattle.bng_shard.specs.Serving.{KeepsLease}
-use Rattle.bng_shard.proofs.StaysOpen.{closed_unfinished, leased_unfinished}
+use Rattle.bng_shard.proofs.Naming.{same_made}
+use Rattle.bng_shard.proofs.StaysOpen.{closed_unfinished, leased_unfinished, start_stays}
 
 -- The table -------------------------------------------------------------------------------------------------------------
 
@@ -68,7 +77,7 @@ costs Ser = 1
 
 -- the most that the actions of an event cost: of the timers' and of Close
 abbrev costs_most : Event → ℕ
-costs_most Up = 3
+costs_most Up = 1
 costs_most Down = 0
 costs_most Open = 3
 costs_most Close = 1
@@ -98,6 +107,40 @@ le_of a b e = grind (arith, nat_tests)
 row_costs : (old : Machine) (event : Event) (moment : ℕ) (actions : List Action) (new : Machine) → Steps old event moment actions new → sum_by costs actions ≤ costs_most event
 unfolding is_cheap
 row_costs old event moment actions new s = le_of (sum_by costs actions) (costs_most event) (passes is_cheap table (row old.state event actions new.state) all_cheap s.transition)
+
+abbrev is_opening : Event → Bool
+is_opening Up = false
+is_opening Down = false
+is_opening Open = true
+is_opening Close = false
+is_opening ToPlus = false
+is_opening ToMinus = false
+is_opening RcrPlus = false
+is_opening RcrMinus = false
+is_opening Rca = false
+is_opening Rcn = false
+is_opening Rtr = false
+is_opening Rta = false
+is_opening Ruc = false
+is_opening RxjPlus = false
+is_opening RxjMinus = false
+is_opening Rxr = false
+
+-- Open from Initial costs nothing
+is_free : Transition → Bool
+is_free t = if is_opening t.event && eqb (column t.state) 0 then nat_le (sum_by costs t.actions) 0 else true
+
+all_free : list_all is_free table ≡ true
+unfolding is_free table
+all_free = refl
+
+row_free : (old : Machine) (moment : ℕ) (actions : List Action) (new : Machine) → Steps old Open moment actions new → eqb (column old.state) 0 ≡ true → sum_by costs actions ≤ 0
+unfolding is_free
+row_free old moment actions new s is = le_of (sum_by costs actions) 0 (by_state (eqb (column old.state) 0) (nat_le (sum_by costs actions) 0) is (passes is_free table (row old.state Open actions new.state) all_free s.transition))
+  where
+    by_state : (b c : Bool) → b ≡ true → (if b then c else true) ≡ true → c ≡ true
+    by_state true c e h = h
+    by_state false c e h = absurd cc
 
 -- Actions ---------------------------------------------------------------------------------------------------------------
 
@@ -177,6 +220,20 @@ follows_costs event c echo now before after f =
     let all = each_costs c echo now started f.actions in
     let done = ap (λ (d : Doing). cost d.said) f.done in
     omega (arith, most, all, done)
+
+opens_free : (c : Why) (echo now : ℕ) (before after : Doing) → Follows Open c echo now before after → eqb (column before.link.lcp.state) 0 ≡ true → cost after.said ≤ cost before.said
+opens_free c echo now before after f is =
+    let started : Doing = record before { link = record before.link { lcp = f.machine } } in
+    let most = row_free before.link.lcp now f.actions f.machine f.steps is in
+    let all = each_costs c echo now started f.actions in
+    let done = ap (λ (d : Doing). cost d.said) f.done in
+    omega (arith, most, all, done)
+
+starts_cost : (auth : List AuthKind) (random : List ℕ) (echo now : ℕ) (old : LinkState) (says : Said) (new : LinkState) → old.lcp ≡ unused → Starts auth random echo now old says new → cost says ≤ 1
+starts_cost auth random echo now old says new fresh h =
+    let first = opens_free _ echo now (record { link = record old { ask = h.ask }; said = quiet }) h.opened h.on_open (ap (λ (m : Machine). eqb (column m.state) 0) fresh) in
+    let next = follows_costs Up _ echo now h.opened (record { link = new; said = says }) h.on_up in
+    omega (arith, first, next)
 
 moves_cost : (event : Event) (c : Why) (echo now : ℕ) (old : LinkState) (says : Said) (new : LinkState) → Moves event c echo now old says new → cost says ≤ costs_most event
 moves_cost event c echo now old says new m =
@@ -280,6 +337,14 @@ module _ (r : LinkRules) (now : ℕ) (random : List ℕ) (old : PppState) (says 
       let next = above_costs lcp.says.opened (leaves old.lcp lcp.lcp) r now random (with_lcp (begun old) (record { link = lcp.lcp; said = lcp.says })) h.turn lcp.above in
       omega (arith, said, first, next)
 
+  pub few_by_start : old.lcp.lcp ≡ unused → PppSteps r told.Start now random old says new → length says.outs ≤ 1
+  few_by_start fresh h =
+      let said = ap (λ (s : PppSaid). length s.outs) h.said in
+      let lcp = h.goes.0 in
+      let first = starts_cost r.auth.items random r.echo now old.lcp lcp.says lcp.lcp fresh lcp.steps in
+      let next = above_costs lcp.says.opened (leaves old.lcp lcp.lcp) r now random (with_lcp (begun old) (record { link = lcp.lcp; said = lcp.says })) h.turn lcp.above in
+      omega (arith, said, first, next)
+
 -- What goes out ---------------------------------------------------------------------------------------------------------
 
 at_most_one : (b : Bool) (o : OutRecord) → length (if b then o ∷ [] else []) ≤ 1
@@ -289,54 +354,68 @@ at_most_one false o = omega arith
 frame_costs : (a : At) (n : ℕ) (port : AccessPort) (p : PppoeFrame) → length (frame_outs a n port p) ≤ 1
 frame_costs a n port p = at_most_one (has_macs p && nat_le (length (pppoe_text p)) LONGEST) (out a (Access n) port.peer (pppoe_text p) None)
 
-frames_cost : (a : At) (x : Session) (port : AccessPort) (frames : List (List ℕ)) → length (ppp_outs a x port frames) ≤ length frames
-frames_cost a x port [] = omega arith
-frames_cost a x port (f ∷ frames) =
-    let first = frame_outs a x.port port (session_frame x.mac port.mac x.number.0 f) in
-    let both = length-append first (ppp_outs a x port frames) in
-    let one = frame_costs a x.port port (session_frame x.mac port.mac x.number.0 f) in
-    let rest = frames_cost a x port frames in
+frames_cost : (a : At) (number : ℕ) (mac : Mac) (n : SessionNo) (port : AccessPort) (frames : List (List ℕ)) → length (ppp_outs a number mac n port frames) ≤ length frames
+frames_cost a number mac n port [] = omega arith
+frames_cost a number mac n port (f ∷ frames) =
+    let first = frame_outs a number port (session_frame mac port.mac n.0 f) in
+    let both = length-append first (ppp_outs a number mac n port frames) in
+    let one = frame_costs a number port (session_frame mac port.mac n.0 f) in
+    let rest = frames_cost a number mac n port frames in
     omega (arith, both, one, rest)
 
-padt_costs : (b : Bool) (a : At) (x : Session) (port : AccessPort) (offers : PortRules) → length (if b then padt_outs a x port offers else []) ≤ 1
-padt_costs true a x port offers = frame_costs a x.port port (padt_of offers x.mac x.number.0)
-padt_costs false a x port offers = omega arith
+calls_cost : (a : At) (c : Called) (frames : List (List ℕ)) → length (call_outs a c frames) ≤ length frames
+calls_cost a c [] = omega arith
+calls_cost a c (f ∷ frames) =
+    let first = data_outs a c f in
+    let both = length-append first (call_outs a c frames) in
+    let one = at_most_one (nat_le (length (call_octets c f)) LONGEST) (out a Tunnel c.peer (call_octets c f) None) in
+    let rest = calls_cost a c frames in
+    omega (arith, both, one, rest)
 
-said_costs : (a : At) (x : Session) (port : AccessPort) (offers : PortRules) (says : PppSaid) → length (said_outs a x port offers says) ≤ length says.outs + 1
-said_costs a x port offers says =
-    let both = length-append (ppp_outs a x port says.outs) (if says.finished then padt_outs a x port offers else []) in
-    let frames = frames_cost a x port says.outs in
-    let padt = padt_costs says.finished a x port offers in
-    omega (arith, both, frames, padt)
+says_costs : (way : Way) (r : Rules) (a : At) (n : SessionNo) (frames : List (List ℕ)) (outs : List OutRecord) → SaysOn way r a n frames outs → length outs ≤ length frames
+says_costs (Port number mac) r a n frames outs h = let most = frames_cost a number mac n h.port frames in omega (arith, most, ap length h.outs_are)
+says_costs (Call c) r a n frames outs h = let most = calls_cost a c frames in omega (arith, most, ap length h)
 
--- where LCP did not finish no PADT is sent
-said_alone : (a : At) (x : Session) (port : AccessPort) (offers : PortRules) (says : PppSaid) → says.finished ≡ false → length (said_outs a x port offers says) ≤ length says.outs
-said_alone a x port offers says e =
-    let both = length-append (ppp_outs a x port says.outs) (if says.finished then padt_outs a x port offers else []) in
-    let frames = frames_cost a x port says.outs in
-    let none : length (if says.finished then padt_outs a x port offers else []) ≡ 0 = ap (λ (b : Bool). length (if b then padt_outs a x port offers else [])) e in
-    omega (arith, both, frames, none)
+-- where LCP did not finish nothing says that the session has ended
+parted_alone : (b : Bool) (way : Way) (r : Rules) (a : At) (now : ℕ) (n : SessionNo) (t : TunnelsState) (outs : List OutRecord) (t' : TunnelsState) → b ≡ false → IsParted b way r a now n t outs t' → length outs ≤ 0
+parted_alone false way r a now n t outs t' e h = omega (arith, ap length h.0)
+parted_alone true way r a now n t outs t' e h = absurd (false≢true (sym e))
 
-module _ (r : Rules) (a : At) (now : ℕ) (random : List ℕ) (asked : ℕ) (x : Session) (outs : List OutRecord) (cause : Option ℕ) (x' : Session) (asked' : ℕ) where
-  pub drives_by_timer : Drives r a asked x (PppSteps r.link told.Timer now random) outs cause x' asked' → length outs ≤ 3
-  drives_by_timer d =
+module _ (r : Rules) (a : At) (now : ℕ) (random : List ℕ) (beside : Beside) (x : Session) (outs : List OutRecord) (cause : Option ℕ) (x' : Session) (beside' : Beside) where
+  -- the frames of a link that did not finish
+  unfinished_costs : (Steps : LinkStep) (d : Drives r a beside x Steps outs cause x' beside') → d.says.finished ≡ false → length outs ≤ length d.says.outs
+  unfinished_costs Steps d goes =
+      let said = says_costs x.way r a x.number d.says.outs d.first d.tells in
+      let none = parted_alone d.says.finished x.way r a beside.moment x.number beside.tunnels d.last d.tunnels goes d.parts in
+      let both = length-append d.first d.last in
+      omega (arith, said, none, both, ap length d.outs_are)
+
+  -- where one datagram at most says that the session has ended
+  pub drives_by_timer : (d : Drives r a beside x (PppSteps r.link told.Timer now random) outs cause x' beside') → length d.last ≤ 1 → length outs ≤ 3
+  drives_by_timer d few =
       let frames = few_by_timer r.link now random d.made.link d.says d.link d.steps in
-      let said = said_costs a x d.port d.offers d.says in
-      let is = ap (λ (o : List OutRecord). length o) d.outs_are in
-      omega (arith, frames, said, is)
+      let said = says_costs x.way r a x.number d.says.outs d.first d.tells in
+      let both = length-append d.first d.last in
+      omega (arith, frames, said, few, both, ap length d.outs_are)
 
   -- where the session still has a lease
-  pub leased_by_timer : Drives r a asked x (PppSteps r.link told.Timer now random) outs cause x' asked' → KeepsLease x'.service x'.lease → IsSome x'.lease → length outs ≤ 2
+  pub leased_by_timer : Drives r a beside x (PppSteps r.link told.Timer now random) outs cause x' beside' → KeepsLease x'.service x'.lease → IsSome x'.lease → length outs ≤ 2
   leased_by_timer d keeps some =
       let frames = few_by_timer r.link now random d.made.link d.says d.link d.steps in
-      let said = said_alone a x d.port d.offers d.says (leased_unfinished r a now random asked x outs cause x' asked' told.Timer d keeps some) in
-      let is = ap (λ (o : List OutRecord). length o) d.outs_are in
-      omega (arith, frames, said, is)
+      let said = unfinished_costs (PppSteps r.link told.Timer now random) d (leased_unfinished r a now random beside x outs cause x' beside' told.Timer d keeps some) in
+      omega (arith, frames, said)
 
   -- where it had one before
-  pub leased_by_close : Drives r a asked x (PppSteps r.link told.Close now random) outs cause x' asked' → (lease : Option Lease) → KeepsLease x.service lease → IsSome lease → length outs ≤ 1
+  pub leased_by_close : Drives r a beside x (PppSteps r.link told.Close now random) outs cause x' beside' → (lease : Option Lease) → KeepsLease x.service lease → IsSome lease → length outs ≤ 1
   leased_by_close d lease keeps some =
       let frames = few_by_close r.link now random d.made.link d.says d.link d.steps in
-      let said = said_alone a x d.port d.offers d.says (closed_unfinished r a now random asked x outs cause x' asked' d lease keeps some) in
-      let is = ap (λ (o : List OutRecord). length o) d.outs_are in
-      omega (arith, frames, said, is)
+      let said = unfinished_costs (PppSteps r.link told.Close now random) d (closed_unfinished r a now random beside x outs cause x' beside' d lease keeps some) in
+      omega (arith, frames, said)
+
+  -- where the link was told nothing before
+  pub new_by_start : Drives r a beside x (PppSteps r.link told.Start now random) outs cause x' beside' → (made : Made) → x.service ≡ Discovered made → made.link.lcp.lcp ≡ unused → length outs ≤ 1
+  new_by_start d made is new =
+      let fresh : d.made.link.lcp.lcp ≡ unused = ap (λ (m : Made). m.link.lcp.lcp) (same_made x.service d.made made d.is_made is) ∙ new in
+      let frames = few_by_start r.link now random d.made.link d.says d.link fresh d.steps in
+      let said = unfinished_costs (PppSteps r.link told.Start now random) d (start_stays r.link now random d.made.link d.says d.link d.steps) in
+      omega (arith, frames, said)

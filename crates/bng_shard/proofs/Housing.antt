@@ -25,6 +25,7 @@ use Rattle.bng_ppp.specs.PppState.{PppState, is_open}
 use Rattle.bng_ppp.specs.Verdict.{Settles}
 use Rattle.bng_slots.specs.Sessions.{value_at, with_value}
 use Rattle.bng_slots.proofs.SessionLaws.{value_at-with_value, value_at-with_other}
+use Rattle.bng_shard.specs.Calls.{called_session, linked_anew, turned}
 use Rattle.bng_shard.specs.declared.meters.Plan.{Plan}
 use Rattle.bng_shard.specs.declared.rules.Rules.{Rules}
 use Rattle.bng_base.specs.declared.item.At.{At}
@@ -32,19 +33,19 @@ use Rattle.bng_shard.specs.declared.session.Lease.{Lease}
 use Rattle.bng_shard.specs.declared.session.Service.{Service}
 use Rattle.bng_shard.specs.declared.session.Service.TheVariants.{Provisioned, Discovered}
 use Rattle.bng_shard.specs.declared.session.Session.{Session}
-use Rattle.bng_shard.specs.Deed.{Deed, at_of}
+use Rattle.bng_shard.specs.Deed.{Deed, at_of, beside_of}
 use Rattle.bng_shard.specs.Discovery.{IsNewLink, new_session}
 use Rattle.bng_shard.specs.Granting.{IsSound}
 use Rattle.bng_coa.specs.Wants.{wanted}
 use Rattle.bng_radius_wire.specs.Grammar.{Packet}
 use Rattle.bng_shard.specs.Changes.{Found, changed_by, found_by, lease_after, place_of, recast_by}
 use Rattle.bng_shard.specs.Lasting.{AreHoused, HasPhases, IsHousedIn, KeepsTerm}
-use Rattle.bng_shard.specs.Link.{Drives, LinkStep, Told, ended, ended_service, hears, nas_request, settles, told, user_request}
+use Rattle.bng_shard.specs.Link.{Drives, LinkStep, Told, ended, ended_service, hears, nas_request, settles, told, lost_carrier}
 use Rattle.bng_shard.specs.Metered.{meters_of, plan_for}
 use Rattle.bng_shard.specs.Made.{Made}
 use Rattle.bng_shard.specs.Passing.{lapsed, looked, looked_on}
 use Rattle.bng_shard.specs.Questions.{open_in}
-use Rattle.bng_shard.specs.State.{State, with_driven, with_ended, with_session}
+use Rattle.bng_shard.specs.State.{Beside, State, with_driven, with_ended, with_session, beside_at}
 use Rattle.bng_shard.specs.Step.{Step}
 use Rattle.bng_shard.specs.Tenures.{Tenure, closed, is_over, kept_lease, over_by}
 use Rattle.bng_shard.specs.Verdicts.{Judges, next_lease, next_term, settled_by, with_term}
@@ -87,8 +88,8 @@ unfinished says new shut keeps live =
       | false ↦ λ e. refl
     ] refl
 
-new_phases : (random : List ℕ) (l : PppState) → IsNewLink random l → KeepsPhases l
-new_phases random l h =
+new_phases : (limit : ℕ) (random : List ℕ) (l : PppState) → IsNewLink limit random l → KeepsPhases l
+new_phases limit random l h =
     let idle : is_begun l.auth ≡ false = ap is_begun h.auth in
     let initial : is_opened l.lcp.lcp.state ≡ false = ap (λ m. is_opened m.state) h.lcp in
     let down : is_down l.ipcp.machine.state ≡ true = ap (λ i. is_down i.machine.state) h.ipcp in
@@ -111,7 +112,7 @@ kept_at s n x at h = record { phases = h.phases n x at; lasting = λ l leased. h
 lasting_in : (v : Service) (m : Made) → v ≡ Discovered m → KeepsTerm v → (m.link.live ≡ true) × (m.ended ≡ false)
 lasting_in v m is h = subst KeepsTerm is h
 
-module _ (r : Rules) (a : At) (asked : ℕ) (x x' : Session) (outs : List OutRecord) (cause : Option ℕ) (asked' : ℕ) (Steps : LinkStep) (h : Drives r a asked x Steps outs cause x' asked') where
+module _ (r : Rules) (a : At) (beside : Beside) (x x' : Session) (outs : List OutRecord) (cause : Option ℕ) (beside' : Beside) (Steps : LinkStep) (h : Drives r a beside x Steps outs cause x' beside') where
   -- the lease of before, where the step did not end the term
   lease_driven : x'.lease ≡ kept_lease cause x.lease
   lease_driven = ap (λ (y : Session). y.lease) h.session ∙ ap (λ (c : Option ℕ). kept_lease c x.lease) (sym h.closes)
@@ -258,6 +259,9 @@ module _ (s : State) (n : ℕ) (lease : Option Lease) (y : Session) (was : (x : 
   houses_others : lease ≡ None → All (Housed s) s.terms → All (Housed (with_session s n y)) s.terms
   houses_others none h = All-from_recursion (Housed (with_session s n y)) s.terms (each_so s.terms (λ t. house_other t none) (recursion_from_All (Housed s) s.terms h))
 
+  houses_kept : y.lease ≡ lease → All (Housed s) s.terms → All (Housed (with_session s n y)) s.terms
+  houses_kept same h = All-from_recursion (Housed (with_session s n y)) s.terms (each_so s.terms (λ t. house_kept t same) (recursion_from_All (Housed s) s.terms h))
+
   houses_looked : (at : ℕ) → y.lease ≡ looked_on at lease → All (Housed s) s.terms → All (Housed (with_session s n y)) s.terms
   houses_looked at seen h = All-from_recursion (Housed (with_session s n y)) s.terms (each_so s.terms (λ t. house_looked at t seen) (recursion_from_All (Housed s) s.terms h))
 
@@ -280,9 +284,9 @@ sessions_with : (s : State) (n : ℕ) (y : Session) → SessionKeeps y → AreHo
 sessions_with s n y new h = with_kept SessionKeeps s n y new (λ m x at. kept_at s m x at h)
 
 -- a session is another one, whose lease is the one of before, or is given up as its term ends
-keeps_with : (s : State) (n : ℕ) (lease : Option Lease) (cause : Option ℕ) (y : Session) (asked : ℕ) → ((x : Session) → value_at s.sessions n ≡ Some x → x.lease ≡ lease) → y.lease ≡ kept_lease cause lease
-    → (AreHoused s → SessionKeeps y) → Keeps s (with_driven s n lease cause y asked)
-keeps_with s n lease cause y asked was is new h =
+keeps_with : (s : State) (n : ℕ) (lease : Option Lease) (cause : Option ℕ) (y : Session) (beside : Beside) → ((x : Session) → value_at s.sessions n ≡ Some x → x.lease ≡ lease) → y.lease ≡ kept_lease cause lease
+    → (AreHoused s → SessionKeeps y) → Keeps s (with_driven s n lease cause y beside)
+keeps_with s n lease cause y beside was is new h =
     let each = sessions_with s n y (new h) h in
     record { phases = λ m x at. (each m x at).phases; lasting = λ m x l at leased. (each m x at).lasting l leased; housed = houses_closed s n lease y was cause is h.housed }
 
@@ -290,7 +294,7 @@ same_lease : (s : State) (n : ℕ) (x : Session) → value_at s.sessions n ≡ S
 same_lease s n x at y there = ap (λ (z : Session). z.lease) (same_some y x (sym there ∙ at))
 
 keeps_ended : (s : State) (n : ℕ) (x : Session) (cause : ℕ) → value_at s.sessions n ≡ Some x → Keeps s (with_ended s n x.lease cause (ended x))
-keeps_ended s n x cause at = keeps_with s n x.lease (Some cause) (ended x) s.asked (same_lease s n x at) refl (λ h. ended_keeps x (kept_at s n x at h))
+keeps_ended s n x cause at = keeps_with s n x.lease (Some cause) (ended x) (beside_at 0 s.asked s.tunnels) (same_lease s n x at) refl (λ h. ended_keeps x (kept_at s n x at h))
 
 keeps_looked : (s : State) (n at : ℕ) (x : Session) → value_at s.sessions n ≡ Some x → Keeps s (with_session s n (looked at x))
 keeps_looked s n at x found h =
@@ -321,31 +325,48 @@ keeps_walk : (r : Rules) → WalksBy r Keeps
 keeps_walk r = record {
   same = λ s s' e h. subst AreHoused (sym e) h;
   then = λ s s' s'' f g h. g (f h);
-  timed = λ e s n x x' outs cause asked' at drives.
-      keeps_with s n x.lease cause x' asked' (same_lease s n x at) (lease_driven r (at_of s e) s.asked x x' outs cause asked' (told r e Timer) drives)
-      (λ h. driven_keeps r (at_of s e) s.asked x x' outs cause asked' (told r e Timer) drives
+  timed = λ e s n x x' outs cause beside' at drives.
+      keeps_with s n x.lease cause x' beside' (same_lease s n x at) (lease_driven r (at_of s e) (beside_of s e) x x' outs cause beside' (told r e Timer) drives)
+      (λ h. driven_keeps r (at_of s e) (beside_of s e) x x' outs cause beside' (told r e Timer) drives
       (by_itself r.link Timer e.moment e.item.random drives.made.link drives.says drives.link refl drives.steps) (kept_at s n x at h));
-  heard = λ octets e s n x x' outs cause asked' at drives.
-      keeps_with s n x.lease cause x' asked' (same_lease s n x at) (lease_driven r (at_of s e) s.asked x x' outs cause asked' (hears r e octets) drives)
-      (λ h. driven_keeps r (at_of s e) s.asked x x' outs cause asked' (hears r e octets) drives
+  heard = λ octets e s n x x' outs cause beside' at drives.
+      keeps_with s n x.lease cause x' beside' (same_lease s n x at) (lease_driven r (at_of s e) (beside_of s e) x x' outs cause beside' (hears r e octets) drives)
+      (λ h. driven_keeps r (at_of s e) (beside_of s e) x x' outs cause beside' (hears r e octets) drives
       (by_itself r.link _ e.moment e.item.random drives.made.link drives.says drives.link refl (frame_steps r.link e.moment e.item.random drives.made.link drives.says drives.link octets drives.steps)) (kept_at s n x at h));
-  made = λ e s n port mac host_uniq link x' outs cause asked' vacant new drives.
-      keeps_with s n None cause x' asked' (λ x at. absurd (none_some x (sym vacant.vacant ∙ at)))
-      (lease_driven r (at_of s e) s.asked (new_session n port mac host_uniq link) x' outs cause asked' (told r e Start) drives)
-      (λ h. driven_none r (at_of s e) s.asked (new_session n port mac host_uniq link) x' outs cause asked' (told r e Start) drives
-      (by_itself r.link Start e.moment e.item.random drives.made.link drives.says drives.link refl drives.steps).phases refl (new_phases e.item.random link new));
-  padt = λ s n x m at is. keeps_ended s n x user_request at;
+  made = λ e s n port mac host_uniq link x' outs cause beside' vacant new drives.
+      keeps_with s n None cause x' beside' (λ x at. absurd (none_some x (sym vacant.vacant ∙ at)))
+      (lease_driven r (at_of s e) (beside_of s e) (new_session n port mac host_uniq link) x' outs cause beside' (told r e Start) drives)
+      (λ h. driven_none r (at_of s e) (beside_of s e) (new_session n port mac host_uniq link) x' outs cause beside' (told r e Start) drives
+      (by_itself r.link Start e.moment e.item.random drives.made.link drives.says drives.link refl drives.steps).phases refl (new_phases 1492 e.item.random link new));
+  ends = λ s n x m cause lost at is. keeps_ended s n x cause at;
   passes = λ s n moment ms h. record { phases = h.phases; lasting = h.lasting; housed = h.housed };
   looks = keeps_looked;
-  lapses = λ e s n x x' outs cause none asked' at over drives.
-      keeps_with s n x.lease (Some cause) x' asked' (same_lease s n x at)
-      (lease_driven r (at_of s e) s.asked (lapsed x) x' outs none asked' (told r e Close) drives ∙ none_kept none)
-      (λ h. driven_none r (at_of s e) s.asked (lapsed x) x' outs none asked' (told r e Close) drives
+  lapses = λ e s n x x' outs cause none beside' at over drives.
+      keeps_with s n x.lease (Some cause) x' beside' (same_lease s n x at)
+      (lease_driven r (at_of s e) (beside_of s e) (lapsed x) x' outs none beside' (told r e Close) drives ∙ none_kept none)
+      (λ h. driven_none r (at_of s e) (beside_of s e) (lapsed x) x' outs none beside' (told r e Close) drives
       (λ keeps. phases_kept r.link e.moment e.item.random Close drives.made.link drives.says drives.link keeps drives.steps) refl (kept_at s n x at h).phases);
-  lapses_circuit = λ s n x over cause at is lapse.
-      keeps_with s n x.lease (Some cause) (lapsed x) s.asked (same_lease s n x at) refl
+  lapses_circuit = λ e s n x over cause at is lapse.
+      keeps_with s n x.lease (Some cause) (lapsed x) (beside_of s e) (same_lease s n x at) refl
       (λ h. record { phases = (kept_at s n x at h).phases; lasting = λ l leased. absurd (none_some l leased) });
   tells = λ s t h. record { phases = h.phases; lasting = h.lasting; housed = h.housed };
+  comes = λ e s n number peer t c link vacant new.
+      keeps_with s n None None (called_session n peer number t c link) (beside_at 0 s.asked s.tunnels) (λ x at. absurd (none_some x (sym vacant.vacant ∙ at))) refl
+      (λ h. record { phases = new_phases 1500 e.item.random link new; lasting = λ l leased. absurd (none_some l leased) });
+  turns = λ s n x c call at way h.
+      let kept = kept_at s n x at h in
+      let y = turned x c call in
+      let each = sessions_with s n y (record { phases = kept.phases; lasting = kept.lasting }) h in
+      record { phases = λ m z there. (each m z there).phases; lasting = λ m z l there leased. (each m z there).lasting l leased; housed = houses_kept s n x.lease y (same_lease s n x at) refl h.housed };
+  over = λ s n x m c call at is way.
+      keeps_with s n x.lease (Some lost_carrier) (ended (turned x c call)) (beside_at 0 s.asked s.tunnels) (same_lease s n x at) refl
+      (λ h. let kept = kept_at s n x at h in ended_keeps (turned x c call) (record { phases = kept.phases; lasting = kept.lasting }));
+  connects = λ e s n x x' m c call link outs none beside' at is way new drives.
+      let y = linked_anew (turned x c call) link in
+      keeps_with s n x.lease (Some lost_carrier) x' beside' (same_lease s n x at)
+      (lease_driven r (at_of s e) (beside_of s e) y x' outs none beside' (told r e Start) drives ∙ none_kept none)
+      (λ h. driven_none r (at_of s e) (beside_of s e) y x' outs none beside' (told r e Start) drives
+      (by_itself r.link Start e.moment e.item.random drives.made.link drives.says drives.link refl drives.steps).phases refl (new_phases 1500 e.item.random link new));
 }
 
 keeps_stops : Stops Keeps
@@ -395,7 +416,7 @@ module _ (r : Rules) (s : State) (limited : Bool) (d : Deed) (t : Told) (h : Jud
       (verdict_steps r.link d.entry.moment d.entry.item.random h.drives.made.link h.drives.says h.drives.link t h.drives.steps)
 
   after_keeps : AreHoused s → SessionKeeps h.after
-  after_keeps housed = driven_none r (at_of s d.entry) s.asked h.x h.after h.outs h.cause h.asked Says h.drives verdict_phases h.no_term (housed.phases d.entry.item.target h.x h.found)
+  after_keeps housed = driven_none r (at_of s d.entry) (beside_of s d.entry) h.x h.after h.outs h.cause h.beside Says h.drives verdict_phases h.no_term (housed.phases d.entry.item.target h.x h.found)
 
   -- a term is live on the link of a peer that is accepted with an address
   term_live : (a : Ip4) → t.yes ≡ true → t.lease ≡ Some a → h.drives.link.live ≡ true
@@ -422,12 +443,12 @@ module _ (r : Rules) (s : State) (limited : Bool) (d : Deed) (t : Told) (h : Jud
   had_none : (x : Session) → value_at s.sessions d.entry.item.target ≡ Some x → x.lease ≡ None
   had_none x at = ap (λ (z : Session). z.lease) (same_some x h.x (sym at ∙ h.found)) ∙ h.no_term
 
-  none_begins : Keeps s (with_driven s d.entry.item.target None None h.after h.asked)
-  none_begins = keeps_with s d.entry.item.target None None h.after h.asked had_none
-      (lease_driven r (at_of s d.entry) s.asked h.x h.after h.outs h.cause h.asked Says h.drives ∙ ap (kept_lease h.cause) h.no_term ∙ none_kept h.cause)
+  none_begins : Keeps s (with_driven s d.entry.item.target None None h.after h.beside)
+  none_begins = keeps_with s d.entry.item.target None None h.after h.beside had_none
+      (lease_driven r (at_of s d.entry) (beside_of s d.entry) h.x h.after h.outs h.cause h.beside Says h.drives ∙ ap (kept_lease h.cause) h.no_term ∙ none_kept h.cause)
       after_keeps
 
-  one_begins : (a : Ip4) → IsSound s → t.yes ≡ true → t.lease ≡ Some a → Keeps s (with_term s d.entry.item.target h.after h.asked (next_lease s t.plan t.limits d.entry.moment a) (next_term s h.x h.question t.plan t.class d.entry.moment a) (meters_of t.plan d.entry.moment))
+  one_begins : (a : Ip4) → IsSound s → t.yes ≡ true → t.lease ≡ Some a → Keeps s (with_term s d.entry.item.target h.after h.beside (next_lease s t.plan t.limits d.entry.moment a) (next_term s h.x h.question t.plan t.class d.entry.moment a) (meters_of t.plan d.entry.moment))
   one_begins a sound accepted leased housed =
       let n = d.entry.item.target in
       let lease = next_lease s t.plan t.limits d.entry.moment a in
@@ -442,7 +463,7 @@ module _ (r : Rules) (s : State) (limited : Bool) (d : Deed) (t : Told) (h : Jud
         housed = All-push (Housed (with_session s n y)) s.terms one (houses_others s n None y had_none refl housed.housed) (λ live. (y, lease, there, refl, refl));
       }
 
-  judged_keeps : (lease : Option Ip4) → IsSound s → ((a : Ip4) → t.lease ≡ Some a → t.yes ≡ true) → t.lease ≡ lease → Keeps s (settled_by s d.entry.item.target h.x h.question t d.entry.moment h.after h.asked lease)
+  judged_keeps : (lease : Option Ip4) → IsSound s → ((a : Ip4) → t.lease ≡ Some a → t.yes ≡ true) → t.lease ≡ lease → Keeps s (settled_by s d.entry.item.target h.x h.question t d.entry.moment h.after h.beside lease)
   judged_keeps None sound accepted e = none_begins
   judged_keeps (Some a) sound accepted e = one_begins a sound (accepted a e) e
 

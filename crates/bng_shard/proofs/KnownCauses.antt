@@ -10,6 +10,7 @@ use Rattle.bng_ppp.specs.PppRelation.{PppGoes, PppSaid, PppSteps, ended_by}
 use Rattle.bng_ppp.specs.PppState.{PppState}
 use Rattle.bng_ppp.specs.WholeTimers.{IsLossCause}
 use Rattle.bng_term.specs.Lifetimes.{is_over}
+use Rattle.bng_shard.specs.State.{Beside}
 use Rattle.bng_shard.specs.declared.rules.Rules.{Rules}
 use Rattle.bng_base.specs.declared.item.At.{At}
 use Rattle.bng_shard.specs.declared.session.Lease.{Lease}
@@ -54,12 +55,12 @@ steps_known : (r : LinkRules) (what : WholeInput) (now : ℕ) (random : List ℕ
 steps_known r what now random old says new h = subst IsKnown (sym (ap (λ (x : PppSaid). x.term_ended) h.said)) (goes_known r now random old h.turn h.cause what h.goes)
 
 module _ (r : Rules) (e : Entry) where
-  module _ (a : At) (asked : ℕ) (x x' : Session) (outs : List OutRecord) (cause : Option ℕ) (asked' : ℕ) where
+  module _ (a : At) (beside : Beside) (x x' : Session) (outs : List OutRecord) (cause : Option ℕ) (beside' : Beside) where
     -- a step of a link that was told this, and of one that hears these octets
-    pub told_known : (what : WholeInput) → Drives r a asked x (told r e what) outs cause x' asked' → IfSome cause IsCause
+    pub told_known : (what : WholeInput) → Drives r a beside x (told r e what) outs cause x' beside' → IfSome cause IsCause
     told_known what h = subst IsKnown (sym h.closes) (steps_known r.link what e.moment e.item.random h.made.link h.says h.link h.steps)
 
-    pub heard_known : (octets : List ℕ) → Drives r a asked x (hears r e octets) outs cause x' asked' → IfSome cause IsCause
+    pub heard_known : (octets : List ℕ) → Drives r a beside x (hears r e octets) outs cause x' beside' → IfSome cause IsCause
     heard_known octets h =
         subst IsKnown (sym h.closes)
         (steps_known r.link (frame_of octets) e.moment e.item.random h.made.link h.says h.link (frame_steps r.link e.moment e.item.random h.made.link h.says h.link octets h.steps))

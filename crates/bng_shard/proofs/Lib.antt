@@ -54,6 +54,7 @@ pub mod Discovering
 pub mod Arriving
 pub mod Timing
 pub mod Looking
+pub mod Reminding
 pub mod Framing
 pub mod ByKind
 pub mod Values
@@ -66,6 +67,8 @@ pub mod Earliest
 pub mod Opened
 pub mod Replacing
 pub mod Controls
+pub mod Calling
+pub mod CutLaws
 pub mod Vacating
 pub mod DueLaws
 pub mod BookLaws

@@ -15,7 +15,7 @@ use Rattle.bng_shard.specs.declared.session.Session.{Session}
 use Rattle.bng_shard.specs.Listing.{AreListed, IsLowestPassing, does_pass, passing_in, with_listed, without_listed}
 use Rattle.bng_shard.specs.Questions.{open_in}
 use Rattle.bng_shard.specs.Serving.{AreOfShard, asks, is_young, is_young_in}
-use Rattle.bng_shard.specs.State.{leaves, leaves_in}
+use Rattle.bng_shard.specs.State.{is_port, leaves, leaves_in}
 use Rattle.bng_shard.proofs.Values.{find_first, find_none, kept, sum_holds, sum_most, sum_nothing, values-kept}
 
 not_true : (b : Bool) → not b ≡ true → b ≡ false
@@ -180,8 +180,12 @@ ended_young : (v : Service) → leaves_in v ≡ true → is_young_in v ≡ false
 ended_young (Provisioned p) h = refl
 ended_young (Discovered m) h = ap (λ (b : Bool). not b && not m.link.lcp.kept.was_opened) h
 
+not_young : (b : Bool) → (b && false) ≡ false
+not_young true = refl
+not_young false = refl
+
 pub leaves_young : (x : Session) → leaves x ≡ true → is_young x ≡ false
-leaves_young x h = ended_young x.service h
+leaves_young x h = ap (λ (b : Bool). is_port x.way && b) (ended_young x.service h) ∙ not_young (is_port x.way)
 
 module _ (test : Session → Bool) (ended : (x : Session) → leaves x ≡ true → test x ≡ false) where
   gone_fails : (o : Option Session) → does_pass leaves o ≡ true → does_pass test o ≡ false

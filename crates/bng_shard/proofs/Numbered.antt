@@ -204,7 +204,7 @@ module _ (r : Rules) (s : State) (limited : Bool) (d : Deed) (m : ℕ) (sound : 
     judged_tenures (Some a) is =
         let one = next_term s j.x j.question t.plan t.class d.entry.moment a in
         subst (AreTenures d.entry.moment) (sym (settled_as r s d.entry t d j (Some a) is))
-        (tenures_begin m d.entry.moment s (with_term s d.entry.item.target j.after j.asked (next_lease s t.plan t.limits d.entry.moment a) one (meters_of t.plan d.entry.moment)) le h one refl refl refl refl refl (new_tenure a))
+        (tenures_begin m d.entry.moment s (with_term s d.entry.item.target j.after j.beside (next_lease s t.plan t.limits d.entry.moment a) one (meters_of t.plan d.entry.moment)) le h one refl refl refl refl refl (new_tenure a))
 
   unchanged : (f : Deed) → d ≡ f → f.next ≡ s → AreTenures d.entry.moment d.next
   unchanged f is next = subst (AreTenures d.entry.moment) (sym (next_of d f is ∙ next)) (tenures_later m d.entry.moment s le h)

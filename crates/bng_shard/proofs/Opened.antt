@@ -26,7 +26,7 @@ use Rattle.bng_shard.specs.declared.rules.Rules.{Rules}
 use Rattle.bng_shard.specs.declared.session.Lease.{Lease}
 use Rattle.bng_shard.specs.declared.session.Session.{Session}
 use Rattle.bng_shard.specs.declared.terms.Running.{Running}
-use Rattle.bng_shard.specs.Fits.{ArePlaced}
+use Rattle.bng_shard.specs.Fits.{ArePlaced, IsPlaced}
 use Rattle.bng_shard.specs.Opening.{in_order, lease_from, numbered_after, opened_slots, provisioned, tenure_from, tenures_after}
 use Rattle.bng_shard.specs.Protocol.{ShardState, opened as opened_shard, term_in}
 use Rattle.bng_shard.specs.Running.{AreTied, TermsView, tenure_in, tenures_in, whole}
@@ -49,11 +49,11 @@ module _ (r : Rules) where
   abbrev IsHere : Static → Type 0
   IsHere c = (1 ≤ c.port) × (c.port ≤ length r.access)
 
-  placed_in : (now k : ℕ) (cs : List Static) (x : Session) → AllByRecursion IsHere cs → Contains (map (λ e. e.1) (numbered_after now k cs)) x → (port : AccessPort) × (port_at r.access x.port ≡ Some port)
+  placed_in : (now k : ℕ) (cs : List Static) (x : Session) → AllByRecursion IsHere cs → Contains (map (λ e. e.1) (numbered_after now k cs)) x → IsPlaced r x.way
   placed_in now k [] x all (i, lt, is) = absurd (omega (arith, lt))
   placed_in now k (c ∷ cs) x all (zero, lt, is) =
       let (port, at) = port_there r.access c.port all.0.0 all.0.1 in
-      (port, ap (λ (y : Session). port_at r.access y.port) (sym is) ∙ at)
+      subst (λ (y : Session). IsPlaced r y.way) is (port, at)
   placed_in now k (c ∷ cs) x all (suc i, lt, is) = placed_in now (k + 1) cs x all.1 (i, omega (arith, lt), is)
 
 -- Leases -----------------------------------------------------------------------------------------------------------------

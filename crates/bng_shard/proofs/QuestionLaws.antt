@@ -1,7 +1,7 @@
 -- After a step each open question was open before, or has a number that the step gave.
-use Rattle.std.proofs.Common.{◌≡◌, ◌≢◌, ◌⊎◌, inl, inr, ℕ, zero, suc, ◌+◌, ◌-◌, ◌^◌, ◌<◌, ◌≤◌, Bool, true, false, not, ◌&&◌, List, [], ◌∷◌, ◌++◌, Option, Some, None, is_some, if◌then◌else◌, Contains, refl, sym, ap, subst, ◌∙◌, arith}
-use Rattle.std.specs.Prelude.{slice_set}
-use Rattle.std.specs.List.{flat_map}
+use Rattle.std.proofs.Common.{◌≡◌, ◌≢◌, ◌⊎◌, inl, inr, ℕ, zero, suc, ◌+◌, ◌-◌, ◌^◌, ◌<◌, ◌≤◌, Bool, true, false, not, ◌&&◌, List, [], ◌∷◌, ◌++◌, Option, Some, None, is_some, if◌then◌else◌, Contains, refl, sym, ap, subst, ◌∙◌, arith, ◌*◌, ◌==◌}
+use Rattle.std.specs.Prelude.{slice_set, fold}
+use Rattle.std.specs.List.{flat_map, range_with_len}
 use Rattle.std.specs.Option.{option_map, option_and_then}
 use Rattle.std.proofs.lemmas.Bool.{cases_eq, false≢true}
 use Rattle.std.proofs.lemmas.List.Elements.{Contains-append_cases, Contains-append_left, Contains-append_right}
@@ -29,6 +29,10 @@ use Rattle.bng_ppp.specs.PppState.{PppState, is_open}
 use Rattle.bng_slots.specs.Sessions.{Sessions, value_at, with_value}
 use Rattle.bng_slots.specs.Listed.{values}
 use Rattle.bng_slots.proofs.SessionLaws.{value_at-with_value, value_at-with_other}
+use Rattle.bng_l2tp_call.specs.CallState.{CallState}
+use Rattle.bng_lns.specs.Timed.{Telling, reminded}
+use Rattle.bng_shard.specs.declared.way.Called.{Called}
+use Rattle.bng_shard.specs.declared.way.Way.TheVariants.{Call}
 use Rattle.bng_shard.specs.Made.{Made, Question}
 use Rattle.bng_shard.specs.declared.meters.Meters.{Meters}
 use Rattle.bng_shard.specs.declared.rules.Rules.{Rules}
@@ -37,25 +41,27 @@ use Rattle.bng_shard.specs.declared.session.Lease.{Lease}
 use Rattle.bng_shard.specs.declared.session.Service.{Service}
 use Rattle.bng_shard.specs.declared.session.Service.TheVariants.{Provisioned, Discovered}
 use Rattle.bng_shard.specs.declared.session.Session.{Session}
-use Rattle.bng_shard.specs.State.{State, leaves, leaves_in, session_of, with_session, with_driven, with_ended, with_tunnels}
+use Rattle.bng_shard.specs.State.{Beside, State, leaves, leaves_in, session_of, with_session, with_driven, with_ended, with_tunnels, beside_at, call_of, circuit_of}
 use Rattle.bng_shard.specs.Changes.{changed_by, lease_after, place_of}
-use Rattle.bng_shard.specs.Deed.{Deed, at_of}
+use Rattle.bng_shard.specs.Deed.{Deed, at_of, beside_of}
 use Rattle.bng_shard.specs.Discovery.{Answers, Makes, host_uniq_of, new_session}
 use Rattle.bng_shard.specs.Frames.{HearsData, HearsPpp, HearsControl, HearsIn, HearsFrame, HearsAccess, HearsCore}
-use Rattle.bng_shard.specs.L2tp.{HearsTunnel}
-use Rattle.bng_shard.specs.Link.{LinkStep, Drives, Told, admin_reset, asked_after, ended, ended_service, hears, nas_request, next_ask, question_after, settles, told, user_request, with_link}
+use Rattle.bng_shard.specs.Calls.{called_session, linked, linked_anew, turned}
+use Rattle.bng_shard.specs.Cutting.{cut_at, cut_if, cut_of, cut_off, cut_told, is_cut, numbers_most}
+use Rattle.bng_shard.specs.L2tp.{tunnels_most}
+use Rattle.bng_shard.specs.Link.{LinkStep, Drives, Told, admin_reset, asked_after, ended, ended_service, hears, nas_request, next_ask, question_after, settles, told, user_request, after_link, lost_carrier}
 use Rattle.bng_shard.specs.Metered.{meters_at, meters_of, spent_input, spent_output}
 use Rattle.bng_shard.specs.Passing.{cause_at, lapsed, looked, passed_at, place_in, with_passed}
 use Rattle.bng_shard.specs.Questions.{Asking, AsksOn, asked_in, asking_of, open_in, open_of, questions_of}
 use Rattle.bng_shard.specs.Step.{Hears, Step}
 use Rattle.bng_shard.specs.Tenures.{Tenure, closed, kept_lease}
-use Rattle.bng_shard.specs.Timers.{IsFirstDue, IsTimed, LooksAt, LosesTerm, TimesIn, Ticks, Ends, HearsTick, HearsEnd, at_once, deadline_in, deadline_of, deadline_unless, lease_deadline, link_deadline}
+use Rattle.bng_shard.specs.Timers.{IsFirstDue, IsTimed, LooksAt, LosesTerm, TimesIn, Ticks, Ends, HearsTick, HearsEnd, at_once, deadline_in, deadline_of, deadline_unless, lease_deadline, link_deadline, Reminds}
 use Rattle.bng_shard.specs.Verdicts.{HearsVerdict, Judges, next_lease, next_term, settled_by}
 use Rattle.bng_ppp.proofs.WholeQuestions.{only_frames_ask, open_was_asked}
-use Rattle.bng_shard.proofs.Changing.{Comes, change_comes}
+use Rattle.bng_shard.proofs.Changing.{Comes as Requests, change_comes}
 use Rattle.bng_shard.proofs.LinkSteps.{frame_of, verdict_of, frame_steps, verdict_steps}
-use Rattle.bng_shard.proofs.Naming.{at_number, next_of, same_made}
-use Rattle.bng_shard.proofs.Tunnelling.{tunnel_spoke}
+use Rattle.bng_shard.proofs.Naming.{at_number, next_of, same_made, call_number, call_stays, way_stays}
+use Rattle.bng_shard.proofs.Tunnelling.{Did, Idles, Speaks, Cuts, Comes, TurnsOne, PartsOne, ConnectsOne, PassesUp, HearsOne, tunnel_did}
 use Rattle.bng_shard.proofs.Values.{none_some, numbered, same_some, stands}
 
 -- Lists of questions ------------------------------------------------------------------------------------------------------
@@ -88,17 +94,29 @@ the_question x (Some q) a (zero, l, is) = (q, refl, is)
 the_question x (Some q) a (suc k, l, is) = absurd (omega arith)
 
 -- the state with another session at a number, after so many questions, whatever it has of terms and meters
-abbrev pub state_with : State → ℕ → Session → ℕ → ℕ → List Tenure → List Tenure → List Meters → State
-state_with s n x asked begun terms news meters = record {
+abbrev pub state_with : State → ℕ → Session → Beside → ℕ → List Tenure → List Tenure → List Meters → State
+state_with s n x beside begun terms news meters = record {
   sessions = with_value s.sessions n x;
   begun = begun;
-  asked = asked;
+  asked = beside.asked;
   terms = terms;
   news = news;
   passed = s.passed;
   meters = meters;
-  tunnels = s.tunnels;
+  tunnels = beside.tunnels;
 }
+
+-- what stands beside the sessions of a state
+abbrev pub own_beside : State → Beside
+own_beside s = beside_at 0 s.asked s.tunnels
+
+-- a session of the same number and circuit asks the same
+pub asks_same : (x y : Session) (q : Question) → y.number ≡ x.number → circuit_of y ≡ circuit_of x → asking_of y q ≡ asking_of x q
+asks_same x y q n c = λ i. record { number = record { session = n i; ask = q.ask }; circuit = c i; claim = q.claim }
+
+-- so does one after a step of its link
+pub link_asks_same : (x : Session) (made : Made) (asked : ℕ) (says : PppSaid) (link : PppState) (q : Question) → asking_of (after_link x made asked says link) q ≡ asking_of x q
+link_asks_same x made asked says link q = asks_same x (after_link x made asked says link) q refl (way_stays says.finished x.way x.number)
 
 -- then this session stands at the number, and the others stand where they stood
 record Puts (ss ss' : Sessions Session) (n : ℕ) (y : Session) : Type 0 where
@@ -230,34 +248,34 @@ new_number n m k e f low = (omega (arith, e, f, low), omega (arith, e, f))
 abbrev IsOpenIn : State → Session → Type 0
 IsOpenIn s x = (m : Made) (q : Question) → x.service ≡ Discovered m → m.question ≡ Some q → is_open m.link.auth ≡ true → Contains (questions_of s) (asking_of x q)
 
-module _ (r : Rules) (a : At) (s : State) (n : ℕ) (x : Session) (outs : List OutRecord) (cause : Option ℕ) (x' : Session) (asked' : ℕ) (Steps : LinkStep) (opens : OpensByAsking Steps) (was : IsOpenIn s x)
-    (h : Drives r a s.asked x Steps outs cause x' asked') (begun : ℕ) (terms news : List Tenure) (meters : List Meters) where
+module _ (r : Rules) (a : At) (moment : ℕ) (s : State) (n : ℕ) (x : Session) (outs : List OutRecord) (cause : Option ℕ) (x' : Session) (beside' : Beside) (Steps : LinkStep) (opens : OpensByAsking Steps) (was : IsOpenIn s x)
+    (h : Drives r a (beside_at moment s.asked s.tunnels) x Steps outs cause x' beside') (begun : ℕ) (terms news : List Tenure) (meters : List Meters) where
   -- whatever the session leases after the step
-  with_lease : (y : Session) (lease : Option Lease) → y ≡ record (with_link x h.made s.asked h.says h.link) { lease = lease } → On s (state_with s n y asked' begun terms news meters)
+  with_lease : (y : Session) (lease : Option Lease) → y ≡ record (after_link x h.made s.asked h.says h.link) { lease = lease } → On s (state_with s n y beside' begun terms news meters)
   with_lease y lease is = record {
-    counted = subst (λ (m : ℕ). Counts s.asked m) (sym h.count) (after_counts s.asked h.says.asked);
+    counted = subst (λ (m : ℕ). Counts s.asked m) (sym (ap (λ (b : Beside). b.asked) h.count)) (after_counts s.asked h.says.asked);
     asked = λ low b there. elim (among s (with_session s n y) n y b (puts_one s.sessions n y) there) [
       | inr before ↦ inl before
       | inl own ↦
-          let z : Session = record (with_link x h.made s.asked h.says h.link) { lease = lease } in
+          let z : Session = record (after_link x h.made s.asked h.says h.link) { lease = lease } in
           let found = the_question z (open_of z) b (subst (λ (w : Session). Contains (asks w) b) is own) in
           let q = found.0 in
           let number : q.ask ≡ b.number.ask = ap (λ (c : Asking). c.number.ask) found.2 in
           let after = after_step h.says.finished (is_open h.link.auth) s.asked h.says.asked (is_begun h.link.auth) h.made.question q found.1 in
           elim after.1 [
-            | inl new ↦ inr (new_number s.asked asked' b.number.ask (h.count ∙ asked_is_next s.asked h.says.asked new.0) (sym number ∙ new.1) low)
+            | inl new ↦ inr (new_number s.asked beside'.asked b.number.ask (ap (λ (w : Beside). w.asked) h.count ∙ asked_is_next s.asked h.says.asked new.0) (sym number ∙ new.1) low)
             | inr old ↦ elim (opens h.made.link h.says h.link h.steps after.0) [
               | inl asks_now ↦ absurd (false≢true (sym (ap is_some old.0) ∙ asks_now))
-              | inr still ↦ inl (subst (λ (c : Asking). Contains (questions_of s) c) found.2 (was h.made q h.is_made old.1 still))
+              | inr still ↦ inl (subst (λ (c : Asking). Contains (questions_of s) c) (sym (link_asks_same x h.made s.asked h.says h.link q) ∙ found.2) (was h.made q h.is_made old.1 still))
             ]
           ]
     ];
   }
 
-  driven : On s (state_with s n x' asked' begun terms news meters)
+  driven : On s (state_with s n x' beside' begun terms news meters)
   driven = with_lease x' (kept_lease h.says.term_ended x.lease) h.session
 
-  leased : (lease : Option Lease) → On s (state_with s n (record x' { lease = lease }) asked' begun terms news meters)
+  leased : (lease : Option Lease) → On s (state_with s n (record x' { lease = lease }) beside' begun terms news meters)
   leased lease = with_lease (record x' { lease = lease }) lease (ap (λ (z : Session). record z { lease = lease }) h.session)
 
 -- a session that has not ended stands there
@@ -295,7 +313,7 @@ ended_silent : (v : Service) → open_in (ended_service v) ≡ None
 ended_silent (Provisioned l) = refl
 ended_silent (Discovered m) = refl
 
-over : (s : State) (n : ℕ) (x : Session) (terms : List Tenure) → On s (state_with s n (ended x) s.asked s.begun terms s.news s.meters)
+over : (s : State) (n : ℕ) (x : Session) (terms : List Tenure) → On s (state_with s n (ended x) (own_beside s) s.begun terms s.news s.meters)
 over s n x terms = record {
   counted = counts_same s.asked s.asked refl;
   asked = λ low a there. elim (among s (with_session s n (ended x)) n (ended x) a (puts_one s.sessions n (ended x)) there) [
@@ -312,20 +330,20 @@ last_stays n (Some claim) begun last q none e = absurd (none_some claim (sym non
 last_stays n None true last q none e = e
 last_stays n None false last q none e = absurd (none_some q e)
 
-module _ (r : Rules) (a : At) (s : State) (asked : ℕ) (x : Session) (outs : List OutRecord) (cause : Option ℕ) (x' : Session) (asked' : ℕ) (Steps : LinkStep) (opens : OpensByAsking Steps)
-    (h : Drives r a asked x Steps outs cause x' asked') (silent : h.says.asked ≡ None) where
-  count_stays : asked' ≡ asked
-  count_stays = h.count ∙ ap (asked_after asked) silent
+module _ (r : Rules) (a : At) (s : State) (beside : Beside) (x : Session) (outs : List OutRecord) (cause : Option ℕ) (x' : Session) (beside' : Beside) (Steps : LinkStep) (opens : OpensByAsking Steps)
+    (h : Drives r a beside x Steps outs cause x' beside') (silent : h.says.asked ≡ None) where
+  count_stays : beside'.asked ≡ beside.asked
+  count_stays = ap (λ (b : Beside). b.asked) h.count ∙ ap (asked_after beside.asked) silent
 
   -- what is open of the session after it was open before
   open_stays : IsOpenIn s x → IsOpenIn s x'
   open_stays was m q is last still =
-      let new : Made = record h.made { link = h.link; question = question_after asked h.says.asked (is_begun h.link.auth) h.made.question; ended = h.says.finished } in
+      let new : Made = record h.made { link = h.link; question = question_after beside.asked h.says.asked (is_begun h.link.auth) h.made.question; ended = h.says.finished } in
       let same : new ≡ m = same_made x'.service new m (ap (λ (y : Session). y.service) h.session) is in
-      let before : h.made.question ≡ Some q = last_stays asked h.says.asked (is_begun h.link.auth) h.made.question q silent (ap (λ (k : Made). k.question) same ∙ last) in
+      let before : h.made.question ≡ Some q = last_stays beside.asked h.says.asked (is_begun h.link.auth) h.made.question q silent (ap (λ (k : Made). k.question) same ∙ last) in
       elim (opens h.made.link h.says h.link h.steps (ap (λ (k : Made). is_open k.link.auth) same ∙ still)) [
         | inl asks_now ↦ absurd (false≢true (sym (ap is_some silent) ∙ asks_now))
-        | inr opened ↦ subst (λ (b : Asking). Contains (questions_of s) b) (ap (λ (y : Session). asking_of y q) (sym h.session)) (was h.made q h.is_made before opened)
+        | inr opened ↦ subst (λ (b : Asking). Contains (questions_of s) b) (sym (link_asks_same x h.made beside.asked h.says h.link q) ∙ ap (λ (y : Session). asking_of y q) (sym h.session)) (was h.made q h.is_made before opened)
       ]
 
 open_within : (over still : Bool) (last : Option Question) (q : Question) → (if not over && still then last else None) ≡ Some q → (last ≡ Some q) × (still ≡ true)
@@ -351,6 +369,54 @@ still_on s s' n y puts was count = record {
   ];
 }
 
+-- Calls -------------------------------------------------------------------------------------------------------------------
+
+-- one whose call goes on has the question that it had
+turned_open : (s : State) (n : ℕ) (x : Session) (c : Called) (call : CallState) (b : Asking) → value_at s.sessions n ≡ Some x → x.way ≡ Call c → Contains (asks (turned x c call)) b → Contains (questions_of s) b
+turned_open s n x c call b at way there =
+    let z = turned x c call in
+    let found = the_question z (open_of z) b there in
+    subst (λ (k : Asking). Contains (questions_of s) k) (sym (asks_same x z found.0 refl (call_stays x c call way)) ∙ found.2) (open_there s n x found.0 at found.1)
+
+turns_on : (s : State) (n : ℕ) (x : Session) (c : Called) (call : CallState) → value_at s.sessions n ≡ Some x → x.way ≡ Call c → On s (with_session s n (turned x c call))
+turns_on s n x c call at way = record {
+  counted = counts_same s.asked s.asked refl;
+  asked = λ low b there. elim (among s (with_session s n (turned x c call)) n (turned x c call) b (puts_one s.sessions n (turned x c call)) there) [
+    | inr before ↦ inl before
+    | inl own ↦ inl (turned_open s n x c call b at way own)
+  ];
+}
+
+-- those of a tunnel that was cleared ask nothing
+cut_on : (tunnel : ℕ) (s : State) (n : ℕ) (o : Option Session) → On s (cut_of tunnel s n o)
+cut_on tunnel s n None = same s s refl
+cut_on tunnel s n (Some x) =
+    elim (is_cut tunnel x) as (λ (b : Bool). On s (if b then with_ended s n x.lease lost_carrier (ended x) else s)) [
+      | true ↦ over s n x (closed x.lease (Some lost_carrier) s.terms)
+      | false ↦ same s s refl
+    ]
+
+cuts_on : (tunnel : ℕ) (ns : List ℕ) (s : State) → On s (fold (cut_at tunnel) s ns)
+cuts_on tunnel [] s = same s s refl
+cuts_on tunnel (n ∷ ns) s = chained s (cut_at tunnel s n) (fold (cut_at tunnel) (cut_at tunnel s n) ns) (cut_on tunnel s n (value_at s.sessions n)) (cuts_on tunnel ns (cut_at tunnel s n))
+
+cut_off_on : (tunnel : ℕ) (s : State) → On s (cut_off tunnel s)
+unfolding cut_off
+cut_off_on tunnel s = cuts_on tunnel (range_with_len (s.sessions.shard * 1024 + 1) numbers_most) s
+
+cut_if_on : (cleared : Bool) (tunnel : ℕ) (s : State) → On s (cut_if cleared tunnel s)
+cut_if_on cleared tunnel s = elim (cleared && not (tunnel == 0)) as (λ (b : Bool). On s (if b then cut_off tunnel s else s)) [ true ↦ cut_off_on tunnel s | false ↦ same s s refl ]
+
+cut_told_on : (o : Option Telling) (s : State) → On s (cut_told o s)
+cut_told_on None s = same s s refl
+cut_told_on (Some t) s = cut_if_on t.said.cleared t.number s
+
+reminds_on : (n k : ℕ) (a : At) (now : ℕ) (s : State) (outs : List OutRecord) (s' : State) → Reminds n k a now s outs s' → On s s'
+reminds_on zero k a now s outs s' h = same s s' h.1
+reminds_on (suc n) k a now s outs s' (first, next, one, rest, more, are) =
+    let u = with_tunnels s one.tunnels in
+    chained s next s' (chained s u next (tells_on s one.tunnels) (subst (On u) (sym one.after) (cut_told_on (reminded now s.tunnels k).told u))) (reminds_on n (k + 1) a now next rest s' more)
+
 -- Ticks and Ends ----------------------------------------------------------------------------------------------------------
 
 module _ (r : Rules) (e : Entry) where
@@ -363,12 +429,12 @@ module _ (r : Rules) (e : Entry) where
   loses_on : (v : Service) (cause : ℕ) (s t : State) (n : ℕ) (x : Session) (outs : List OutRecord) (s' : State) → ((y : Session) → Puts s.sessions (with_value t.sessions n y) n y) → IsOpenIn s x → t.asked ≡ s.asked
       → LosesTerm v cause r e t n x outs s' → On s s'
   loses_on (Provisioned over) cause s t n x outs s' puts was count (none, next) =
-      subst (On s) (sym next) (still_on s (with_driven t n x.lease (Some cause) (lapsed x) t.asked) n (lapsed x) (puts (lapsed x)) was count)
-  loses_on (Discovered m) cause s t n x outs s' puts was count (y, none, asked', drives, next) =
+      subst (On s) (sym next) (still_on s (with_driven t n x.lease (Some cause) (lapsed x) (beside_of t e)) n (lapsed x) (puts (lapsed x)) was count)
+  loses_on (Discovered m) cause s t n x outs s' puts was count (y, none, beside', drives, next) =
       let silent = told_silent Close refl drives.made.link drives.says drives.link drives.steps in
-      let stays = count_stays r (at_of t e) s t.asked (lapsed x) outs none y asked' (told r e Close) (told_opens r e Close) drives silent in
-      let opened = open_stays r (at_of t e) s t.asked (lapsed x) outs none y asked' (told r e Close) (told_opens r e Close) drives silent was in
-      subst (On s) (sym next) (still_on s (with_driven t n x.lease (Some cause) y asked') n y (puts y) opened (stays ∙ count))
+      let stays = count_stays r (at_of t e) s (beside_of t e) (lapsed x) outs none y beside' (told r e Close) (told_opens r e Close) drives silent in
+      let opened = open_stays r (at_of t e) s (beside_of t e) (lapsed x) outs none y beside' (told r e Close) (told_opens r e Close) drives silent was in
+      subst (On s) (sym next) (still_on s (with_driven t n x.lease (Some cause) y beside') n y (puts y) opened (stays ∙ count))
 
   -- it is looked at
   looks_on : (o : Option ℕ) (s t : State) (n : ℕ) (x : Session) (outs : List OutRecord) (s' : State) → ((y : Session) → Puts s.sessions (with_value t.sessions n y) n y) → IsOpenIn s x → t.asked ≡ s.asked
@@ -383,9 +449,9 @@ module _ (r : Rules) (e : Entry) where
       looks_on (cause_at (passed_at s.passed x.number) x.lease e.moment) s s n x outs s' (puts_one s.sessions n) (was_open s n x at lives) refl h
   times_on (Discovered m) s n x outs s' at lives h =
       let silent = told_silent Timer refl h.drives.made.link h.drives.says h.drives.link h.drives.steps in
-      let count = count_stays r (at_of s e) s s.asked x h.first h.cause h.after h.asked (told r e Timer) (told_opens r e Timer) h.drives silent in
-      let opened = open_stays r (at_of s e) s s.asked x h.first h.cause h.after h.asked (told r e Timer) (told_opens r e Timer) h.drives silent (was_open s n x at lives) in
-      looks_on (cause_at (passed_at s.passed h.after.number) h.after.lease e.moment) s (with_driven s n x.lease h.cause h.after h.asked) n h.after h.then s' (puts_again s.sessions n h.after) opened count h.looks
+      let count = count_stays r (at_of s e) s (beside_of s e) x h.first h.cause h.after h.beside (told r e Timer) (told_opens r e Timer) h.drives silent in
+      let opened = open_stays r (at_of s e) s (beside_of s e) x h.first h.cause h.after h.beside (told r e Timer) (told_opens r e Timer) h.drives silent (was_open s n x at lives) in
+      looks_on (cause_at (passed_at s.passed h.after.number) h.after.lease e.moment) s (with_driven s n x.lease h.cause h.after h.beside) n h.after h.then s' (puts_again s.sessions n h.after) opened count h.looks
 
   timed_on : (s : State) (n : ℕ) (outs : List OutRecord) (s' : State) → IsFirstDue s e.moment n → IsTimed r e s n outs s' → On s s'
   timed_on s n outs s' due (x, at, h) =
@@ -416,8 +482,8 @@ module _ (r : Rules) (s : State) (limited : Bool) (e : Entry) (d : Deed) where
 
   makes : (number : ℕ) (port : AccessPort) (offers : PortRules) (p : PppoeFrame) (tags : List PppoeTag) → Makes r s e number port offers p tags d → On s d.next
   makes number port offers p tags h =
-      after (with_driven s h.session None h.cause h.x h.asked) _ h.done refl
-      (driven r (at_of s e) s h.session (new_session h.session number p.src (host_uniq_of tags) h.link) h.outs h.cause h.x h.asked (told r e Start) (told_opens r e Start)
+      after (with_driven s h.session None h.cause h.x h.beside) _ h.done refl
+      (driven r (at_of s e) e.moment s h.session (new_session h.session number p.src (host_uniq_of tags) h.link) h.outs h.cause h.x h.beside (told r e Start) (told_opens r e Start)
       (was_silent s (new_session h.session number p.src (host_uniq_of tags) h.link) h.starts.made h.starts.is_made (sym (ap question_in h.starts.is_made))) h.starts
       s.begun s.terms s.news s.meters)
     where
@@ -434,31 +500,31 @@ module _ (r : Rules) (s : State) (limited : Bool) (e : Entry) (d : Deed) where
   answers NoSession number port offers p tags h = kept _ h refl
   answers Ignore number port offers p tags h = kept _ h refl
 
-  packets : (number : ℕ) (p : PppoeFrame) (info : List ℕ) → HearsData r s e number p info d → On s d.next
-  packets number p info (fate, is, inl (forwards, up)) =
+  packets : (found : Option Session) (info : List ℕ) → HearsData r s e found info d → On s d.next
+  packets found info (fate, is, inl (forwards, up)) =
       let ms : Meters = spent_input (meters_at s.meters up.x.number) e.moment up.header.total in
       after (with_passed s up.x.number e.moment ms) _ up.done refl (passes_on s up.x.number e.moment ms)
-  packets number p info (fate, is, inr (stays, h)) = kept _ h refl
+  packets found info (fate, is, inr (stays, h)) = kept _ h refl
 
-  ppp : (x : Session) (made : Made) (p : PppoeFrame) → value_at s.sessions p.session ≡ Some x → x.service ≡ Discovered made → HearsPpp r s e x made p d → On s d.next
-  ppp x made p at is (inl (gone, h)) = kept _ h refl
-  ppp x made p at is (inr (live, outs, cause, x', asked', drives, h)) =
+  ppp : (n : ℕ) (x : Session) (made : Made) (octets : List ℕ) → value_at s.sessions n ≡ Some x → x.service ≡ Discovered made → HearsPpp r s e n x made octets d → On s d.next
+  ppp n x made octets at is (inl (gone, h)) = kept _ h refl
+  ppp n x made octets at is (inr (live, outs, cause, x', beside', drives, h)) =
       let lives : (m : Made) → x.service ≡ Discovered m → m.ended ≡ false = λ m is'. ap (λ (k : Made). k.ended) (same_made x.service m made is' is) ∙ live in
-      after (with_driven s p.session x.lease cause x' asked') _ h refl
-      (driven r (at_of s e) s p.session x outs cause x' asked' (hears r e p.payload) (hears_opens r e p.payload) (was_open s p.session x at lives) drives s.begun (closed x.lease cause s.terms) s.news s.meters)
+      after (with_driven s n x.lease cause x' beside') _ h refl
+      (driven r (at_of s e) e.moment s n x outs cause x' beside' (hears r e octets) (hears_opens r e octets) (was_open s n x at lives) drives s.begun (closed x.lease cause s.terms) s.news s.meters)
 
   control : (v : Service) (x : Session) (p : PppoeFrame) → value_at s.sessions p.session ≡ Some x → x.service ≡ v → HearsControl v r s e x p d → On s d.next
   control (Provisioned l) x p at is h = kept _ h refl
   control (Discovered made) x p at is (inl (padt, inl (gone, h))) = kept _ h refl
   control (Discovered made) x p at is (inl (padt, inr (live, h))) = after (with_ended s p.session x.lease user_request (ended x)) _ h refl (over s p.session x (closed x.lease (Some user_request) s.terms))
-  control (Discovered made) x p at is (inr (data_frame, h)) = ppp x made p at is h
+  control (Discovered made) x p at is (inr (data_frame, h)) = ppp p.session x made p.payload at is h
 
   named : (number : ℕ) (p : PppoeFrame) (found : Option Session) → session_of s number p.src p.session ≡ found → HearsIn found r s e p d → On s d.next
   named number p None is h = kept _ h refl
   named number p (Some x) is h = control x.service x p (at_number number p.src (value_at s.sessions p.session) x is) refl h
 
   frame : (number : ℕ) (p : PppoeFrame) → HearsFrame r s e number p d → On s d.next
-  frame number p (inl (info, carries, h)) = packets number p info h
+  frame number p (inl (info, carries, h)) = packets (session_of s number p.src p.session) info h
   frame number p (inr (inl (names, no_packet, h))) = named number p (session_of s number p.src p.session) refl h
   frame number p (inr (inr (before, h))) = answers h.answer number h.port h.offers p h.tags h.does
 
@@ -475,28 +541,28 @@ module _ (r : Rules) (s : State) (limited : Bool) (e : Entry) (d : Deed) where
 
   -- a session whose link was told what was found, whether a term begins or not
   module _ (t : Told) (h : Judges r s e t d) (was : IsOpenIn s h.x) where
-    settled_on : (lease : Option Ip4) → On s (settled_by s e.item.target h.x h.question t e.moment h.after h.asked lease)
-    settled_on None = driven r (at_of s e) s e.item.target h.x h.outs h.cause h.after h.asked (settles r e t) (settles_opens r e t) was h.drives s.begun s.terms s.news s.meters
+    settled_on : (lease : Option Ip4) → On s (settled_by s e.item.target h.x h.question t e.moment h.after h.beside lease)
+    settled_on None = driven r (at_of s e) e.moment s e.item.target h.x h.outs h.cause h.after h.beside (settles r e t) (settles_opens r e t) was h.drives s.begun s.terms s.news s.meters
     settled_on (Some a) =
         let new = next_term s h.x h.question t.plan t.class e.moment a in
-        leased r (at_of s e) s e.item.target h.x h.outs h.cause h.after h.asked (settles r e t) (settles_opens r e t) was h.drives (s.begun + 1) (s.terms ++ new ∷ []) (s.news ++ new ∷ [])
+        leased r (at_of s e) e.moment s e.item.target h.x h.outs h.cause h.after h.beside (settles r e t) (settles_opens r e t) was h.drives (s.begun + 1) (s.terms ++ new ∷ []) (s.news ++ new ∷ [])
         (slice_set s.meters (place_in h.after.number) (meters_of t.plan e.moment)) (Some (next_lease s t.plan t.limits e.moment a))
 
   judged : HearsVerdict r s e limited d → On s d.next
   judged (inl (asked_it, t, decides, h)) =
       let number : option_map (λ q. q.ask) (open_of h.x) ≡ Some e.item.ask = ap (λ (o : Option Session). option_map (λ q. q.ask) (option_and_then open_of o)) (sym h.found) ∙ asked_it in
-      after (settled_by s e.item.target h.x h.question t e.moment h.after h.asked t.lease) _ h.done refl (settled_on t h (was_open s e.item.target h.x h.found (open_lives h.x e.item.ask number)) t.lease)
+      after (settled_by s e.item.target h.x h.question t e.moment h.after h.beside t.lease) _ h.done refl (settled_on t h (was_open s e.item.target h.x h.found (open_lives h.x e.item.ask number)) t.lease)
   judged (inr (inl (asked_it, is, h))) = kept _ h refl
   judged (inr (inr (other, none, h))) = kept _ h refl
 
   tick : HearsTick r s e d → On s d.next
-  tick (first, t, spoken, rest, s', ticks, h) = after s' _ h refl (chained s (with_tunnels s t) s' (tells_on s t) (ticks_on r e at_once (with_tunnels s t) rest s' ticks))
+  tick (first, next, spoken, rest, s', ticks, h) = after s' _ h refl (chained s next s' (reminds_on tunnels_most 0 (at_of s e) e.moment s first next spoken) (ticks_on r e at_once next rest s' ticks))
 
   ends : HearsEnd r s e d → On s d.next
   ends (first, next, all, rest, t, stops, h) = after (with_tunnels next t) _ h refl (chained s next (with_tunnels next t) (ends_on r e at_once s first next all) (tells_on next t))
 
   -- a request for a change asks nothing
-  changes : Comes r s e d → On s d.next
+  changes : Requests r s e d → On s d.next
   changes (inl h) = kept _ h refl
   changes (inr (inl (p, f, is, h))) =
       let w = wanted r.profiles p in
@@ -507,15 +573,35 @@ module _ (r : Rules) (s : State) (limited : Bool) (e : Entry) (d : Deed) where
       let n = f.term.term.session.0 in
       after s' _ h refl (loses_on r e f.session.service admin_reset s s n f.session outs s' (puts_one s.sessions n) (was_open s n f.session is.at (staying f.session is.stays)) refl loses)
 
-  tunnel : HearsTunnel r s e d → On s d.next
-  tunnel h =
-      let spoke = tunnel_spoke r s e d h in
-      subst (λ (u : State). On s u) (sym spoke.next) (tells_on s spoke.tunnels)
+  tunnel : Did r s e d → On s d.next
+  tunnel (Idles fate goes h) = kept _ h refl
+  tunnel (Speaks frames t spelled h) = after (with_tunnels s t) _ h refl (tells_on s t)
+  tunnel (Cuts frames t cleared number spelled h) =
+      let u = with_tunnels s t in after (cut_if cleared number u) _ h refl (chained s u (cut_if cleared number u) (tells_on s t) (cut_if_on cleared number u))
+  tunnel (Comes frames t n number peer_tunnel call link spelled vacant new h) =
+      let u = with_tunnels s t in
+      let y = called_session n e.item.from number peer_tunnel call link in
+      after (with_session u n y) _ h refl (chained s u (with_session u n y) (tells_on s t) (still_on u (with_session u n y) n y (puts_one s.sessions n y) (was_silent u y (linked link) refl refl) refl))
+  tunnel (TurnsOne frames t n x m c call spelled at is way h) =
+      let u = with_tunnels s t in
+      after (with_session u n (turned x c call)) _ h refl (chained s u (with_session u n (turned x c call)) (tells_on s t) (turns_on u n x c call at way))
+  tunnel (PartsOne frames t n x m c call spelled at is way h) =
+      let u = with_tunnels s t in
+      let v = with_ended u n x.lease lost_carrier (ended (turned x c call)) in
+      after v _ h refl (chained s u v (tells_on s t) (over u n (turned x c call) (closed x.lease (Some lost_carrier) s.terms)))
+  tunnel (ConnectsOne frames t n x x' m c call link outs none beside' spelled at is way new drives h) =
+      let u = with_tunnels s t in
+      let y = linked_anew (turned x c call) link in
+      let v = with_driven u n x.lease (Some lost_carrier) x' beside' in
+      after v _ h refl
+      (chained s u v (tells_on s t) (driven r (at_of u e) e.moment u n y outs none x' beside' (told r e Start) (told_opens r e Start) (was_silent u y (linked link) refl refl) drives s.begun (closed x.lease (Some lost_carrier) s.terms) s.news s.meters))
+  tunnel (PassesUp p info came carries h) = packets (call_of s e.item.from p.tunnel p.session) info h
+  tunnel (HearsOne p x m came at is h) = ppp p.session x m p.ppp (call_number e.item.from p.tunnel (value_at s.sessions p.session) x at) is h
 
   hears_on : (kind : ItemKind) → Hears kind r s limited e d → On s d.next
   hears_on (Access number) h = access number h
   hears_on Core h = core h
-  hears_on Tunnel h = tunnel h
+  hears_on Tunnel h = tunnel (tunnel_did r s e d h)
   hears_on Verdict h = judged h
   hears_on Change h = changes (change_comes r s e d h)
   hears_on Tick h = tick h

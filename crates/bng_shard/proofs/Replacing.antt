@@ -1,24 +1,26 @@
 -- A session that is taken out and put back under its number.
-use Rattle.std.proofs.Common.{◌≡◌, ℕ, true, List, Option, Some, None, option_map, inl, inr, refl, sym, ap, subst, ◌∙◌}
+use Rattle.std.proofs.Common.{◌≡◌, ℕ, Bool, true, false, List, Option, Some, None, option_map, inl, inr, refl, sym, ap, subst, ◌∙◌}
 use Rattle.std.specs.Cmp.{nat_cmp_total}
 use Rattle.std.specs.FinMap.{get, same_map, nat_cmp-IsAntisymmetric}
 use Rattle.std.proofs.lemmas.Bool.{cases_eq, false≢true}
-use Rattle.bng_base.specs.declared.settings.AccessPort.{AccessPort}
 use Rattle.bng_slots.specs.Sessions.{Sessions, IsNumberOf, NoneShares, value_at, with_value, without}
 use Rattle.bng_slots.proofs.SessionLaws.{value_at-with_value, value_at-with_other, value_at-without, with_value-without}
+use Rattle.bng_lns.specs.Tunnels.{TunnelsState}
+use Rattle.bng_shard.specs.declared.way.Way.TheVariants.{Port, Call}
+use Rattle.bng_shard.specs.declared.way.Way.{Way}
 use Rattle.bng_shard.specs.declared.rules.Rules.{Rules}
 use Rattle.bng_shard.specs.declared.session.Lease.{Lease}
 use Rattle.bng_shard.specs.declared.session.Service.{Service}
 use Rattle.bng_shard.specs.declared.session.Service.TheVariants.{Provisioned, Discovered}
 use Rattle.bng_shard.specs.declared.session.Session.{Session}
-use Rattle.bng_shard.specs.State.{State, made_one, port_at, with_driven, with_ended, with_session}
-use Rattle.bng_shard.specs.Fits.{ArePlaced}
+use Rattle.bng_shard.specs.State.{State, made_one, with_driven, with_ended, with_session, Beside, lives_in, with_tunnels}
+use Rattle.bng_shard.specs.Fits.{ArePlaced, IsPlaced}
 use Rattle.bng_shard.specs.Indexed.{address_of}
-use Rattle.bng_shard.specs.Link.{ended_service}
+use Rattle.bng_shard.specs.Link.{ended_service, way_after}
 use Rattle.bng_shard.specs.Serving.{KeepsLease}
 use Rattle.bng_shard.specs.Running.{TermsView, closed_rows, tenures_in, whole}
 use Rattle.bng_shard.specs.Tenures.{Tenure, closed, kept_lease}
-use Rattle.bng_shard.specs.Timers.{lives_at, lives_in, does_live}
+use Rattle.bng_shard.specs.Timers.{lives_at, does_live}
 use Rattle.bng_shard.proofs.Closing.{closed_tenures}
 use Rattle.bng_shard.proofs.Values.{none_some, same_some}
 
@@ -64,12 +66,12 @@ ended_keeps (Discovered m) lease keeps = (keeps.0, λ some. absurd (false≢true
 
 -- with the terms, once a step of a session's link was made, or it ended
 module _ (s s' : State) (n : ℕ) (x x' : Session) (lease : Option Lease) (t t' : TermsView) (its : lease ≡ x.lease) where
-  pub whole_driven : (cause : Option ℕ) (asked : ℕ) → s' ≡ record (with_session s n x') { asked = asked } → t' ≡ record t { rows = closed_rows lease cause t.rows }
-      → whole s' t' ≡ with_driven (whole s t) n x.lease cause x' asked
-  whole_driven cause asked next rows =
+  pub whole_driven : (cause : Option ℕ) (beside : Beside) → s' ≡ record (with_session s n x') { asked = beside.asked; tunnels = beside.tunnels } → t' ≡ record t { rows = closed_rows lease cause t.rows }
+      → whole s' t' ≡ with_driven (whole s t) n x.lease cause x' beside
+  whole_driven cause beside next rows =
       ap (λ (q : State). whole q t') next
-      ∙ ap (λ (u : TermsView). whole (record (with_session s n x') { asked = asked }) u) rows
-      ∙ ap (λ (ts : List Tenure). let q : State = record (with_session (whole s t) n x') { asked = asked; terms = ts } in q) (closed_tenures lease cause t.rows ∙ ap (λ (l : Option Lease). closed l cause (tenures_in t.rows)) its)
+      ∙ ap (λ (u : TermsView). whole (record (with_session s n x') { asked = beside.asked; tunnels = beside.tunnels }) u) rows
+      ∙ ap (λ (ts : List Tenure). let q : State = record (with_session (whole s t) n x') { asked = beside.asked; terms = ts; tunnels = beside.tunnels } in q) (closed_tenures lease cause t.rows ∙ ap (λ (l : Option Lease). closed l cause (tenures_in t.rows)) its)
 
   pub whole_ended : (cause : ℕ) → s' ≡ with_session s n x' → t' ≡ record t { rows = closed_rows lease (Some cause) t.rows } → whole s' t' ≡ with_ended (whole s t) n x.lease cause x'
   whole_ended cause next rows =
@@ -81,13 +83,22 @@ module _ (s s' : State) (n : ℕ) (x x' : Session) (lease : Option Lease) (t t' 
 pub live_there : (s : State) (n : ℕ) (x : Session) → lives_at s n ≡ true → Some x ≡ value_at s.sessions n → lives_in x.service ≡ true
 live_there s n x live is = ap does_live is ∙ live
 
--- each session is on a port that is there, where one of them is another on its port
-pub placed_with : (r : Rules) (s : State) (n : ℕ) (x x' : Session) → value_at s.sessions n ≡ Some x → x'.port ≡ x.port → ArePlaced r s.sessions → ArePlaced r (with_session s n x').sessions
-placed_with r s n x x' was same all m y is =
-    let IsThere : ℕ → Type 0 = λ k. (port : AccessPort) × (port_at r.access k ≡ Some port) in
+-- a session that was taken out stays so while the tunnels speak
+pub taken_still : (s s₁ s₂ : State) (n : ℕ) (t : TunnelsState) → s₁ ≡ record s { sessions = without s.sessions n } → s₂ ≡ with_tunnels s₁ t → s₂ ≡ record (with_tunnels s t) { sessions = without s.sessions n }
+taken_still s s₁ s₂ n t taken others = others ∙ ap (λ (u : State). with_tunnels u t) taken
+
+-- a way stays where it is, whether the session has ended on it or not
+pub way_placed : (r : Rules) (b : Bool) (way : Way) → IsPlaced r way → IsPlaced r (way_after b way)
+way_placed r false way h = h
+way_placed r true (Port number mac) h = h
+way_placed r true (Call c) h = tt
+
+-- each session of an access port is on one that is there, where one of them is another that is so
+pub placed_with : (r : Rules) (s : State) (n : ℕ) (x' : Session) → IsPlaced r x'.way → ArePlaced r s.sessions → ArePlaced r (with_session s n x').sessions
+placed_with r s n x' new all m y is =
     elim (cases_eq m n) [
       | inl e ↦
           let it : x' ≡ y = same_some x' y (sym (value_at-with_value s.sessions n x') ∙ ap (λ (k : ℕ). value_at (with_value s.sessions n x') k) (sym e) ∙ is) in
-          subst IsThere (sym same ∙ ap (λ (z : Session). z.port) it) (all n x was)
+          subst (λ (z : Session). IsPlaced r z.way) it new
       | inr d ↦ all m y (sym (value_at-with_other s.sessions n x' m d) ∙ is)
     ]

@@ -1,7 +1,7 @@
 -- The session that was made for a request before, and the one that leases an address.
 use Rattle.std.proofs.Common.{◌≡◌, ◌≢◌, ◌↔◌, ℕ, ◌==◌, ◌&&◌, Bool, true, false, not, List, Option, Some, None, find, option_map, option_and_then, refl, sym, ap, ◌∙◌}
 use Rattle.std.specs.Option.{option_map_or}
-use Rattle.std.proofs.lemmas.Bool.{eqb-true, eq-eqb, false≢true}
+use Rattle.std.proofs.lemmas.Bool.{and_parts, eqb-true, eq-eqb, false≢true}
 use Rattle.bng_base.specs.declared.address.Ip4.{Ip4}
 use Rattle.bng_base.specs.declared.address.Mac.{Mac}
 use Rattle.bng_base.specs.declared.address.SessionNo.{SessionNo}
@@ -11,11 +11,13 @@ use Rattle.bng_shard.specs.declared.session.Lease.{Lease}
 use Rattle.bng_shard.specs.declared.session.Service.{Service}
 use Rattle.bng_shard.specs.declared.session.Service.TheVariants.{Provisioned, Discovered}
 use Rattle.bng_shard.specs.declared.session.Session.{Session}
+use Rattle.bng_shard.specs.declared.way.Way.{Way}
+use Rattle.bng_shard.specs.declared.way.Way.TheVariants.{Port, Call}
 use Rattle.bng_shard.specs.Discovery.{is_repeated, is_repeated_in, same_option}
 use Rattle.bng_shard.specs.Indexed.{address_of}
 use Rattle.bng_shard.specs.Listing.{IsLowestPassing, does_pass}
 use Rattle.bng_shard.specs.Serving.{AreOwn, AreYoung, is_young, is_young_in}
-use Rattle.bng_shard.specs.State.{State, holder_of, is_on, leases}
+use Rattle.bng_shard.specs.State.{State, holder_of, is_on, is_on_way, is_port, leases}
 use Rattle.bng_shard.proofs.Earliest.{read_there}
 use Rattle.bng_shard.proofs.Listing.{lowest_is, none_is}
 use Rattle.bng_shard.proofs.Values.{find_none, find_only, none_some, same_some}
@@ -35,11 +37,22 @@ repeated_young : (v : Service) (host_uniq : Option (List ℕ)) → is_repeated_i
 repeated_young (Provisioned l) host_uniq e = e
 repeated_young (Discovered m) host_uniq e = right_true (same_option m.host_uniq host_uniq) (not m.ended && not m.link.lcp.kept.was_opened) e
 
+-- a session on an access port is at one
+on_port : (port : ℕ) (mac : Mac) (way : Way) → is_on_way port mac way ≡ true → is_port way ≡ true
+on_port port mac (Port p m) e = refl
+on_port port mac (Call c) e = e
+
+both_true : (a b : Bool) → a ≡ true → b ≡ true → (a && b) ≡ true
+both_true true b e f = f
+both_true false b e f = e
+
 -- The session for the same request before has the lowest number of the young ones that were made for it.
 pub repeated_number : (s : Sessions Session) (young : List SessionNo) (port : ℕ) (mac : Mac) (host_uniq : Option (List ℕ)) → AreOwn s → AreYoung s young → (lowest : Option SessionNo) → IsLowestPassing (is_repeated port mac host_uniq) s young lowest → lowest ≡ option_map (λ (x : Session). x.number) (find (is_repeated port mac host_uniq) (values s))
 repeated_number s young port mac host_uniq own listed lowest is =
     let test = is_repeated port mac host_uniq in
-    let passes : (x : Session) → test x ≡ true → is_young x ≡ true = λ x e. repeated_young x.service host_uniq (right_true (is_on port mac x) (is_repeated_in host_uniq x.service) e) in
+    let passes : (x : Session) → test x ≡ true → is_young x ≡ true = λ x e.
+    let parts = and_parts (is_on port mac x) (is_repeated_in host_uniq x.service) e in
+    both_true (is_port x.way) (is_young_in x.service) (on_port port mac x.way parts.0) (repeated_young x.service host_uniq parts.1) in
     elim lowest as (λ o. IsLowestPassing test s young o → o ≡ option_map (λ (x : Session). x.number) (find test (values s))) [
       | None ↦ λ none. sym (ap (option_map (λ (x : Session). x.number)) (none_is is_young test passes s young listed none))
       | Some n ↦ λ low.

@@ -17,8 +17,7 @@ use Rattle.bng_discovery.specs.declared.port.PortRules.{PortRules}
 use Rattle.bng_discovery.specs.Reply.{pado_of, pads_of, refusal_of}
 use Rattle.bng_engine.specs.Lists.{AnyOf}
 use Rattle.bng_engine.proofs.Everywhere.{all_append}
-use Rattle.bng_forward.specs.Fates.{IsFrame, Carries}
-use Rattle.bng_forward.specs.Framed.{circuit_frame}
+use Rattle.bng_forward.specs.Fates.{IsFrame}
 use Rattle.bng_lns.specs.Timed.{Telling, reminded, stopped}
 use Rattle.bng_lns.specs.Tunnels.{TunnelsState}
 use Rattle.bng_ppp.specs.declared.whole_input.WholeInput.{WholeInput}
@@ -31,22 +30,29 @@ use Rattle.bng_shard.specs.declared.session.Lease.{Lease}
 use Rattle.bng_shard.specs.declared.session.Service.{Service}
 use Rattle.bng_shard.specs.declared.session.Service.TheVariants.{Provisioned, Discovered}
 use Rattle.bng_shard.specs.declared.session.Session.{Session}
-use Rattle.bng_shard.specs.State.{State, IsTermOf, session_of, with_driven, with_ended, with_tunnels}
-use Rattle.bng_shard.specs.Deed.{Deed, at_of, out, frame_outs, is_forwarded, arrival_in}
+use Rattle.bng_shard.specs.State.{Beside, State, IsTermOf, session_of, with_driven, with_ended, with_tunnels, call_of}
+use Rattle.bng_forward.specs.Packets.{IsPassedOn}
+use Rattle.bng_base.specs.declared.ipv4.Ipv4.{Ipv4}
+use Rattle.bng_l2tp_tunnel.specs.Sound.{IsSpelled}
+use Rattle.std.specs.List.{AllByRecursion}
+use Rattle.bng_shard.specs.Calls.{linked_anew, turned}
+use Rattle.bng_shard.specs.declared.way.Way.{Way}
+use Rattle.bng_shard.specs.declared.way.Way.TheVariants.{Port, Call}
+use Rattle.bng_shard.specs.Deed.{Deed, at_of, beside_of, out, frame_outs, is_forwarded, arrival_in}
 use Rattle.bng_shard.specs.Discovery.{Answers, Discovers}
 use Rattle.bng_shard.specs.Frames.{charge_of, HearsData, HearsPpp, HearsControl, HearsIn, HearsFrame, HearsAccess, HearsCore}
-use Rattle.bng_shard.specs.L2tp.{HearsTunnel, TellInTurn, TellsIts, tunnels_most}
-use Rattle.bng_shard.specs.Link.{Drives, EndsWith, Told, admin_reset, told, hears, settles, ended, nas_request}
+use Rattle.bng_shard.specs.L2tp.{TellInTurn, TellsIts, tunnels_most}
+use Rattle.bng_shard.specs.Link.{Drives, Told, admin_reset, told, hears, settles, ended, nas_request}
 use Rattle.bng_shard.specs.Passing.{cause_at, lapsed, passed_at}
 use Rattle.bng_shard.specs.Reader.{IsInDirection}
 use Rattle.bng_shard.specs.Step.{Hears, Step}
-use Rattle.bng_shard.specs.Timers.{Ticks, Ends, IsTimed, LooksAt, LosesTerm, TimesIn, StopsTunnels, TellsEnd, at_once, HearsTick, HearsEnd}
+use Rattle.bng_shard.specs.Timers.{Ticks, Ends, IsTimed, LooksAt, LosesTerm, TimesIn, StopsTunnels, TellsEnd, at_once, HearsTick, HearsEnd, Reminds, TellsOn}
 use Rattle.bng_shard.specs.Verdicts.{HearsVerdict}
-use Rattle.bng_shard.proofs.Changing.{Comes, change_comes}
+use Rattle.bng_shard.proofs.Changing.{Comes as Requests, change_comes}
 use Rattle.bng_shard.proofs.LinkSteps.{frame_of, verdict_of, frame_steps, verdict_steps}
-use Rattle.bng_shard.proofs.Packets.{spelled_up, short_up, spelled_down}
-use Rattle.bng_shard.proofs.Spelling.{IsControl, AreControl, discovery_control, padt_control, said_control, tunnel_control}
-use Rattle.bng_shard.proofs.Tunnelling.{Act, tunnel_spoke}
+use Rattle.bng_shard.proofs.Packets.{spelled_up, short_up, spelled_down, short_over}
+use Rattle.bng_shard.proofs.Spelling.{IsControl, AreControl, discovery_control, tunnel_control, drives_control, ends_with_control}
+use Rattle.bng_shard.proofs.Tunnelling.{Act, Did, Idles, Speaks, Cuts, Comes, TurnsOne, PartsOne, ConnectsOne, PassesUp, HearsOne, answers_to, tunnel_did}
 
 -- nothing is charged, and what is sent is of the entry's seat
 pub record SendsNone (e : Entry) (d : Deed) : Type 0 where
@@ -65,7 +71,7 @@ pub record SendsOne (s : State) (e : Entry) (d : Deed) : Type 0 where
   pub frame : List ℕ
   pub outs : d.outs ≡ out (at_of s e) way to frame (Some (charge_of session lease input octets)) ∷ []
   pub fate : d.fate ≡ Forwarded
-  pub spelled : IsInDirection input (charge_of session lease input octets) way frame
+  pub spelled : IsInDirection input (charge_of session lease input octets) way to frame
   pub short : octets ≤ length e.item.frame.payload
 
 not_forwarded : (fate : Fate) → fate ≢ Forwarded → is_forwarded fate ≡ false
@@ -75,25 +81,24 @@ not_forwarded (Dropped cause) other = refl
 
 -- Sessions --------------------------------------------------------------------------------------------------------------
 
-module _ (r : Rules) (e : Entry) (a : At) (asked : ℕ) (x : Session) (outs : List OutRecord) (cause : Option ℕ) (x' : Session) (asked' : ℕ) where
-  told_control : (input : WholeInput) → Drives r a asked x (told r e input) outs cause x' asked' → AreControl a.seat outs
-  told_control input h =
-      subst (λ (os : List OutRecord). AreControl a.seat os) (sym h.outs_are) (said_control a x h.port h.offers h.says (ppp_steps_written r.link e.moment e.item.random input h.made.link h.says h.link h.steps))
+module _ (r : Rules) (e : Entry) (a : At) (beside : Beside) (x : Session) (outs : List OutRecord) (cause : Option ℕ) (x' : Session) (beside' : Beside) where
+  told_control : (input : WholeInput) → Drives r a beside x (told r e input) outs cause x' beside' → AreControl a.seat outs
+  told_control input h = drives_control r a beside x (told r e input) outs cause x' beside' h (ppp_steps_written r.link e.moment e.item.random input h.made.link h.says h.link h.steps)
 
-  hears_control : (octets : List ℕ) → Drives r a asked x (hears r e octets) outs cause x' asked' → AreControl a.seat outs
+  hears_control : (octets : List ℕ) → Drives r a beside x (hears r e octets) outs cause x' beside' → AreControl a.seat outs
   hears_control octets h =
-      subst (λ (os : List OutRecord). AreControl a.seat os) (sym h.outs_are)
-      (said_control a x h.port h.offers h.says (ppp_steps_written r.link e.moment e.item.random (frame_of octets) h.made.link h.says h.link (frame_steps r.link e.moment e.item.random h.made.link h.says h.link octets h.steps)))
+      drives_control r a beside x (hears r e octets) outs cause x' beside' h
+      (ppp_steps_written r.link e.moment e.item.random (frame_of octets) h.made.link h.says h.link (frame_steps r.link e.moment e.item.random h.made.link h.says h.link octets h.steps))
 
-  settles_control : (t : Told) → Drives r a asked x (settles r e t) outs cause x' asked' → AreControl a.seat outs
+  settles_control : (t : Told) → Drives r a beside x (settles r e t) outs cause x' beside' → AreControl a.seat outs
   settles_control t h =
-      subst (λ (os : List OutRecord). AreControl a.seat os) (sym h.outs_are)
-      (said_control a x h.port h.offers h.says (ppp_steps_written r.link e.moment e.item.random (verdict_of t) h.made.link h.says h.link (verdict_steps r.link e.moment e.item.random h.made.link h.says h.link t h.steps)))
+      drives_control r a beside x (settles r e t) outs cause x' beside' h
+      (ppp_steps_written r.link e.moment e.item.random (verdict_of t) h.made.link h.says h.link (verdict_steps r.link e.moment e.item.random h.made.link h.says h.link t h.steps))
 
 -- where a term is over, its session's link takes Close, if it has one
 loses_control : (v : Service) (cause : ℕ) (r : Rules) (e : Entry) (s : State) (n : ℕ) (x : Session) (outs : List OutRecord) (s' : State) → LosesTerm v cause r e s n x outs s' → AreControl e.seat outs
 loses_control (Provisioned over) cause r e s n x outs s' h = subst (λ (os : List OutRecord). AreControl e.seat os) (sym h.0) tt
-loses_control (Discovered m) cause r e s n x outs s' (after, none, asked, drives, is) = told_control r e (at_of s e) s.asked (lapsed x) outs none after asked Close drives
+loses_control (Discovered m) cause r e s n x outs s' (after, none, beside, drives, is) = told_control r e (at_of s e) (beside_of s e) (lapsed x) outs none after beside Close drives
 
 looks_control : (over : Option ℕ) (r : Rules) (e : Entry) (s : State) (n : ℕ) (x : Session) (outs : List OutRecord) (s' : State) → LooksAt over r e s n x outs s' → AreControl e.seat outs
 looks_control None r e s n x outs s' h = subst (λ (os : List OutRecord). AreControl e.seat os) (sym h.0) tt
@@ -103,8 +108,8 @@ times_control : (v : Service) (r : Rules) (e : Entry) (s : State) (n : ℕ) (x :
 times_control (Provisioned over) r e s n x outs s' h = looks_control (cause_at (passed_at s.passed x.number) x.lease e.moment) r e s n x outs s' h
 times_control (Discovered m) r e s n x outs s' h =
     subst (λ (os : List OutRecord). AreControl e.seat os) (sym h.outs_are)
-    (all_append (IsControl e.seat) h.first h.then (told_control r e (at_of s e) s.asked x h.first h.cause h.after h.asked Timer h.drives)
-    (looks_control (cause_at (passed_at s.passed h.after.number) h.after.lease e.moment) r e (with_driven s n x.lease h.cause h.after h.asked) n h.after h.then s' h.looks))
+    (all_append (IsControl e.seat) h.first h.then (told_control r e (at_of s e) (beside_of s e) x h.first h.cause h.after h.beside Timer h.drives)
+    (looks_control (cause_at (passed_at s.passed h.after.number) h.after.lease e.moment) r e (with_driven s n x.lease h.cause h.after h.beside) n h.after h.then s' h.looks))
 
 timed_control : (r : Rules) (e : Entry) (s : State) (n : ℕ) (outs : List OutRecord) (s' : State) → IsTimed r e s n outs s' → AreControl e.seat outs
 timed_control r e s n outs s' (x, at, h) = times_control x.service r e s n x outs s' h
@@ -115,12 +120,13 @@ ticks_control (suc n) r e s outs s' (inl h) = subst (λ (os : List OutRecord). A
 ticks_control (suc n) r e s outs s' (inr (k, due, first, next, timed, rest, more, are)) =
     subst (λ (os : List OutRecord). AreControl e.seat os) (sym are) (all_append (IsControl e.seat) first rest (timed_control r e s k first next timed) (ticks_control n r e next rest s' more))
 
-ends_with_control : (r : Rules) (a : At) (x : Session) (outs : List OutRecord) → EndsWith r a x outs → AreControl a.seat outs
-ends_with_control r a x outs h = subst (λ (os : List OutRecord). AreControl a.seat os) (sym h.outs_are) (padt_control a x h.port h.offers)
+tells_way_control : (way : Way) (r : Rules) (a : At) (x : Session) (outs : List OutRecord) → TellsOn way r a x outs → AreControl a.seat outs
+tells_way_control (Port number mac) r a x outs h = ends_with_control r a number mac x.number outs h
+tells_way_control (Call c) r a x outs h = subst (λ (os : List OutRecord). AreControl a.seat os) (sym h) tt
 
 tells_control : (v : Service) (r : Rules) (a : At) (x : Session) (outs : List OutRecord) → TellsEnd v r a x outs → AreControl a.seat outs
 tells_control (Provisioned p) r a x outs h = subst (λ (os : List OutRecord). AreControl a.seat os) (sym h) tt
-tells_control (Discovered m) r a x outs h = ends_with_control r a x outs h
+tells_control (Discovered m) r a x outs h = tells_way_control x.way r a x outs h
 
 ends_control : (n : ℕ) (r : Rules) (e : Entry) (s : State) (outs : List OutRecord) (s' : State) → Ends n r e s outs s' → AreControl e.seat outs
 ends_control zero r e s outs s' h = subst (λ (os : List OutRecord). AreControl e.seat os) (sym h.0) tt
@@ -139,6 +145,12 @@ in_turn_control act zero k a now t outs t' h = subst (λ (os : List OutRecord). 
 in_turn_control act (suc n) k a now t outs t' (first, next, tells, rest, more, are) =
     subst (λ (os : List OutRecord). AreControl a.seat os) (sym are)
     (all_append (IsControl a.seat) first rest (its_control (act now t k).told a first tells.tells) (in_turn_control act n (k + 1) a now next rest t' more))
+
+reminds_control : (n k : ℕ) (a : At) (now : ℕ) (s : State) (outs : List OutRecord) (s' : State) → Reminds n k a now s outs s' → AreControl a.seat outs
+reminds_control zero k a now s outs s' h = subst (λ (os : List OutRecord). AreControl a.seat os) (sym h.0) tt
+reminds_control (suc n) k a now s outs s' (first, next, one, rest, more, are) =
+    subst (λ (os : List OutRecord). AreControl a.seat os) (sym are)
+    (all_append (IsControl a.seat) first rest (its_control (reminded now s.tunnels k).told a first one.tells.tells) (reminds_control n (k + 1) a now next rest s' more))
 
 stops_control : (a : At) (now : ℕ) (s : State) (outs : List OutRecord) (t : TunnelsState) → StopsTunnels a now s outs t → AreControl a.seat outs
 stops_control a now s outs t (inl (last, h)) = in_turn_control stopped tunnels_most 0 a now s.tunnels outs t h
@@ -161,7 +173,7 @@ module _ (r : Rules) (s : State) (e : Entry) (d : Deed) where
   answers Offer number port offers p tags h = none s e d _ h (discovery_control (at_of s e) number port (pado_of offers p.src tags) refl) refl
   answers Make number port offers p tags h =
       let confirmed = pads_of offers p.src h.session tags in
-      none s e d _ h.done (all_append (IsControl e.seat) (frame_outs (at_of s e) number port confirmed) h.outs (discovery_control (at_of s e) number port confirmed refl) (told_control r e (at_of s e) s.asked _ h.outs h.cause h.x h.asked Start h.starts)) refl
+      none s e d _ h.done (all_append (IsControl e.seat) (frame_outs (at_of s e) number port confirmed) h.outs (discovery_control (at_of s e) number port confirmed refl) (told_control r e (at_of s e) (beside_of s e) _ h.outs h.cause h.x h.beside Start h.starts)) refl
   answers Again number port offers p tags h = none s e d _ h.done (discovery_control (at_of s e) number port (pads_of offers p.src h.x.number.0 tags) refl) refl
   answers (Refuse error) number port offers p tags h = none s e d _ h (discovery_control (at_of s e) number port (refusal_of offers p.src error tags) refl) refl
   answers Ended number port offers p tags h = none s e d _ h tt refl
@@ -171,8 +183,8 @@ module _ (r : Rules) (s : State) (e : Entry) (d : Deed) where
   discovers : (number : ℕ) (p : PppoeFrame) → Discovers r s e number p d → Sends
   discovers number p h = answers h.answer number h.port h.offers p h.tags h.does
 
-  data_sends : (number : ℕ) (p : PppoeFrame) (info : List ℕ) → IsFrame r.access number (arrival_in e) p → Carries p info → HearsData r s e number p info d → Sends
-  data_sends number p info is carries (fate, decides, inl (forwards, h)) =
+  data_sends : (found : Option Session) (info : List ℕ) → ((v : Ipv4) (packet : List ℕ) → IsPassedOn v info packet → v.total ≤ length e.item.frame.payload) → HearsData r s e found info d → Sends
+  data_sends found info short (fate, decides, inl (forwards, h)) =
       one s e d _ h.done (record {
         session = h.x;
         lease = h.lease;
@@ -185,26 +197,26 @@ module _ (r : Rules) (s : State) (e : Entry) (d : Deed) where
         outs = refl;
         fate = refl;
         spelled = spelled_up h.x h.lease h.header info h.packet h.passed h.source;
-        short = short_up r.access number (arrival_in e) p info h.packet h.header is carries h.passed;
+        short = short h.header h.packet h.passed;
       })
-  data_sends number p info is carries (fate, decides, inr (other, h)) = none s e d _ h tt (not_forwarded fate other)
+  data_sends found info short (fate, decides, inr (other, h)) = none s e d _ h tt (not_forwarded fate other)
 
-  ppp : (x : Session) (made : Made) (p : PppoeFrame) → HearsPpp r s e x made p d → Sends
-  ppp x made p (inl (over, h)) = none s e d _ h tt refl
-  ppp x made p (inr (live, outs, cause, x', asked', drives, h)) = none s e d _ h (hears_control r e (at_of s e) s.asked x outs cause x' asked' p.payload drives) refl
+  ppp : (n : ℕ) (x : Session) (made : Made) (octets : List ℕ) → HearsPpp r s e n x made octets d → Sends
+  ppp n x made octets (inl (over, h)) = none s e d _ h tt refl
+  ppp n x made octets (inr (live, outs, cause, x', beside', drives, h)) = none s e d _ h (hears_control r e (at_of s e) (beside_of s e) x outs cause x' beside' octets drives) refl
 
   control : (v : Service) (x : Session) (p : PppoeFrame) → HearsControl v r s e x p d → Sends
   control (Provisioned l) x p h = none s e d _ h tt refl
   control (Discovered made) x p (inl (padt, inl (over, h))) = none s e d _ h tt refl
   control (Discovered made) x p (inl (padt, inr (live, h))) = none s e d _ h tt refl
-  control (Discovered made) x p (inr (data_frame, h)) = ppp x made p h
+  control (Discovered made) x p (inr (data_frame, h)) = ppp p.session x made p.payload h
 
   named : (p : PppoeFrame) (found : Option Session) → HearsIn found r s e p d → Sends
   named p None h = none s e d _ h tt refl
   named p (Some x) h = control x.service x p h
 
   frame : (number : ℕ) (p : PppoeFrame) → IsFrame r.access number (arrival_in e) p → HearsFrame r s e number p d → Sends
-  frame number p is (inl (info, carries, h)) = data_sends number p info is carries h
+  frame number p is (inl (info, carries, h)) = data_sends (session_of s number p.src p.session) info (λ v packet passed. short_up r.access number (arrival_in e) p info packet v is carries passed) h
   frame number p is (inr (inl (names, no_packet, h))) = named p (session_of s number p.src p.session) h
   frame number p is (inr (inr (before, h))) = discovers number p h
 
@@ -221,43 +233,54 @@ module _ (r : Rules) (s : State) (e : Entry) (d : Deed) where
         there = h.term;
         octets = v.total;
         input = false;
-        way = role.Access h.x.port;
-        to = h.port.peer;
-        frame = circuit_frame h.port h.x.mac h.x.number.0 h.packet;
+        way = h.role;
+        to = h.to;
+        frame = h.octets;
         outs = refl;
         fate = refl;
-        spelled = spelled_down h.x h.lease v e.item.frame.payload h.packet h.passed h.port h.address h.again;
+        spelled = spelled_down h.x h.lease v e.item.frame.payload h.packet h.passed h.x.way refl r h.role h.to h.octets h.address h.sent;
         short = h.passed.was.is_there;
       })
   core (inr (v, is, (fate, decides, inr (other, h)))) = none s e d _ h tt (not_forwarded fate other)
 
   judged : (limited : Bool) → HearsVerdict r s e limited d → Sends
-  judged limited (inl (asks, t, decides, h)) = none s e d _ h.done (settles_control r e (at_of s e) s.asked h.x h.outs h.cause h.after h.asked t h.drives) refl
+  judged limited (inl (asks, t, decides, h)) = none s e d _ h.done (settles_control r e (at_of s e) (beside_of s e) h.x h.outs h.cause h.after h.beside t h.drives) refl
   judged limited (inr (inl (asks, decides, h))) = none s e d _ h tt refl
   judged limited (inr (inr (other, no_claim, h))) = none s e d _ h tt refl
 
   tick : HearsTick r s e d → Sends
-  tick (first, t, spoken, rest, s', ticks, h) =
-      none s e d _ h (all_append (IsControl e.seat) first rest (in_turn_control reminded tunnels_most 0 (at_of s e) e.moment s.tunnels first t spoken) (ticks_control at_once r e (with_tunnels s t) rest s' ticks)) refl
+  tick (first, next, spoken, rest, s', ticks, h) =
+      none s e d _ h (all_append (IsControl e.seat) first rest (reminds_control tunnels_most 0 (at_of s e) e.moment s first next spoken) (ticks_control at_once r e next rest s' ticks)) refl
 
   ends : HearsEnd r s e d → Sends
   ends (first, next, all, rest, t, stops, h) =
       none s e d _ h (all_append (IsControl e.seat) first rest (ends_control at_once r e s first next all) (stops_control (at_of next e) e.moment next rest t stops)) refl
 
-  changes : Comes r s e d → Sends
+  changes : Requests r s e d → Sends
   changes (inl h) = none s e d _ h tt refl
   changes (inr (inl (p, f, is, h))) = none s e d _ h tt refl
   changes (inr (inr (p, f, is, outs, s', loses, h))) = none s e d _ h (loses_control f.session.service admin_reset r e s f.term.term.session.0 f.session outs s' loses) refl
 
-  tunnel : HearsTunnel r s e d → Sends
-  tunnel h =
-      let spoke = tunnel_spoke r s e d h in
-      inl (record { outs = subst (λ (os : List OutRecord). AreControl e.seat os) (sym spoke.outs) (tunnel_control (at_of s e) e.item.from spoke.frames spoke.spelled); fate = spoke.fate })
+  answered : (frames : List (List ℕ)) → AllByRecursion IsSpelled frames → AreControl e.seat (answers_to s e frames)
+  answered frames spelled = tunnel_control (at_of s e) e.item.from frames spelled
+
+  tunnel : Did r s e d → Sends
+  tunnel (Idles fate goes h) = none s e d _ h tt goes
+  tunnel (Speaks frames t spelled h) = none s e d _ h (answered frames spelled) refl
+  tunnel (Cuts frames t cleared number spelled h) = none s e d _ h (answered frames spelled) refl
+  tunnel (Comes frames t n number peer_tunnel call link spelled vacant new h) = none s e d _ h (answered frames spelled) refl
+  tunnel (TurnsOne frames t n x m c call spelled at is way h) = none s e d _ h (answered frames spelled) refl
+  tunnel (PartsOne frames t n x m c call spelled at is way h) = none s e d _ h (answered frames spelled) refl
+  tunnel (ConnectsOne frames t n x x' m c call link outs none' beside' spelled at is way new drives h) =
+      none s e d _ h (all_append (IsControl e.seat) (answers_to s e frames) outs (answered frames spelled)
+      (told_control r e (at_of s e) (beside_of (with_tunnels s t) e) (linked_anew (turned x c call) link) outs none' x' beside' Start drives)) refl
+  tunnel (PassesUp p info came carries h) = data_sends (call_of s e.item.from p.tunnel p.session) info (λ v packet passed. short_over e.item.frame.payload p info packet v came.message carries passed) h
+  tunnel (HearsOne p x m came at is h) = ppp p.session x m p.ppp h
 
   hears_sends : (kind : ItemKind) (limited : Bool) → Hears kind r s limited e d → Sends
   hears_sends (Access number) limited h = access number h
   hears_sends Core limited h = core h
-  hears_sends Tunnel limited h = tunnel h
+  hears_sends Tunnel limited h = tunnel (tunnel_did r s e d h)
   hears_sends Verdict limited h = judged limited h
   hears_sends Change limited h = changes (change_comes r s e d h)
   hears_sends Tick limited h = tick h

@@ -15,9 +15,11 @@ use Rattle.bng_shard.specs.declared.session.Session.{Session}
 use Rattle.bng_shard.specs.Indexed.{address_of, term_of}
 use Rattle.bng_shard.specs.Listing.{does_pass}
 use Rattle.bng_shard.specs.Serving.{AreApart, AreLeased, AreOwn, AreOfShard, KeepsLease}
-use Rattle.bng_shard.specs.State.{circuit_of, leaves, leaves_in}
+use Rattle.bng_shard.specs.declared.way.Way.{Way}
+use Rattle.bng_shard.specs.declared.way.Way.TheVariants.{Port, Call}
+use Rattle.bng_shard.specs.State.{circuit_in, circuit_of, leaves, leaves_in, lives_in}
 use Rattle.bng_shard.specs.Tenures.{kept_lease}
-use Rattle.bng_shard.specs.Timers.{does_live, does_stay, lives_in}
+use Rattle.bng_shard.specs.Timers.{does_live, does_stay}
 use Rattle.bng_shard.proofs.Earliest.{read_there}
 use Rattle.bng_shard.proofs.Values.{same_some, none_some}
 
@@ -50,6 +52,10 @@ abbrev session_in : Circuit → ℕ
 session_in (Pppoe port mac session) = session.0
 session_in (L2tp peer tunnel session) = session.0
 
+its_session : (way : Way) (n : SessionNo) → session_in (circuit_in way n) ≡ n.0
+its_session (Port port mac) n = refl
+its_session (Call c) n = refl
+
 abbrev session_of_term : Option TermId → ℕ
 session_of_term None = 0
 session_of_term (Some t) = t.session.0
@@ -68,7 +74,7 @@ module _ (s : Sessions Session) (x : Session) (own : AreOwn s) (vacant : value_a
   pub circuit_alone : NoneShares (λ (y : Session). Some (circuit_of y)) s x
   circuit_alone n c mine has =
       let y = read_there (λ (z : Session). Some (circuit_of z)) (value_at s n) c has in
-      other_there n y.0 y.1 (ap session_in (same_some (circuit_of y.0) c y.2 ∙ sym (same_some (circuit_of x) c mine)))
+      other_there n y.0 y.1 (sym (its_session y.0.way y.0.number) ∙ ap session_in (same_some (circuit_of y.0) c y.2 ∙ sym (same_some (circuit_of x) c mine)) ∙ its_session x.way x.number)
 
   pub term_alone : NoneShares term_of s x
   term_alone n t mine has =

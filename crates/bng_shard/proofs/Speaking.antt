@@ -12,7 +12,7 @@ use Rattle.bng_ppp.specs.WholeFrame.{HearsOctets}
 use Rattle.bng_shard.specs.declared.rules.Rules.{Rules}
 use Rattle.bng_base.specs.declared.item.At.{At}
 use Rattle.bng_shard.specs.declared.session.Session.{Session}
-use Rattle.bng_shard.specs.State.{State}
+use Rattle.bng_shard.specs.State.{Beside, State}
 use Rattle.bng_shard.specs.Deed.{at_of}
 use Rattle.bng_shard.specs.Driven.{Driven}
 use Rattle.bng_shard.specs.Link.{Drives, LinkStep, HearsPppFrame, IsToldVerdict, Told}
@@ -40,29 +40,31 @@ judged r v now random old says new t cause (settles, is) said state = record {
 }
 
 -- a step of the link that follows from another one
-pub drives_so : (r : Rules) (a : At) (asked : ℕ) (x x' : Session) (Steps Wanted : LinkStep) (outs : List OutRecord) (cause : Option ℕ) (asked' : ℕ) → ((old : PppState) (says : PppSaid) (new : PppState) → Steps old says new → Wanted old says new)
-    → Drives r a asked x Steps outs cause x' asked' → Drives r a asked x Wanted outs cause x' asked'
-drives_so r a asked x x' Steps Wanted outs cause asked' follows d = record {
+pub drives_so : (r : Rules) (a : At) (beside : Beside) (x x' : Session) (Steps Wanted : LinkStep) (outs : List OutRecord) (cause : Option ℕ) (beside' : Beside) → ((old : PppState) (says : PppSaid) (new : PppState) → Steps old says new → Wanted old says new)
+    → Drives r a beside x Steps outs cause x' beside' → Drives r a beside x Wanted outs cause x' beside'
+drives_so r a beside x x' Steps Wanted outs cause beside' follows d = record {
   made = d.made;
   is_made = d.is_made;
-  port = d.port;
-  offers = d.offers;
-  at = d.at;
   says = d.says;
   link = d.link;
   steps = follows d.made.link d.says d.link d.steps;
+  first = d.first;
+  tells = d.tells;
+  last = d.last;
+  tunnels = d.tunnels;
+  parts = d.parts;
   outs_are = d.outs_are;
   closes = d.closes;
   session = d.session;
   count = d.count;
 }
 
-module _ (r : Rules) (s : State) (a : At) (now : ℕ) (item : Item) (outs outs' : List OutRecord) (x x' : Session) (Steps : LinkStep) (asked : ℕ) (cause : Option ℕ) (asked' : ℕ) (here : a.shard ≡ s.sessions.shard) where
+module _ (r : Rules) (s : State) (a : At) (now : ℕ) (item : Item) (outs outs' : List OutRecord) (x x' : Session) (Steps : LinkStep) (beside : Beside) (cause : Option ℕ) (beside' : Beside) (here : a.shard ≡ s.sessions.shard) where
   abbrev entry : Entry
   entry = entry_of a.seat a.place now item
 
-  pub drives : (d : Driven r a Steps asked x cause x' asked' outs outs') → Drives r (at_of s entry) asked x Steps d.more cause x' asked'
-  drives d = subst (λ (b : At). Drives r b asked x Steps d.more cause x' asked') (its_place s a now item here) d.drives
+  pub drives : (d : Driven r a Steps beside x cause x' beside' outs outs') → Drives r (at_of s entry) beside x Steps d.more cause x' beside'
+  drives d = subst (λ (b : At). Drives r b beside x Steps d.more cause x' beside') (its_place s a now item here) d.drives
 
-  pub driven_few : (d : Driven r a Steps asked x cause x' asked' outs outs') (n : ℕ) → length outs' ≤ length outs + n → length d.more ≤ n
+  pub driven_few : (d : Driven r a Steps beside x cause x' beside' outs outs') (n : ℕ) → length outs' ≤ length outs + n → length d.more ≤ n
   driven_few d n few = omega (arith, ap length d.outs_are, length-append outs d.more, few)

@@ -1,5 +1,6 @@
 -- What stands in the frames that go out: no packet of a subscriber, but for the frame of a circuit.
-use Rattle.std.proofs.Common.{◌≡◌, ℕ, ◌<◌, Bool, true, false, ◌&&◌, List, [], ◌∷◌, None, length, nat_le, if◌then◌else◌, refl, sym, ap, subst, ◌∙◌, arith, eqb}
+use Rattle.std.proofs.Common.{◌≡◌, ℕ, ◌<◌, Bool, true, false, ◌&&◌, List, [], ◌∷◌, ◌++◌, Option, None, Some, length, nat_le, if◌then◌else◌, refl, sym, ap, subst, ◌∙◌, arith, eqb}
+use Rattle.std.specs.Prelude.{slice_index}
 use Rattle.std.specs.List.{AllByRecursion}
 use Rattle.std.proofs.lemmas.Bool.{false≢true}
 use Rattle.std.proofs.lemmas.Bool.Decides.{nat_tests}
@@ -7,26 +8,36 @@ use Rattle.bng_base.specs.declared.address.Mac.{Mac}
 use Rattle.bng_base.specs.declared.address.Peer.{Peer}
 use Rattle.bng_base.specs.declared.frame.TheConstants.{LONGEST}
 use Rattle.bng_base.specs.declared.item.OutRecord.{OutRecord}
-use Rattle.bng_base.specs.declared.outside.Role.TheVariants.{Access}
+use Rattle.bng_base.specs.declared.address.SessionNo.{SessionNo}
+use Rattle.bng_base.specs.declared.outside.Role.TheVariants.{Access, Tunnel}
 use Rattle.bng_base.specs.declared.settings.AccessPort.{AccessPort}
 use Rattle.bng_base.specs.PppGrammar.{packet_text, ppp_text}
 use Rattle.bng_base.specs.PppoeGrammar.{PppoeFrame, pppoe_text}
 use Rattle.bng_discovery.specs.declared.port.PortRules.{PortRules}
 use Rattle.bng_discovery.specs.Reply.{padt_of}
 use Rattle.bng_l2tp_tunnel.specs.Sound.{IsSpelled}
-use Rattle.bng_shard.specs.Reader.{is_session_data, IsNoPacket}
+use Rattle.bng_l2tp_call.specs.Steps.{to_peer}
+use Rattle.bng_l2tp_tunnel.specs.TunnelState.{TunnelState}
+use Rattle.bng_l2tp_wire.specs.Messages.{data_text, type_bit}
+use Rattle.bng_lns.specs.Exchange.{parted}
+use Rattle.bng_lns.specs.Framed.{call_message}
+use Rattle.bng_lns.specs.Tunnels.{TunnelsState, tunnel_at}
+use Rattle.bng_shard.specs.declared.rules.Rules.{Rules}
+use Rattle.bng_shard.specs.declared.way.Called.{Called}
+use Rattle.bng_shard.specs.declared.way.Way.{Way}
+use Rattle.bng_shard.specs.declared.way.Way.TheVariants.{Port, Call}
+use Rattle.bng_shard.specs.Reader.{is_call_data, is_session_data, IsNoPacket}
+use Rattle.bng_shard.specs.State.{Beside}
 use Rattle.bng_engine.proofs.Everywhere.{all_append}
 use Rattle.bng_forward.specs.Framed.{session_frame}
 use Rattle.byteorder.specs.Endian.{big_number}
 use Rattle.byteorder.specs.Numbers.{big_number-reads_back}
 use Rattle.bng_ppp.specs.Messages.{is_written}
-use Rattle.bng_ppp.specs.PppRelation.{PppSaid}
 use Rattle.bng_pppoe_wire.proofs.Spelled.{six}
 use Rattle.bng_base.specs.declared.item.At.{At}
 use Rattle.bng_shard.specs.declared.session.Session.{Session}
-use Rattle.bng_shard.specs.Deed.{out, frame_outs}
-use Rattle.bng_shard.specs.L2tp.{tunnel_outs}
-use Rattle.bng_shard.specs.Link.{ppp_outs, padt_outs, said_outs}
+use Rattle.bng_shard.specs.Deed.{out, frame_outs, tunnel_outs}
+use Rattle.bng_shard.specs.Link.{Drives, EndsWith, HangsUp, IsParted, LinkStep, PartsOn, SaysOn, call_octets, call_outs, data_outs, padt_outs, ppp_outs}
 use Rattle.bng_ppp.proofs.MessageLaws.{IsWritten, AreWritten}
 
 -- an out of an entry of that seat, that no one is charged for, and no packet of a subscriber
@@ -71,7 +82,7 @@ other_protocol n c info e = ap (λ (m : ℕ). eqb m 33) (big_number-reads_back 2
 
 -- what goes out on an access port and is no session data is no packet
 no_data : (a : At) (number : ℕ) (port : AccessPort) (octets : List ℕ) → is_session_data octets ≡ false → IsControl a.seat (out a (Access number) port.peer octets None)
-no_data a number port octets h = record { seat_is = refl; charge = refl; unsent = refl; no_packet = record { on_way = refl; not_core = refl; not_data = λ e. h; is_control = λ e. absurd (false≢true e) } }
+no_data a number port octets h = record { seat_is = refl; charge = refl; unsent = refl; no_packet = record { on_way = refl; not_core = refl; not_data = λ e. h; not_call = λ e. absurd (false≢true e); control = λ e t. absurd (false≢true e); spelled = λ e t. absurd (false≢true e) } }
 
 where_fits : (seat : ℕ) (b c d : Bool) (o : OutRecord) → (b ≡ true → c ≡ true → IsControl seat o) → AreControl seat (if (b && c) && d then o ∷ [] else [])
 where_fits seat false c d o h = tt
@@ -103,28 +114,86 @@ written_control a number port dst src session f is =
     (ppp_shown is.number dst.0 src.0 0 session info (other_protocol is.number is.packet.code info is.written)))
 
 -- PPP frames of a session's link
-ppp_control : (a : At) (x : Session) (port : AccessPort) (fs : List (List ℕ)) → AreWritten fs → AreControl a.seat (ppp_outs a x port fs)
-ppp_control a x port [] h = tt
-ppp_control a x port (f ∷ fs) h =
-    all_append (IsControl a.seat) (frame_outs a x.port port (session_frame x.mac port.mac x.number.0 f)) (ppp_outs a x port fs) (written_control a x.port port x.mac port.mac x.number.0 f h.0) (ppp_control a x port fs h.1)
+ppp_control : (a : At) (number : ℕ) (mac : Mac) (n : SessionNo) (port : AccessPort) (fs : List (List ℕ)) → AreWritten fs → AreControl a.seat (ppp_outs a number mac n port fs)
+ppp_control a number mac n port [] h = tt
+ppp_control a number mac n port (f ∷ fs) h =
+    all_append (IsControl a.seat) (frame_outs a number port (session_frame mac port.mac n.0 f)) (ppp_outs a number mac n port fs) (written_control a number port mac port.mac n.0 f h.0) (ppp_control a number mac n port fs h.1)
 
 -- the PADT of a session
-pub padt_control : (a : At) (x : Session) (port : AccessPort) (offers : PortRules) → AreControl a.seat (padt_outs a x port offers)
-padt_control a x port offers = discovery_control a x.port port (padt_of offers x.mac x.number.0) refl
+pub padt_control : (a : At) (number : ℕ) (mac : Mac) (n : SessionNo) (port : AccessPort) (offers : PortRules) → AreControl a.seat (padt_outs a number mac n port offers)
+padt_control a number mac n port offers = discovery_control a number port (padt_of offers mac n.0) refl
 
-padt_if : (b : Bool) (a : At) (x : Session) (port : AccessPort) (offers : PortRules) → AreControl a.seat (if b then padt_outs a x port offers else [])
-padt_if true a x port offers = padt_control a x port offers
-padt_if false a x port offers = tt
+-- a message of a tunnel is no data of a call
+control_shown : (octets : List ℕ) → IsSpelled octets → is_call_data octets ≡ false
+control_shown octets (m, is) = ap is_call_data is
 
--- what a link says
-pub said_control : (a : At) (x : Session) (port : AccessPort) (offers : PortRules) (says : PppSaid) → AreWritten says.outs → AreControl a.seat (said_outs a x port offers says)
-said_control a x port offers says h =
-    all_append (IsControl a.seat) (ppp_outs a x port says.outs) (if says.finished then padt_outs a x port offers else []) (ppp_control a x port says.outs h) (padt_if says.finished a x port offers)
+-- its T bit is set
+control_type : (octets : List ℕ) → IsSpelled octets → type_bit (slice_index octets 0) ≡ 0 → ⊥
+control_type octets (m, is) e =
+    let one : type_bit (slice_index octets 0) ≡ 1 = ap (λ (xs : List ℕ). type_bit (slice_index xs 0)) is in
+    omega (arith, one, e)
+
+-- that of an octet without flags is not
+data_type : (octet : ℕ) → octet ≡ 0 → type_bit octet ≡ 1 → ⊥
+data_type octet none e = omega (arith, none, e)
+
+-- nor is a data message whose PPP protocol is not 0021
+call_shown : (n t k : ℕ) (info : List ℕ) → eqb (big_number 2 (ppp_text (record { protocol = n; info = info }))) 33 ≡ false
+    → is_call_data (data_text (call_message t k (ppp_text (record { protocol = n; info = info })))) ≡ false
+call_shown n t k info other = other
 
 -- control messages to the peer of a tunnel
 pub tunnel_control : (a : At) (to : Peer) (frames : List (List ℕ)) → AllByRecursion IsSpelled frames → AreControl a.seat (tunnel_outs a to frames)
 tunnel_control a to [] h = tt
 tunnel_control a to (f ∷ frames) h = (
-  record { seat_is = refl; charge = refl; unsent = refl; no_packet = record { on_way = refl; not_core = refl; not_data = λ e. absurd (false≢true e); is_control = λ e. h.0 } },
+  record { seat_is = refl; charge = refl; unsent = refl; no_packet = record { on_way = refl; not_core = refl; not_data = λ e. absurd (false≢true e); not_call = λ e. control_shown f h.0; control = λ e t. h.0; spelled = λ e t. absurd (control_type f h.0 t) } },
   tunnel_control a to frames h.1,
 )
+
+-- PPP frames of a call
+fits_control : (seat : ℕ) (b : Bool) (o : OutRecord) → IsControl seat o → AreControl seat (if b then o ∷ [] else [])
+fits_control seat true o h = (h, tt)
+fits_control seat false o h = tt
+
+data_control : (a : At) (c : Called) (f : List ℕ) → IsWritten f → AreControl a.seat (data_outs a c f)
+data_control a c f is =
+    let info = packet_text is.packet in
+    let other : is_call_data (call_octets c f) ≡ false =
+    ap (λ (g : List ℕ). is_call_data (call_octets c g)) is.spelled ∙ call_shown is.number c.far (to_peer c.call) info (other_protocol is.number is.packet.code info is.written) in
+    fits_control a.seat (nat_le (length (call_octets c f)) LONGEST) (out a Tunnel c.peer (call_octets c f) None)
+    (record { seat_is = refl; charge = refl; unsent = refl; no_packet = record { on_way = refl; not_core = refl; not_data = λ e. absurd (false≢true e); not_call = λ e. other; control = λ e t. absurd (data_type (slice_index (call_octets c f) 0) refl t); spelled = λ e t. (call_message c.far (to_peer c.call) f, refl) } })
+
+call_control : (a : At) (c : Called) (fs : List (List ℕ)) → AreWritten fs → AreControl a.seat (call_outs a c fs)
+call_control a c [] h = tt
+call_control a c (f ∷ fs) h = all_append (IsControl a.seat) (data_outs a c f) (call_outs a c fs) (data_control a c f h.0) (call_control a c fs h.1)
+
+equal_control : (seat : ℕ) (outs outs' : List OutRecord) → outs' ≡ outs → AreControl seat outs → AreControl seat outs'
+equal_control seat outs outs' e h = subst (λ (os : List OutRecord). AreControl seat os) (sym e) h
+
+-- what a link says on the way of its session
+pub says_control : (way : Way) (r : Rules) (a : At) (n : SessionNo) (frames : List (List ℕ)) (outs : List OutRecord) → AreWritten frames → SaysOn way r a n frames outs → AreControl a.seat outs
+says_control (Port number mac) r a n frames outs written h = equal_control a.seat (ppp_outs a number mac n h.port frames) outs h.outs_are (ppp_control a number mac n h.port frames written)
+says_control (Call c) r a n frames outs written h = equal_control a.seat (call_outs a c frames) outs h (call_control a c frames written)
+
+pub ends_with_control : (r : Rules) (a : At) (number : ℕ) (mac : Mac) (n : SessionNo) (outs : List OutRecord) → EndsWith r a number mac n outs → AreControl a.seat outs
+ends_with_control r a number mac n outs h = equal_control a.seat (padt_outs a number mac n h.port h.offers) outs h.outs_are (padt_control a number mac n h.port h.offers)
+
+hangs_control : (o : Option TunnelState) (c : Called) (a : At) (now : ℕ) (t : TunnelsState) (outs : List OutRecord) (t' : TunnelsState) → HangsUp o c a now t outs t' → AreControl a.seat outs
+hangs_control None c a now t outs t' h = equal_control a.seat [] outs h.0 tt
+hangs_control (Some tunnel) c a now t outs t' h = equal_control a.seat (tunnel_outs a c.peer (parted tunnel c.call now).said.outs) outs h.1 (tunnel_control a c.peer (parted tunnel c.call now).said.outs h.0)
+
+parts_control : (way : Way) (r : Rules) (a : At) (now : ℕ) (n : SessionNo) (t : TunnelsState) (outs : List OutRecord) (t' : TunnelsState) → PartsOn way r a now n t outs t' → AreControl a.seat outs
+parts_control (Port number mac) r a now n t outs t' h = ends_with_control r a number mac n outs h.0
+parts_control (Call c) r a now n t outs t' h = hangs_control (tunnel_at t c.tunnel.0) c a now t outs t' h
+
+-- and how it is told that the session has ended, where it has
+pub parted_control : (b : Bool) (way : Way) (r : Rules) (a : At) (now : ℕ) (n : SessionNo) (t : TunnelsState) (outs : List OutRecord) (t' : TunnelsState) → IsParted b way r a now n t outs t' → AreControl a.seat outs
+parted_control false way r a now n t outs t' h = equal_control a.seat [] outs h.0 tt
+parted_control true way r a now n t outs t' h = parts_control way r a now n t outs t' h
+
+-- all that goes out for a step of a link
+pub drives_control : (r : Rules) (a : At) (beside : Beside) (x : Session) (Steps : LinkStep) (outs : List OutRecord) (cause : Option ℕ) (x' : Session) (beside' : Beside) → (h : Drives r a beside x Steps outs cause x' beside') → AreWritten h.says.outs → AreControl a.seat outs
+drives_control r a beside x Steps outs cause x' beside' h written =
+    equal_control a.seat (h.first ++ h.last) outs h.outs_are
+    (all_append (IsControl a.seat) h.first h.last (says_control x.way r a x.number h.says.outs h.first written h.tells)
+    (parted_control h.says.finished x.way r a beside.moment x.number beside.tunnels h.last h.tunnels h.parts))

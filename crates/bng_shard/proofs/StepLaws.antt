@@ -80,7 +80,7 @@ control_addressed : (seat : ℕ) (terms : List Term) (o : OutRecord) → IsContr
 control_addressed seat terms o h = subst (λ (charge : Option Charge). IfSome charge (λ c. AnyOf (IsFor c) terms)) (sym h.charge) tt
 
 control_whole : (seat : ℕ) (o : OutRecord) → IsControl seat o → IsWhole o
-control_whole seat o h = subst (λ (charge : Option Charge). MatchOption charge (IsNoPacket o.role o.frame) (λ c. IsInDirection c.input c o.role o.frame)) (sym h.charge) h.no_packet
+control_whole seat o h = subst (λ (charge : Option Charge). MatchOption charge (IsNoPacket o.role o.frame) (λ c. IsInDirection c.input c o.role o.to o.frame)) (sym h.charge) h.no_packet
 
 -- what holds of what is not charged, and of the one out that is, holds of all
 each_out : (P : OutRecord → Type 0) (s : State) (d : Deed) → ((o : OutRecord) → IsControl d.entry.seat o → P o)

@@ -22,8 +22,8 @@ use Rattle.bng_shard.specs.declared.rules.Rules.{Rules}
 use Rattle.bng_base.specs.declared.item.At.{At}
 use Rattle.bng_shard.specs.declared.session.Session.{Session}
 use Rattle.bng_shard.specs.declared.wish.Wish.{Wish}
-use Rattle.bng_shard.specs.State.{State}
-use Rattle.bng_shard.specs.Deed.{handled, ignored}
+use Rattle.bng_shard.specs.State.{Beside, State, beside_at}
+use Rattle.bng_shard.specs.Deed.{beside_of, handled, ignored}
 use Rattle.bng_shard.specs.Driven.{Driven}
 use Rattle.bng_shard.specs.Hearing.{Does}
 use Rattle.bng_shard.specs.Link.{IsToldVerdict, Told}
@@ -146,14 +146,14 @@ module _ (r : Rules) (s : State) (limited : Bool) (a : At) (now : ℕ) (item : I
 
   -- the session's link is told what they come to, and a term begins where the peer is accepted with an address
   pub is_told : a.shard ≡ s.sessions.shard → open_ask_at s item.target ≡ Some item.ask → (t : Told) → Decides r limited item.frame.payload claim (Some t) → (s' : State) (outs' : List OutRecord)
-      → ((x : Session) (q : Question) → value_at s.sessions item.target ≡ Some x → open_of x ≡ Some q → (x' : Session) × (cause : Option ℕ) × (asked : ℕ)
-      × Driven r a (IsToldVerdict r.link t now item.random) s.asked x cause x' asked outs outs' × (x.lease ≡ None) × (s' ≡ settled_by s item.target x q t now x' asked t.lease))
+      → ((x : Session) (q : Question) → value_at s.sessions item.target ≡ Some x → open_of x ≡ Some q → (x' : Session) × (cause : Option ℕ) × (beside' : Beside)
+      × Driven r a (IsToldVerdict r.link t now item.random) (beside_at now s.asked s.tunnels) x cause x' beside' outs outs' × (x.lease ≡ None) × (s' ≡ settled_by s item.target x q t now x' beside' t.lease))
       → length outs' ≤ length outs + 5 → Does (HearsVerdict r s entry limited) 5 s s' outs outs' entry Consumed
   is_told here asked t decides s' outs' settled few =
       let (x, q, found, asks) = asks_there s item.target item.ask asked in
-      let (x', cause, asked', step, no_term, next) = settled x q found asks in
+      let (x', cause, beside', step, no_term, next) = settled x q found asks in
       record {
-        deed = handled s entry step.more (settled_by s item.target x q t now x' asked' t.lease);
+        deed = handled s entry step.more (settled_by s item.target x q t now x' beside' t.lease);
         entry = refl;
         fate_is = refl;
         next = sym next;
@@ -169,12 +169,12 @@ module _ (r : Rules) (s : State) (limited : Bool) (a : At) (now : ℕ) (item : I
             asks = asks;
             outs = step.more;
             after = x';
-            asked = asked';
+            beside = beside';
             cause = cause;
-            drives = drives r s a now item outs outs' x x' (IsToldVerdict r.link t now item.random) s.asked cause asked' here step;
+            drives = drives r s a now item outs outs' x x' (IsToldVerdict r.link t now item.random) (beside_of s entry) cause beside' here step;
             done = refl;
           },
         );
         outs_are = step.outs_are;
-        few = driven_few r s a now item outs outs' x x' (IsToldVerdict r.link t now item.random) s.asked cause asked' here step 5 few;
+        few = driven_few r s a now item outs outs' x x' (IsToldVerdict r.link t now item.random) (beside_of s entry) cause beside' here step 5 few;
       }

@@ -17,6 +17,8 @@ use Rattle.bng_ppp.proofs.TermLaws.{settled_live}
 use Rattle.bng_ppp.proofs.WholePhases.{open_unsettled}
 use Rattle.bng_slots.specs.Sessions.{Sessions, NoneShares, value_at, without, read_at}
 use Rattle.bng_slots.proofs.SessionLaws.{value_at-without, value_at-without_other, with_value-without}
+use Rattle.bng_base.specs.declared.circuit.Circuit.{Circuit}
+use Rattle.bng_shard.proofs.Naming.{way_stays}
 use Rattle.bng_shard.specs.Made.{Made, Question}
 use Rattle.bng_shard.specs.declared.meters.Meters.{Meters}
 use Rattle.bng_shard.specs.declared.meters.Plan.{Plan}
@@ -35,7 +37,7 @@ use Rattle.bng_shard.specs.Passing.{place_in}
 use Rattle.bng_shard.specs.Questions.{open_in, open_of}
 use Rattle.bng_shard.specs.Running.{AreTied, TermsView, tenures_in, whole}
 use Rattle.bng_shard.specs.Serving.{KeepsLease}
-use Rattle.bng_shard.specs.State.{IsTermOf, State, with_session}
+use Rattle.bng_shard.specs.State.{Beside, IsTermOf, State, with_session, beside_at}
 use Rattle.bng_shard.specs.Tenures.{Tenure}
 use Rattle.bng_shard.specs.Verdicts.{next_lease, next_term, settled_by}
 
@@ -67,35 +69,40 @@ no_lease x q e keeps = no_lease_in x.service x.lease q e keeps
 
 -- What its link is told --------------------------------------------------------------------------------------------------------
 
-pub driven_so : (r : Rules) (a : At) (Steps Wanted : LinkStep) (asked : ℕ) (x : Session) (cause : Option ℕ) (x' : Session) (asked' : ℕ) (outs outs' : List OutRecord)
-    → ((old : PppState) (says : PppSaid) (new : PppState) → Steps old says new → Wanted old says new) → Driven r a Steps asked x cause x' asked' outs outs' → Driven r a Wanted asked x cause x' asked' outs outs'
-driven_so r a Steps Wanted asked x cause x' asked' outs outs' follows d = record {
+pub driven_so : (r : Rules) (a : At) (Steps Wanted : LinkStep) (beside : Beside) (x : Session) (cause : Option ℕ) (x' : Session) (beside' : Beside) (outs outs' : List OutRecord)
+    → ((old : PppState) (says : PppSaid) (new : PppState) → Steps old says new → Wanted old says new) → Driven r a Steps beside x cause x' beside' outs outs' → Driven r a Wanted beside x cause x' beside' outs outs'
+driven_so r a Steps Wanted beside x cause x' beside' outs outs' follows d = record {
   more = d.more;
   drives = record {
     made = d.drives.made;
     is_made = d.drives.is_made;
-    port = d.drives.port;
-    offers = d.drives.offers;
-    at = d.drives.at;
     says = d.drives.says;
     link = d.drives.link;
     steps = follows d.drives.made.link d.drives.says d.drives.link d.drives.steps;
+    first = d.drives.first;
+    tells = d.drives.tells;
+    last = d.drives.last;
+    tunnels = d.drives.tunnels;
+    parts = d.drives.parts;
     outs_are = d.drives.outs_are;
     closes = d.drives.closes;
     session = d.drives.session;
     count = d.drives.count;
   };
   outs_are = d.outs_are;
+  few_last = d.few_last;
 }
 
 pub judged : (r : LinkRules) (t : Told) (turn : Turn) (cause : Option ℕ) (now : ℕ) (random : List ℕ) (old : PppState) (says : PppSaid) (new : PppState)
     → Settles (is_open old.auth) t.yes r t.lease t.text now random old turn × (cause ≡ None) → says ≡ said_of turn cause → new ≡ after_turn turn → IsToldVerdict r t now random old says new
 judged r t turn cause now random old says new (settles, is) said state = record { turn = turn; settles = settles; said = said ∙ ap (said_of turn) is; state = state }
 
-module _ (r : Rules) (a : At) (t : Told) (now : ℕ) (random : List ℕ) (asked : ℕ) (x : Session) (cause : Option ℕ) (x' : Session) (asked' : ℕ) (outs outs' : List OutRecord) (d : Driven r a (IsToldVerdict r.link t now random) asked x cause x' asked' outs outs') where
+module _ (r : Rules) (a : At) (t : Told) (now : ℕ) (random : List ℕ) (beside : Beside) (x : Session) (cause : Option ℕ) (x' : Session) (beside' : Beside) (outs outs' : List OutRecord) (d : Driven r a (IsToldVerdict r.link t now random) beside x cause x' beside' outs outs') where
   -- the session is the same but for its link and its lease
   pub next_same : (s : State) (q : Question) (plan : Plan) (class : List ℕ) (moment : ℕ) (address : Ip4) → next_term s x' q plan class moment address ≡ next_term s x q plan class moment address
-  next_same s q plan class moment address = ap (λ (y : Session). next_term s y q plan class moment address) d.drives.session
+  next_same s q plan class moment address =
+      ap (λ (y : Session). next_term s y q plan class moment address) d.drives.session
+      ∙ ap (λ (c : Circuit). let u : Tenure = record (next_term s x q plan class moment address) { circuit = c } in u) (way_stays d.drives.says.finished x.way x.number)
 
   settles_so : (open_ accepted : Bool) (lease : Option Ip4) (address : Ip4) → open_ ≡ true → accepted ≡ true → lease ≡ Some address → (turn : Turn) → Settles open_ accepted r.link lease t.text now random d.drives.made.link turn → Settles true true r.link (Some address) t.text now random d.drives.made.link turn
   settles_so open_ accepted lease address e f g turn settles =
@@ -146,35 +153,35 @@ shares_begun ss ss' n a rows x l taken leased is tied free m k mine theirs =
 -- what a verdict on an open question leaves
 abbrev pub SettledFor : Rules → At → State → TermsView → State → TermsView → ℕ → Session → Question → Told → ℕ → List ℕ → List OutRecord → List OutRecord → Type 0
 SettledFor r a s terms s' terms' n x q t now random outs outs' =
-    (x' : Session) × (cause : Option ℕ) × (asked : ℕ) × Driven r a (IsToldVerdict r.link t now random) s.asked x cause x' asked outs outs' × (x.lease ≡ None)
-    × (whole s' terms' ≡ settled_by (whole s terms) n x q t now x' asked t.lease)
+    (x' : Session) × (cause : Option ℕ) × (after : Beside) × Driven r a (IsToldVerdict r.link t now random) (beside_at now s.asked s.tunnels) x cause x' after outs outs' × (x.lease ≡ None)
+    × (whole s' terms' ≡ settled_by (whole s terms) n x q t now x' after t.lease)
 
--- taken out, so many questions asked, and put back
-pub back : (s s₁ s₂ s' : State) (n m asked : ℕ) (x : Session) → s₁ ≡ record s { sessions = without s.sessions n } → s₂ ≡ record s₁ { asked = asked } → m ≡ n → s' ≡ with_session s₂ m x → s' ≡ record (with_session s n x) { asked = asked }
-back s s₁ s₂ s' n m asked x taken counted is put =
+-- taken out, so much beside it, and put back
+pub back : (s s₁ s₂ s' : State) (n m : ℕ) (beside : Beside) (x : Session) → s₁ ≡ record s { sessions = without s.sessions n } → s₂ ≡ record s₁ { asked = beside.asked; tunnels = beside.tunnels } → m ≡ n → s' ≡ with_session s₂ m x → s' ≡ record (with_session s n x) { asked = beside.asked; tunnels = beside.tunnels }
+back s s₁ s₂ s' n m beside x taken counted is put =
     put
-    ∙ ap (λ (u : State). with_session u m x) (counted ∙ ap (λ (u : State). let v : State = record u { asked = asked } in v) taken)
-    ∙ ap (λ (k : ℕ). with_session (record s { sessions = without s.sessions n; asked = asked }) k x) is
-    ∙ ap (λ (ss : Sessions Session). let v : State = record s { sessions = ss; asked = asked } in v) (with_value-without s.sessions n x)
+    ∙ ap (λ (u : State). with_session u m x) (counted ∙ ap (λ (u : State). let v : State = record u { asked = beside.asked; tunnels = beside.tunnels } in v) taken)
+    ∙ ap (λ (k : ℕ). with_session (record s { sessions = without s.sessions n; asked = beside.asked; tunnels = beside.tunnels }) k x) is
+    ∙ ap (λ (ss : Sessions Session). let v : State = record s { sessions = ss; asked = beside.asked; tunnels = beside.tunnels } in v) (with_value-without s.sessions n x)
 
 -- no term begins
-pub none_begins : (s s' : State) (terms : TermsView) (n : ℕ) (x : Session) (q : Question) (t : Told) (now : ℕ) (x' : Session) (asked : ℕ) → t.lease ≡ None → s' ≡ record (with_session s n x') { asked = asked }
-    → whole s' terms ≡ settled_by (whole s terms) n x q t now x' asked t.lease
-none_begins s s' terms n x q t now x' asked none next = ap (λ (u : State). whole u terms) next ∙ ap (settled_by (whole s terms) n x q t now x' asked) (sym none)
+pub none_begins : (s s' : State) (terms : TermsView) (n : ℕ) (x : Session) (q : Question) (t : Told) (now : ℕ) (x' : Session) (beside : Beside) → t.lease ≡ None → s' ≡ record (with_session s n x') { asked = beside.asked; tunnels = beside.tunnels }
+    → whole s' terms ≡ settled_by (whole s terms) n x q t now x' beside t.lease
+none_begins s s' terms n x q t now x' beside none next = ap (λ (u : State). whole u terms) next ∙ ap (settled_by (whole s terms) n x q t now x' beside) (sym none)
 
 -- one begins
-pub one_begins : (s s₃ s' : State) (terms terms' : TermsView) (n m : ℕ) (x : Session) (q : Question) (t : Told) (now : ℕ) (x' x'' : Session) (asked : ℕ) (a : Ip4) → t.lease ≡ Some a
-    → s₃ ≡ record s { sessions = without s.sessions n; asked = asked; begun = s.begun + 1; meters = slice_set s.meters (place_in x'.number) (meters_of t.plan now) } → m ≡ n → s' ≡ with_session s₃ m x'' → x'' ≡ record x' { lease = Some (next_lease s t.plan t.limits now a) }
+pub one_begins : (s s₃ s' : State) (terms terms' : TermsView) (n m : ℕ) (x : Session) (q : Question) (t : Told) (now : ℕ) (x' x'' : Session) (beside : Beside) (a : Ip4) → t.lease ≡ Some a
+    → s₃ ≡ record s { sessions = without s.sessions n; asked = beside.asked; tunnels = beside.tunnels; begun = s.begun + 1; meters = slice_set s.meters (place_in x'.number) (meters_of t.plan now) } → m ≡ n → s' ≡ with_session s₃ m x'' → x'' ≡ record x' { lease = Some (next_lease s t.plan t.limits now a) }
     → tenures_in terms'.rows ≡ tenures_in terms.rows ++ next_term s x q t.plan t.class now a ∷ [] → tenures_in terms'.news ≡ tenures_in terms.news ++ next_term s x q t.plan t.class now a ∷ []
-    → whole s' terms' ≡ settled_by (whole s terms) n x q t now x' asked t.lease
-one_begins s s₃ s' terms terms' n m x q t now x' x'' asked a leased begun is put with_lease rows news =
+    → whole s' terms' ≡ settled_by (whole s terms) n x q t now x' beside t.lease
+one_begins s s₃ s' terms terms' n m x q t now x' x'' beside a leased begun is put with_lease rows news =
     let ms : List Meters = slice_set s.meters (place_in x'.number) (meters_of t.plan now) in
     let y : Session = record x' { lease = Some (next_lease s t.plan t.limits now a) } in
     ap (λ (u : State). whole u terms') (put
     ∙ ap (λ (u : State). with_session u m x'') begun
-    ∙ ap (λ (k : ℕ). with_session (record s { sessions = without s.sessions n; asked = asked; begun = s.begun + 1; meters = ms }) k x'') is
-    ∙ ap (λ (z : Session). with_session (record s { sessions = without s.sessions n; asked = asked; begun = s.begun + 1; meters = ms }) n z) with_lease
-    ∙ ap (λ (ss : Sessions Session). let v : State = record s { sessions = ss; asked = asked; begun = s.begun + 1; meters = ms } in v) (with_value-without s.sessions n y))
-    ∙ ap (λ (ts : List Tenure). let v : State = record (with_session s n y) { asked = asked; begun = s.begun + 1; terms = ts; news = tenures_in terms'.news; meters = ms } in v) rows
-    ∙ ap (λ (ts : List Tenure). let v : State = record (with_session s n y) { asked = asked; begun = s.begun + 1; terms = tenures_in terms.rows ++ next_term s x q t.plan t.class now a ∷ []; news = ts; meters = ms } in v) news
-    ∙ ap (settled_by (whole s terms) n x q t now x' asked) (sym leased)
+    ∙ ap (λ (k : ℕ). with_session (record s { sessions = without s.sessions n; asked = beside.asked; tunnels = beside.tunnels; begun = s.begun + 1; meters = ms }) k x'') is
+    ∙ ap (λ (z : Session). with_session (record s { sessions = without s.sessions n; asked = beside.asked; tunnels = beside.tunnels; begun = s.begun + 1; meters = ms }) n z) with_lease
+    ∙ ap (λ (ss : Sessions Session). let v : State = record s { sessions = ss; asked = beside.asked; tunnels = beside.tunnels; begun = s.begun + 1; meters = ms } in v) (with_value-without s.sessions n y))
+    ∙ ap (λ (ts : List Tenure). let v : State = record (with_session s n y) { asked = beside.asked; tunnels = beside.tunnels; begun = s.begun + 1; terms = ts; news = tenures_in terms'.news; meters = ms } in v) rows
+    ∙ ap (λ (ts : List Tenure). let v : State = record (with_session s n y) { asked = beside.asked; tunnels = beside.tunnels; begun = s.begun + 1; terms = tenures_in terms.rows ++ next_term s x q t.plan t.class now a ∷ []; news = ts; meters = ms } in v) news
+    ∙ ap (settled_by (whole s terms) n x q t now x' beside) (sym leased)

@@ -3,18 +3,18 @@ use Rattle.std.proofs.Common.{IfSome, ◌≡◌, ◌⊎◌, ⊎_elim, inl, inr, 
 use Rattle.std.specs.List.{AllZip, list_any}
 use Rattle.std.proofs.lemmas.Bool.{cases_eq}
 use Rattle.bng_base.specs.declared.address.Ip4.{Ip4}
+use Rattle.bng_base.specs.declared.address.SessionNo.{SessionNo}
 use Rattle.bng_base.specs.declared.item.Claim.{Claim}
 use Rattle.bng_base.specs.declared.item.Claim.TheVariants.{NoClaim, Claimed, Held, Exhausted}
 use Rattle.bng_base.specs.declared.item.Entry.{Entry}
 use Rattle.bng_base.specs.declared.item.ItemKind.{ItemKind}
 use Rattle.bng_base.specs.declared.item.ItemKind.TheVariants.{Access, Core, Tunnel, Verdict, Change, Tick, End}
 use Rattle.bng_base.specs.declared.item.OutRecord.{OutRecord}
-use Rattle.bng_base.specs.declared.settings.AccessPort.{AccessPort}
 use Rattle.bng_base.specs.declared.settings.NamedRange.{NamedRange}
 use Rattle.bng_engine.specs.Protocol.{HaveProfiles}
 use Rattle.bng_engine.specs.Terms.{Term, is_ended, is_live, keys}
 use Rattle.bng_grant.specs.Grants.{Gift}
-use Rattle.bng_ppp.specs.declared.whole_input.WholeInput.TheVariants.{Close}
+use Rattle.bng_ppp.specs.declared.whole_input.WholeInput.TheVariants.{Start, Close}
 use Rattle.bng_coa.specs.Wants.{wanted}
 use Rattle.bng_radius_wire.specs.Grammar.{Packet}
 use Rattle.bng_slots.specs.Sessions.{value_at, with_value}
@@ -24,11 +24,14 @@ use Rattle.bng_shard.specs.declared.rules.Rules.{Rules}
 use Rattle.bng_base.specs.declared.item.At.{At}
 use Rattle.bng_shard.specs.declared.session.Lease.{Lease}
 use Rattle.bng_shard.specs.declared.session.Session.{Session}
-use Rattle.bng_shard.specs.State.{State, port_at, settled, with_session, with_driven, with_ended}
+use Rattle.bng_shard.specs.State.{Beside, State, settled, with_session, with_driven, with_ended}
+use Rattle.bng_shard.specs.declared.way.Way.{Way}
+use Rattle.bng_shard.specs.declared.way.Way.TheVariants.{Port, Call}
+use Rattle.bng_shard.specs.Calls.{called_session, linked_anew, turned}
 use Rattle.bng_shard.specs.Changes.{Found, changed_by, found_by, lease_after, place_of, recast_by}
-use Rattle.bng_shard.specs.Deed.{Deed, at_of, handled, ignored}
-use Rattle.bng_shard.specs.Fits.{ArePlaced}
-use Rattle.bng_shard.specs.Link.{LinkStep, Drives, Told, ended, nas_request, settles, told, user_request}
+use Rattle.bng_shard.specs.Deed.{Deed, at_of, beside_of, handled, ignored}
+use Rattle.bng_shard.specs.Fits.{ArePlaced, IsPlaced}
+use Rattle.bng_shard.specs.Link.{LinkStep, Drives, SaysOn, Told, ended, lost_carrier, nas_request, settles, told, way_after}
 use Rattle.bng_shard.specs.Metered.{meters_of, plan_for}
 use Rattle.bng_shard.specs.Passing.{lapsed, looked}
 use Rattle.bng_shard.specs.Protocol.{claimed_by, term_in}
@@ -177,9 +180,19 @@ pub record Begins (r : Rules) (s s' : State) (a : Ip4) : Type 0 where
   pub news : s'.news ≡ s.news ++ one ∷ []
   pub placed : ArePlaced r s.sessions → ArePlaced r s'.sessions
 
--- where a port is
+-- where a port is, if the session is at one
 abbrev IsThere : Rules → Session → Type 0
-IsThere r x = (port : AccessPort) × (port_at r.access x.port ≡ Some port)
+IsThere r x = IsPlaced r x.way
+
+-- what its link says goes out there
+says_there : (r : Rules) (a : At) (way : Way) (n : SessionNo) (frames : List (List ℕ)) (outs : List OutRecord) → SaysOn way r a n frames outs → IsPlaced r way
+says_there r a (Port number mac) n frames outs h = (h.port, h.port_is)
+says_there r a (Call c) n frames outs h = tt
+
+way_there : (r : Rules) (b : Bool) (way : Way) → IsPlaced r way → IsPlaced r (way_after b way)
+way_there r false way h = h
+way_there r true (Port number mac) h = h
+way_there r true (Call c) h = tt
 
 module _ (r : Rules) where
   placed_with : (s : State) (n : ℕ) (y : Session) → (ArePlaced r s.sessions → IsThere r y) → ArePlaced r s.sessions → ArePlaced r (with_session s n y).sessions
@@ -191,8 +204,8 @@ module _ (r : Rules) where
         | inr ne ↦ before m x (sym (value_at-with_other s.sessions n y m ne) ∙ at)
       ]
 
-  drives_there : (a : At) (asked : ℕ) (x x' : Session) (outs : List OutRecord) (cause : Option ℕ) (asked' : ℕ) (Steps : LinkStep) → Drives r a asked x Steps outs cause x' asked' → IsThere r x'
-  drives_there a asked x x' outs cause asked' Steps h = (h.port, ap (λ (y : Session). port_at r.access y.port) h.session ∙ h.at.port_is)
+  drives_there : (a : At) (beside : Beside) (x x' : Session) (outs : List OutRecord) (cause : Option ℕ) (beside' : Beside) (Steps : LinkStep) → Drives r a beside x Steps outs cause x' beside' → IsThere r x'
+  drives_there a beside x x' outs cause beside' Steps h = subst (λ (y : Session). IsPlaced r y.way) (sym h.session) (way_there r h.says.finished x.way (says_there r a x.way x.number h.says.outs h.first h.tells))
 
   module _ (C : ℕ → Type 0) where
     remain_same : (s s' : State) → s' ≡ s → Remains C r s s'
@@ -216,9 +229,9 @@ module _ (r : Rules) where
     }
 
     -- a session is another one, and a term may have ended
-    remain_with : (s : State) (n : ℕ) (lease : Option Lease) (cause : Option ℕ) (y : Session) (asked : ℕ) → ((c : ℕ) → cause ≡ Some c → C c) → (ArePlaced r s.sessions → IsThere r y)
-        → Remains C r s (with_driven s n lease cause y asked)
-    remain_with s n lease cause y asked is there = record {
+    remain_with : (s : State) (n : ℕ) (lease : Option Lease) (cause : Option ℕ) (y : Session) (beside : Beside) → ((c : ℕ) → cause ≡ Some c → C c) → (ArePlaced r s.sessions → IsThere r y)
+        → Remains C r s (with_driven s n lease cause y beside)
+    remain_with s n lease cause y beside is there = record {
       shard = refl;
       begun = refl;
       terms = closed_last C lease cause s.terms is;
@@ -260,15 +273,28 @@ module _ (r : Rules) where
   remains_walk = record {
     same = remain_same AnyCause;
     then = remain_then AnyCause;
-    driven = λ Steps e s n x x' outs cause asked' at drives. remain_with AnyCause s n x.lease cause x' asked' (λ c is. tt) (λ p. drives_there (at_of s e) s.asked x x' outs cause asked' Steps drives);
-    made = λ Steps e s n x x' outs cause asked' none drives. remain_with AnyCause s n None cause x' asked' (λ c is. tt) (λ p. drives_there (at_of s e) s.asked x x' outs cause asked' Steps drives);
-    padt = λ s n x m at is. remain_ended AnyCause s n x user_request tt at;
+    driven = λ Steps e s n x x' outs cause beside' at drives. remain_with AnyCause s n x.lease cause x' beside' (λ c is. tt) (λ p. drives_there (at_of s e) (beside_of s e) x x' outs cause beside' Steps drives);
+    made = λ Steps e s n x x' outs cause beside' none drives. remain_with AnyCause s n None cause x' beside' (λ c is. tt) (λ p. drives_there (at_of s e) (beside_of s e) x x' outs cause beside' Steps drives);
+    ends = λ s n x m cause lost at is. remain_ended AnyCause s n x cause tt at;
     passes = λ s n moment ms. record { shard = refl; begun = refl; terms = each_lasts AnyCause s.terms; news = refl; placed = λ p. p; profiles = λ h. h };
     looks = remain_looked AnyCause;
-    lapses = λ e s n x x' outs cause none asked' at over drives.
-        remain_with AnyCause s n x.lease (Some cause) x' asked' (λ c is. tt) (λ p. drives_there (at_of s e) s.asked (lapsed x) x' outs none asked' (told r e Close) drives);
-    lapses_circuit = λ s n x over cause at is lapse. remain_with AnyCause s n x.lease (Some cause) (lapsed x) s.asked (λ c e. tt) (λ p. p n x at);
+    lapses = λ e s n x x' outs cause none beside' at over drives.
+        remain_with AnyCause s n x.lease (Some cause) x' beside' (λ c is. tt) (λ p. drives_there (at_of s e) (beside_of s e) (lapsed x) x' outs none beside' (told r e Close) drives);
+    lapses_circuit = λ e s n x over cause at is lapse. remain_with AnyCause s n x.lease (Some cause) (lapsed x) (beside_of s e) (λ c e. tt) (λ p. p n x at);
     tells = λ s t. record { shard = refl; begun = refl; terms = each_lasts AnyCause s.terms; news = refl; placed = λ p. p; profiles = λ h. h };
+    comes = λ e s n number peer t c link vacant new.
+        record { shard = refl; begun = refl; terms = each_lasts AnyCause s.terms; news = refl; placed = placed_with s n (called_session n peer number t c link) (λ p. tt); profiles = λ h. h };
+    turns = λ s n x c call at is. record { shard = refl; begun = refl; terms = each_lasts AnyCause s.terms; news = refl; placed = placed_with s n (turned x c call) (λ p. tt); profiles = λ h. h };
+    over = λ s n x m c call at is way. record {
+      shard = refl;
+      begun = refl;
+      terms = closed_last AnyCause x.lease (Some lost_carrier) s.terms (λ k e. tt);
+      news = refl;
+      placed = placed_with s n (ended (turned x c call)) (λ p. tt);
+      profiles = closed_below (length r.profiles) x.lease (Some lost_carrier) s.terms;
+    };
+    connects = λ e s n x x' m c call link outs none beside' at is way new drives.
+        remain_with AnyCause s n x.lease (Some lost_carrier) x' beside' (λ k e. tt) (λ p. drives_there (at_of s e) (beside_of s e) (linked_anew (turned x c call) link) x' outs none beside' (told r e Start) drives);
   }
 
 -- Verdicts -------------------------------------------------------------------------------------------------------------------
@@ -327,24 +353,24 @@ module _ (r : Rules) (limited : Bool) (octets : List ℕ) (claim : Claim) where
   decides_none (inr (inr (v, says, accepted, g, grants, answers, e))) = absurd (none_some (told_of r limited claim v.text g) e)
 
 module _ (r : Rules) (s : State) (e : Entry) (t : Told) (d : Deed) (h : Judges r s e t d) where
-  pub settled_as : (lease : Option Ip4) → t.lease ≡ lease → d.next ≡ settled_by s e.item.target h.x h.question t e.moment h.after h.asked lease
-  settled_as lease is = next_of d (handled s e h.outs (settled_by s e.item.target h.x h.question t e.moment h.after h.asked t.lease)) h.done ∙ ap (settled_by s e.item.target h.x h.question t e.moment h.after h.asked) is
+  pub settled_as : (lease : Option Ip4) → t.lease ≡ lease → d.next ≡ settled_by s e.item.target h.x h.question t e.moment h.after h.beside lease
+  settled_as lease is = next_of d (handled s e h.outs (settled_by s e.item.target h.x h.question t e.moment h.after h.beside t.lease)) h.done ∙ ap (settled_by s e.item.target h.x h.question t e.moment h.after h.beside) is
 
   after_there : IsThere r h.after
-  after_there = drives_there r (at_of s e) s.asked h.x h.after h.outs h.cause h.asked (settles r e t) h.drives
+  after_there = drives_there r (at_of s e) (beside_of s e) h.x h.after h.outs h.cause h.beside (settles r e t) h.drives
 
-  pub judged_none : t.lease ≡ None → d.next ≡ with_driven s e.item.target None None h.after h.asked
+  pub judged_none : t.lease ≡ None → d.next ≡ with_driven s e.item.target None None h.after h.beside
   judged_none none = settled_as None none
 
   pub judged_remains : t.lease ≡ None → Remains AnyCause r s d.next
-  judged_remains none = subst (Remains AnyCause r s) (sym (judged_none none)) (remain_with r AnyCause s e.item.target None None h.after h.asked (λ c is. tt) (λ p. after_there))
+  judged_remains none = subst (Remains AnyCause r s) (sym (judged_none none)) (remain_with r AnyCause s e.item.target None None h.after h.beside (λ c is. tt) (λ p. after_there))
 
   judged_begins : t.plan.profile < length r.profiles → (a : Ip4) → t.lease ≡ Some a → Begins r s d.next a
   judged_begins there a is =
       let one : Tenure = next_term s h.x h.question t.plan t.class e.moment a in
       let lease : Lease = next_lease s t.plan t.limits e.moment a in
       let y : Session = record h.after { lease = Some lease } in
-      let begins : Begins r s (with_term s e.item.target h.after h.asked lease one (meters_of t.plan e.moment)) a = record {
+      let begins : Begins r s (with_term s e.item.target h.after h.beside lease one (meters_of t.plan e.moment)) a = record {
         shard = refl;
         begun = refl;
         one = one;

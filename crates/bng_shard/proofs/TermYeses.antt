@@ -75,7 +75,7 @@ module _ (r : Rules) (s : State) (limited : Bool) (d : Deed) (sound : IsSound s)
         user = refl;
       }
 
-  begun : (lease : Option Ip4) → t.lease ≡ lease → (began : List Tenure) → (settled_by s d.entry.item.target h.x h.question t d.entry.moment h.after h.asked lease).news ≡ s.news ++ began → All (BeginsByYes s d) began
+  begun : (lease : Option Ip4) → t.lease ≡ lease → (began : List Tenure) → (settled_by s d.entry.item.target h.x h.question t d.entry.moment h.after h.beside lease).news ≡ s.news ++ began → All (BeginsByYes s d) began
   begun None e began news =
       subst (All (BeginsByYes s d)) (behind s.news [] began (append-nil s.news ∙ news)) (All-from_recursion (BeginsByYes s d) [] tt)
   begun (Some a) e began news =

@@ -2,7 +2,6 @@
 use Rattle.std.proofs.Common.{◌≡◌, ◌<◌, ◌≤◌, ◌+◌, ◌-◌, ℕ, suc, true, false, List, [], ◌++◌, length, Option, Some, None, refl, inl, inr, sym, ap, subst, ◌∙◌, arith, append_assoc, append-nil, length-append, add-zero, zero-add}
 use Rattle.bng_base.specs.declared.item.Entry.{Entry}
 use Rattle.bng_base.specs.declared.item.OutRecord.{OutRecord}
-use Rattle.bng_lns.specs.Timed.{reminded}
 use Rattle.bng_lns.specs.Tunnels.{TunnelsState}
 use Rattle.bng_shard.specs.declared.rules.Rules.{Rules}
 use Rattle.bng_base.specs.declared.item.At.{At}
@@ -13,7 +12,7 @@ use Rattle.bng_shard.specs.State.{State, with_driven, with_tunnels}
 use Rattle.bng_shard.specs.Deed.{at_of}
 use Rattle.bng_shard.specs.Passing.{cause_at, passed_at}
 use Rattle.bng_shard.specs.Timers.{Ticks, Ends, TellsEnd, IsFirstDue, IsTimed, LooksAt, LosesTerm, TimesIn, NoneIsDue, StopsTunnels, at_once}
-use Rattle.bng_shard.specs.Timed.{TickedOnce, EndedOnce, Ticked, Ended, TickDone, EndDone, ToldInTurn}
+use Rattle.bng_shard.specs.Timed.{TickedOnce, EndedOnce, Ticked, Ended, TickDone, EndDone, RemindedInTurn}
 
 -- whose outs they are stays while the shard's number stays
 same_at : (s s₀ : State) (e : Entry) → s.sessions.shard ≡ s₀.sessions.shard → at_of s e ≡ at_of s₀ e
@@ -38,7 +37,7 @@ looks_number (Some cause) r e s n x outs s' h = loses_number x.service cause r e
 times_number : (v : Service) (r : Rules) (e : Entry) (s : State) (n : ℕ) (x : Session) (outs : List OutRecord) (s' : State) → TimesIn v r e s n x outs s' → s'.sessions.shard ≡ s.sessions.shard
 times_number (Provisioned over) r e s n x outs s' h = looks_number (cause_at (passed_at s.passed x.number) x.lease e.moment) r e s n x outs s' h
 times_number (Discovered m) r e s n x outs s' h =
-    looks_number (cause_at (passed_at s.passed h.after.number) h.after.lease e.moment) r e (with_driven s n x.lease h.cause h.after h.asked) n h.after h.then s' h.looks
+    looks_number (cause_at (passed_at s.passed h.after.number) h.after.lease e.moment) r e (with_driven s n x.lease h.cause h.after h.beside) n h.after h.then s' h.looks
 
 timed_number : (r : Rules) (e : Entry) (s : State) (n : ℕ) (outs : List OutRecord) (s' : State) → IsTimed r e s n outs s' → s'.sessions.shard ≡ s.sessions.shard
 timed_number r e s n outs s' (x, at, h) = times_number x.service r e s n x outs s' h
@@ -150,14 +149,14 @@ module _ (r : Rules) (a : At) (s₀ s : State) (outs₀ outs : List OutRecord) w
 -- What a Tick and an End did in all ---------------------------------------------------------------------------------------
 
 -- the tunnels spoke first
-pub tick_done : (r : Rules) (a : At) (now : ℕ) (random : List ℕ) (s s₁ s' : State) (t : TunnelsState) (outs outs₁ outs' : List OutRecord) → s₁ ≡ with_tunnels s t
-    → ToldInTurn reminded a now s.tunnels t outs outs₁ → length outs₁ ≤ length outs + 128 → Ticked at_once r a now random s₁ s' outs₁ outs' → TickDone r a now random s s' outs outs'
-tick_done r a now random s s₁ s' t outs outs₁ outs' same told few ticked = record {
+pub tick_done : (r : Rules) (a : At) (now : ℕ) (random : List ℕ) (s s₁ s' : State) (outs outs₁ outs' : List OutRecord) → s₁.sessions.shard ≡ s.sessions.shard
+    → RemindedInTurn a now s s₁ outs outs₁ → length outs₁ ≤ length outs + 128 → Ticked at_once r a now random s₁ s' outs₁ outs' → TickDone r a now random s s' outs outs'
+tick_done r a now random s s₁ s' outs outs₁ outs' number told few ticked = record {
   first = told.more;
-  tunnels = t;
-  tells = told.tells;
+  next = s₁;
+  reminds = told.reminds;
   rest = ticked.more;
-  ticks = λ e moment octets at. subst (λ (q : State). Ticks at_once r e q ticked.more s') same (ticked.ticks e moment octets (ap (λ (q : State). at_of q e) same ∙ at));
+  ticks = λ e moment octets at. ticked.ticks e moment octets (same_at s₁ s e number ∙ at);
   outs_are = ticked.outs_are ∙ ap (λ (os : List OutRecord). os ++ ticked.more) told.outs_are ∙ append_assoc outs told.more ticked.more;
   few = omega (arith, few, ap length told.outs_are, length-append outs told.more, length-append told.more ticked.more, ticked.few);
 }

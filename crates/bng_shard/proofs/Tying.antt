@@ -4,7 +4,6 @@ use Rattle.std.specs.List.{AllByRecursion}
 use Rattle.std.proofs.lemmas.Bool.{cases_eq, eq-eqb, ne_eqb}
 use Rattle.bng_base.specs.declared.address.Ip4.{Ip4}
 use Rattle.bng_base.specs.declared.address.SessionNo.{SessionNo}
-use Rattle.bng_base.specs.declared.circuit.Circuit.TheVariants.{Pppoe}
 use Rattle.bng_base.specs.declared.circuit.TermId.{TermId}
 use Rattle.bng_base.specs.declared.item.Entry.{Entry}
 use Rattle.bng_base.specs.declared.item.OutRecord.{OutRecord}
@@ -14,6 +13,7 @@ use Rattle.bng_radius_wire.specs.Grammar.{Packet}
 use Rattle.bng_slots.specs.Sessions.{value_at, with_value}
 use Rattle.bng_slots.proofs.SessionLaws.{value_at-with_value, value_at-with_other}
 use Rattle.bng_term.specs.declared.limits.Limits.{Limits}
+use Rattle.bng_shard.specs.Calls.{called_session, turned}
 use Rattle.bng_shard.specs.Made.{Question}
 use Rattle.bng_shard.specs.Changes.{Found, changed_by, found_by, lease_after, meters_after, place_of, recast_by, with_change}
 use Rattle.bng_shard.specs.Passing.{lapsed, looked}
@@ -24,14 +24,15 @@ use Rattle.bng_shard.specs.declared.meters.Plan.{Plan}
 use Rattle.bng_shard.specs.declared.rules.Rules.{Rules}
 use Rattle.bng_shard.specs.declared.session.Lease.{Lease}
 use Rattle.bng_shard.specs.declared.session.Session.{Session}
-use Rattle.bng_shard.specs.State.{State, IsTermOf, with_session, with_driven, with_ended}
-use Rattle.bng_shard.specs.Deed.{Deed, at_of}
-use Rattle.bng_shard.specs.Link.{Drives, LinkStep, Told, ended, nas_request, user_request}
+use Rattle.bng_shard.specs.State.{Beside, State, IsTermOf, with_session, with_driven, with_ended, beside_at, circuit_of}
+use Rattle.bng_shard.specs.Deed.{Deed, at_of, beside_of}
+use Rattle.bng_shard.specs.Link.{Drives, LinkStep, Told, ended, nas_request, lost_carrier}
 use Rattle.bng_shard.specs.Metered.{meters_of}
 use Rattle.bng_shard.specs.Running.{AreTied}
 use Rattle.bng_shard.specs.Step.{Step}
 use Rattle.bng_shard.specs.Tenures.{Tenure, closed, is_over, kept_lease, over_by}
 use Rattle.bng_shard.specs.Verdicts.{Judges, next_lease, next_term, settled_by, with_term}
+use Rattle.bng_shard.proofs.Naming.{call_stays, way_stays}
 use Rattle.bng_shard.proofs.Beginning.{any_closed}
 use Rattle.bng_shard.proofs.Changing.{found_is}
 use Rattle.bng_shard.proofs.ListParts.{any_last, any_more}
@@ -123,14 +124,11 @@ own_last n (u ∷ ts) t own h above = (all_last (λ (v : Tenure). u.term.serial 
 
 -- A session is another one -----------------------------------------------------------------------------------------------------
 
-same_term : (x y : Session) (l : Lease) (t : Tenure) → y.number ≡ x.number → y.port ≡ x.port → y.mac ≡ x.mac → IsTermOf x l t → IsTermOf y l t
-same_term x y l t number port mac is =
-    let n = sym number in
-    let p = sym port in
-    let m = sym mac in
+same_term : (x y : Session) (l : Lease) (t : Tenure) → y.number ≡ x.number → circuit_of y ≡ circuit_of x → IsTermOf x l t → IsTermOf y l t
+same_term x y l t number circuit is =
     record {
       term = is.term ∙ ap (λ (n : SessionNo). let k : TermId = record { session = n; serial = l.serial } in k) (sym number);
-      circuit = is.circuit ∙ (λ i. Pppoe (p i) (m i) (n i));
+      circuit = is.circuit ∙ sym circuit;
       address = is.address;
       profile = is.profile;
       live = is.live;
@@ -179,8 +177,8 @@ module _ (s : State) (h : Holds s) where
         (λ k is t term same. apart_serials m n y x l k differ at its (of k is).0 (of k is).1 (sym (ap (λ (i : TermId). i.serial) term.term) ∙ same)) (h.tied m y l at its)
 
     -- and all do, where this one's is tied anew
-    holds_with : (cause : Option ℕ) (x' : Session) (asked : ℕ) → ((l : Lease) → x'.lease ≡ Some l → (x'.number.0 ≡ n) × AnyOf (IsTermOf x' l) (closed lease cause s.terms)) → Holds (with_driven s n lease cause x' asked)
-    holds_with cause x' asked here = record {
+    holds_with : (cause : Option ℕ) (x' : Session) (beside : Beside) → ((l : Lease) → x'.lease ≡ Some l → (x'.number.0 ≡ n) × AnyOf (IsTermOf x' l) (closed lease cause s.terms)) → Holds (with_driven s n lease cause x' beside)
+    holds_with cause x' beside here = record {
       own = λ m y l at its. elim (cases_eq m n) [
         | inl e ↦ let it = stands m y e at in ap (λ (z : Session). z.number.0) it ∙ (here l (ap (λ (z : Session). z.lease) (sym it) ∙ its)).0 ∙ sym e
         | inr d ↦ h.own m y l (sym (value_at-with_other s.sessions n x' m d) ∙ at) its
@@ -197,26 +195,26 @@ module _ (s : State) (h : Holds s) where
         stands m y e at = same_some y x' (sym at ∙ ap (λ (k : ℕ). value_at (with_value s.sessions n x') k) e ∙ value_at-with_value s.sessions n x')
 
   -- after a step of the link of one of them
-  driven_ties : (r : Rules) (a : At) (Steps : LinkStep) (n : ℕ) (x x' : Session) (outs : List OutRecord) (cause : Option ℕ) (asked' : ℕ) → value_at s.sessions n ≡ Some x
-      → Drives r a s.asked x Steps outs cause x' asked' → Holds (with_driven s n x.lease cause x' asked')
-  driven_ties r a Steps n x x' outs cause asked' at d =
-      holds_with n x x.lease (λ k is. (at, is)) cause x' asked'
+  driven_ties : (r : Rules) (a : At) (moment : ℕ) (Steps : LinkStep) (n : ℕ) (x x' : Session) (outs : List OutRecord) (cause : Option ℕ) (beside' : Beside) → value_at s.sessions n ≡ Some x
+      → Drives r a (beside_at moment s.asked s.tunnels) x Steps outs cause x' beside' → Holds (with_driven s n x.lease cause x' beside')
+  driven_ties r a moment Steps n x x' outs cause beside' at d =
+      holds_with n x x.lease (λ k is. (at, is)) cause x' beside'
       (λ l its.
       let left = left_lease cause x.lease l (ap (λ (q : Option ℕ). kept_lease q x.lease) d.closes ∙ sym (ap (λ (y : Session). y.lease) d.session) ∙ its) in
       let number = ap (λ (y : Session). y.number) d.session in
       let same : AnyOf (IsTermOf x' l) s.terms =
-      any_of (IsTermOf x l) (IsTermOf x' l) s.terms (λ t. same_term x x' l t number (ap (λ (y : Session). y.port) d.session) (ap (λ (y : Session). y.mac) d.session)) (h.tied n x l at left.1) in (
+      any_of (IsTermOf x l) (IsTermOf x' l) s.terms (λ t. same_term x x' l t number (ap circuit_of d.session ∙ way_stays d.says.finished x.way x.number)) (h.tied n x l at left.1) in (
         ap (λ (k : SessionNo). k.0) number ∙ h.own n x l at left.1,
         subst (λ (q : Option ℕ). AnyOf (IsTermOf x' l) (closed x.lease q s.terms)) (sym left.0) (subst (AnyOf (IsTermOf x' l)) (sym (unclosed x.lease s.terms)) same),
       ))
 
   -- after one of a session that has no lease
-  bare_ties : (n : ℕ) (x x' : Session) (cause : Option ℕ) (asked' : ℕ) → x'.lease ≡ None → Holds (with_driven s n None cause x' asked')
-  bare_ties n x x' cause asked' none = holds_with n x None (λ k is. absurd (none_some k is)) cause x' asked' (λ l its. absurd (none_some l (sym none ∙ its)))
+  bare_ties : (n : ℕ) (x x' : Session) (cause : Option ℕ) (beside' : Beside) → x'.lease ≡ None → Holds (with_driven s n None cause x' beside')
+  bare_ties n x x' cause beside' none = holds_with n x None (λ k is. absurd (none_some k is)) cause x' beside' (λ l its. absurd (none_some l (sym none ∙ its)))
 
   -- once it has ended
   ended_ties : (n : ℕ) (x : Session) (cause : ℕ) → value_at s.sessions n ≡ Some x → Holds (with_ended s n x.lease cause (ended x))
-  ended_ties n x cause at = holds_with n x x.lease (λ k is. (at, is)) (Some cause) (ended x) s.asked (λ l its. absurd (none_some l its))
+  ended_ties n x cause at = holds_with n x x.lease (λ k is. (at, is)) (Some cause) (ended x) (beside_at 0 s.asked s.tunnels) (λ l its. absurd (none_some l its))
 
   -- once its live term has been looked at
   looked_ties : (n at : ℕ) (x : Session) → value_at s.sessions n ≡ Some x → Holds (with_session s n (looked at x))
@@ -290,18 +288,16 @@ module _ (s : State) (h : Holds s) where
       other_recast y j (t ∷ ts) other (inr any) = inr (other_recast y j ts other any)
 
   -- once a term of it has begun
-  term_ties : (n : ℕ) (x x' : Session) (asked : ℕ) (plan : Plan) (limits : Limits) (a : Ip4) (q : Question) (class : List ℕ) (moment : ℕ) → x.number.0 ≡ n → x'.number ≡ x.number → x'.port ≡ x.port → x'.mac ≡ x.mac
-      → Holds (with_term s n x' asked (next_lease s plan limits moment a) (next_term s x q plan class moment a) (meters_of plan moment))
-  term_ties n x x' asked plan limits a q class moment its number port mac =
+  term_ties : (n : ℕ) (x x' : Session) (beside : Beside) (plan : Plan) (limits : Limits) (a : Ip4) (q : Question) (class : List ℕ) (moment : ℕ) → x.number.0 ≡ n → x'.number ≡ x.number → circuit_of x' ≡ circuit_of x
+      → Holds (with_term s n x' beside (next_lease s plan limits moment a) (next_term s x q plan class moment a) (meters_of plan moment))
+  term_ties n x x' beside plan limits a q class moment its number circuit =
       let t = next_term s x q plan class moment a in
       let lease = next_lease s plan limits moment a in
       let y : Session = record x' { lease = Some lease } in
       let k = sym number in
-      let p = sym port in
-      let c = sym mac in
       let is : IsTermOf y lease t = record {
         term = λ i. record { session = k i; serial = s.begun + 1 };
-        circuit = λ i. Pppoe (p i) (c i) (k i);
+        circuit = sym circuit;
         address = refl;
         profile = refl;
         live = refl;
@@ -333,17 +329,31 @@ ties_walk : (r : Rules) → Walks r Ties
 ties_walk r = record {
   same = λ s s' e h. subst Holds (sym e) h;
   then = λ s s' s'' g k h. k (g h);
-  driven = λ Steps e s n x x' outs cause asked' at d h. driven_ties s h r (at_of s e) Steps n x x' outs cause asked' at d;
-  made = λ Steps e s n x x' outs cause asked' none d h.
-      bare_ties s h n x x' cause asked' (ap (λ (y : Session). y.lease) d.session ∙ ap (kept_lease d.says.term_ended) none ∙ none_kept d.says.term_ended);
-  padt = λ s n x m at is h. ended_ties s h n x user_request at;
+  driven = λ Steps e s n x x' outs cause beside' at d h. driven_ties s h r (at_of s e) e.moment Steps n x x' outs cause beside' at d;
+  made = λ Steps e s n x x' outs cause beside' none d h.
+      bare_ties s h n x x' cause beside' (ap (λ (y : Session). y.lease) d.session ∙ ap (kept_lease d.says.term_ended) none ∙ none_kept d.says.term_ended);
+  ends = λ s n x m cause lost at is h. ended_ties s h n x cause at;
   passes = λ s n moment ms h. record { own = h.own; tied = h.tied; apart = h.apart; numbered = h.numbered };
   looks = λ s n at x found h. looked_ties s h n at x found;
-  lapses = λ e s n x x' outs cause none asked' at over d h.
+  lapses = λ e s n x x' outs cause none beside' at over d h.
       let bare : x'.lease ≡ None = ap (λ (y : Session). y.lease) d.session ∙ none_kept d.says.term_ended in
-      holds_with s h n x x.lease (λ k is. (at, is)) (Some cause) x' asked' (λ l its. absurd (none_some l (sym bare ∙ its)));
-  lapses_circuit = λ s n x over cause at is lapse h. holds_with s h n x x.lease (λ k is. (at, is)) (Some cause) (lapsed x) s.asked (λ l its. absurd (none_some l its));
+      holds_with s h n x x.lease (λ k is. (at, is)) (Some cause) x' beside' (λ l its. absurd (none_some l (sym bare ∙ its)));
+  lapses_circuit = λ e s n x over cause at is lapse h. holds_with s h n x x.lease (λ k is. (at, is)) (Some cause) (lapsed x) (beside_of s e) (λ l its. absurd (none_some l its));
   tells = λ s t h. record { own = h.own; tied = h.tied; apart = h.apart; numbered = h.numbered };
+  comes = λ e s n number peer t c link vacant new h. bare_ties s h n (called_session n peer number t c link) (called_session n peer number t c link) None (beside_at 0 s.asked s.tunnels) refl;
+  turns = λ s n x c call at way h.
+      subst (λ (ts : List Tenure). let u : State = record (with_session s n (turned x c call)) { terms = ts } in Holds u) (unclosed x.lease s.terms)
+      (holds_with s h n x x.lease (λ k is. (at, is)) None (turned x c call) (beside_at 0 s.asked s.tunnels)
+      (λ l its. (
+        h.own n x l at its,
+        subst (AnyOf (IsTermOf (turned x c call) l)) (sym (unclosed x.lease s.terms))
+            (any_of (IsTermOf x l) (IsTermOf (turned x c call) l) s.terms (λ t. same_term x (turned x c call) l t refl (call_stays x c call way)) (h.tied n x l at its)),
+      )));
+  over = λ s n x m c call at is way h.
+      holds_with s h n x x.lease (λ k is. (at, is)) (Some lost_carrier) (ended (turned x c call)) (beside_at 0 s.asked s.tunnels) (λ l its. absurd (none_some l its));
+  connects = λ e s n x x' m c call link outs none beside' at is way new d h.
+      let bare : x'.lease ≡ None = ap (λ (y : Session). y.lease) d.session ∙ none_kept d.says.term_ended in
+      holds_with s h n x x.lease (λ k is. (at, is)) (Some lost_carrier) x' beside' (λ l its. absurd (none_some l (sym bare ∙ its)));
 }
 
 -- so it is where a request changes a term
@@ -355,14 +365,14 @@ ties_recast r s e p f is h =
     recast_ties s h f.term.term.session.0 f.session f.lease k (meters_after r s f.session.number e.moment f.term.profile (place_of f.term.profile w)) found.at found.leased refl refl
 
 module _ (r : Rules) (s : State) (limited : Bool) (d : Deed) (own : AreOwn s.sessions) where
-  settled_ties : (t : Told) (j : Judges r s d.entry t d) → (lease : Option Ip4) → Ties s (settled_by s d.entry.item.target j.x j.question t d.entry.moment j.after j.asked lease)
+  settled_ties : (t : Told) (j : Judges r s d.entry t d) → (lease : Option Ip4) → Ties s (settled_by s d.entry.item.target j.x j.question t d.entry.moment j.after j.beside lease)
   settled_ties t j None h =
       let says = j.drives.says in
       let bare : j.after.lease ≡ None = ap (λ (y : Session). y.lease) j.drives.session ∙ ap (kept_lease says.term_ended) j.no_term ∙ none_kept says.term_ended in
-      bare_ties s h d.entry.item.target j.x j.after None j.asked bare
+      bare_ties s h d.entry.item.target j.x j.after None j.beside bare
   settled_ties t j (Some a) h =
       let session = j.drives.session in
-      term_ties s h d.entry.item.target j.x j.after j.asked t.plan t.limits a j.question t.class d.entry.moment (own d.entry.item.target j.x j.found) (ap (λ (y : Session). y.number) session) (ap (λ (y : Session). y.port) session) (ap (λ (y : Session). y.mac) session)
+      term_ties s h d.entry.item.target j.x j.after j.beside t.plan t.limits a j.question t.class d.entry.moment (own d.entry.item.target j.x j.found) (ap (λ (y : Session). y.number) session) (ap circuit_of session ∙ way_stays j.drives.says.finished j.x.way j.x.number)
 
   -- so it is after a step
   pub step_ties : Holds s → Step r s limited d → Holds d.next

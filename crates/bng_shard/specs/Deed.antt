@@ -1,5 +1,5 @@
 -- What an entry did.
-use Rattle.std.specs.Prelude.{ℕ, ◌==◌, Bool, true, false, ◌&&◌, List, [], ◌∷◌, Option, None, nat_le, length, if◌then◌else◌}
+use Rattle.std.specs.Prelude.{ℕ, ◌==◌, Bool, true, false, ◌&&◌, List, [], ◌∷◌, Option, None, map, nat_le, length, if◌then◌else◌}
 use Rattle.bng_base.specs.declared.address.Peer.{Peer}
 use Rattle.bng_base.specs.declared.fate.Fate.{Fate}
 use Rattle.bng_base.specs.declared.fate.DropCause.{DropCause}
@@ -8,13 +8,13 @@ use Rattle.bng_base.specs.declared.item.Charge.{Charge}
 use Rattle.bng_base.specs.declared.item.Entry.{Entry}
 use Rattle.bng_base.specs.declared.item.OutRecord.{OutRecord}
 use Rattle.bng_base.specs.declared.outside.Role.{Role}
-use Rattle.bng_base.specs.declared.outside.Role.TheVariants.{Access}
+use Rattle.bng_base.specs.declared.outside.Role.TheVariants.{Access, Tunnel}
 use Rattle.bng_base.specs.declared.settings.AccessPort.{AccessPort}
 use Rattle.bng_base.specs.declared.frame.TheConstants.{LONGEST}
 use Rattle.bng_base.specs.FateOf.{Arrival}
 use Rattle.bng_base.specs.PppoeGrammar.{PppoeFrame, pppoe_text}
 use Rattle.bng_base.specs.declared.item.At.{At}
-use Rattle.bng_shard.specs.State.{State}
+use Rattle.bng_shard.specs.State.{Beside, State, beside_at}
 
 -- an entry, its fate before its sends, what is to be sent for it in this order, and the state that it leaves
 pub record Deed : Type 0 where
@@ -26,6 +26,10 @@ pub record Deed : Type 0 where
 -- whose outs they are: an entry of a shard
 abbrev pub at_of : State → Entry → At
 at_of s e = record { shard = s.sessions.shard; seat = e.seat; place = e.place }
+
+-- what a session's link works with at an entry, beside the session
+abbrev pub beside_of : State → Entry → Beside
+beside_of s e = beside_at e.moment s.asked s.tunnels
 
 -- a datagram that an entry has to send
 abbrev pub out : At → Role → Peer → List ℕ → Option Charge → OutRecord
@@ -47,6 +51,10 @@ has_macs p = (length p.dst.0 == 6) && (length p.src.0 == 6)
 -- a frame to a host of the port with this number; one that no datagram of 4,096 octets holds is not sent
 abbrev pub frame_outs : At → ℕ → AccessPort → PppoeFrame → List OutRecord
 frame_outs a number port p = if has_macs p && nat_le (length (pppoe_text p)) LONGEST then out a (Access number) port.peer (pppoe_text p) None ∷ [] else []
+
+-- datagrams to the peer of a tunnel, in this order
+abbrev pub tunnel_outs : At → Peer → List (List ℕ) → List OutRecord
+tunnel_outs a to frames = map (λ (f : List ℕ). out a Tunnel to f None) frames
 
 -- what was handled goes on, if it is sent
 abbrev pub is_forwarded : Fate → Bool

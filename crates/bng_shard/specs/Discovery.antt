@@ -25,8 +25,9 @@ use Rattle.bng_shard.specs.declared.rules.Rules.{Rules}
 use Rattle.bng_shard.specs.declared.session.Service.{Service}
 use Rattle.bng_shard.specs.declared.session.Service.TheVariants.{Provisioned, Discovered}
 use Rattle.bng_shard.specs.declared.session.Session.{Session}
-use Rattle.bng_shard.specs.State.{State, is_on, port_at, offers_at, with_driven}
-use Rattle.bng_shard.specs.Deed.{Deed, at_of, frame_outs, ignored, handled}
+use Rattle.bng_shard.specs.declared.way.Way.TheVariants.{Port}
+use Rattle.bng_shard.specs.State.{Beside, State, is_on, port_at, offers_at, with_driven}
+use Rattle.bng_shard.specs.Deed.{Deed, at_of, beside_of, frame_outs, ignored, handled}
 use Rattle.bng_shard.specs.Link.{Drives, told}
 
 abbrev pub same_option : Option (List ℕ) → Option (List ℕ) → Bool
@@ -52,11 +53,11 @@ is_repeated port mac host_uniq x = is_on port mac x && is_repeated_in host_uniq 
 abbrev pub repeated : State → ℕ → Mac → Option (List ℕ) → Option Session
 repeated s port mac host_uniq = find (is_repeated port mac host_uniq) (values s.sessions)
 
--- a link that was told nothing
-pub record IsNewLink (random : List ℕ) (l : PppState) : Type 0 where
+-- a link that was told nothing; its MRU is 1,492 octets over PPPoE (RFC 2516 section 7), and 1,500 over a call (RFC 1661 section 6.1)
+pub record IsNewLink (limit : ℕ) (random : List ℕ) (l : PppState) : Type 0 where
   pub lcp : l.lcp.lcp ≡ unused
-  pub ask : IsFirstAsk 1492 (Chap ∷ []) random l.lcp.ask
-  pub kept : l.lcp.kept ≡ kept_first 1492
+  pub ask : IsFirstAsk limit (Chap ∷ []) random l.lcp.ask
+  pub kept : l.lcp.kept ≡ kept_first limit
   pub auth : l.auth ≡ Idle
   pub timer : l.auth_due ≡ None
   pub ipcp : l.ipcp ≡ ipcp_unused (record { 0 = 0 })
@@ -66,8 +67,7 @@ pub record IsNewLink (random : List ℕ) (l : PppState) : Type 0 where
 abbrev pub new_session : ℕ → ℕ → Mac → Option (List ℕ) → PppState → Session
 new_session number port mac host_uniq link = record {
   number = record { 0 = number };
-  port = port;
-  mac = mac;
+  way = Port port mac;
   service = Discovered (record { host_uniq = host_uniq; link = link; question = None; ended = false });
   lease = None;
 }
@@ -82,13 +82,13 @@ pub record Makes (r : Rules) (s : State) (e : Entry) (number : ℕ) (port : Acce
   pub session : ℕ
   pub vacant : IsLowestVacant s.sessions session
   pub link : PppState
-  pub new : IsNewLink e.item.random link
+  pub new : IsNewLink 1492 e.item.random link
   pub outs : List OutRecord
   pub x : Session
   pub cause : Option ℕ
-  pub asked : ℕ
-  pub starts : Drives r (at_of s e) s.asked (new_session session number p.src (host_uniq_of tags) link) (told r e Start) outs cause x asked
-  pub done : d ≡ handled s e (frame_outs (at_of s e) number port (pads_of offers p.src session tags) ++ outs) (with_driven s session None cause x asked)
+  pub beside : Beside
+  pub starts : Drives r (at_of s e) (beside_of s e) (new_session session number p.src (host_uniq_of tags) link) (told r e Start) outs cause x beside
+  pub done : d ≡ handled s e (frame_outs (at_of s e) number port (pads_of offers p.src session tags) ++ outs) (with_driven s session None cause x beside)
 
 -- the PADS of the session that was made for the same request before
 pub record Repeats (s : State) (e : Entry) (number : ℕ) (port : AccessPort) (offers : PortRules) (p : PppoeFrame) (tags : List PppoeTag) (d : Deed) : Type 0 where

@@ -1,5 +1,5 @@
 -- What one step of a session's link does to the session and to what is sent.
-use Rattle.std.specs.Prelude.{◌≡◌, ℕ, List, ◌++◌, Option, None}
+use Rattle.std.specs.Prelude.{◌≡◌, ◌≤◌, ℕ, List, ◌++◌, length, Option, None}
 use Rattle.bng_base.specs.declared.item.OutRecord.{OutRecord}
 use Rattle.bng_ppp.specs.declared.whole_input.WholeInput.{WholeInput}
 use Rattle.bng_ppp.specs.declared.whole_input.WholeInput.TheVariants.{Start, Frame, Timer, Verdict, Close, Lost}
@@ -7,13 +7,16 @@ use Rattle.bng_shard.specs.declared.rules.Rules.{Rules}
 use Rattle.bng_base.specs.declared.item.At.{At}
 use Rattle.bng_shard.specs.declared.session.Lease.{Lease}
 use Rattle.bng_shard.specs.declared.session.Session.{Session}
+use Rattle.bng_shard.specs.State.{Beside}
 use Rattle.bng_shard.specs.Link.{Drives, LinkStep}
 
--- The session's link made this step: what it says stands after what was to be sent, and the session keeps the new link.
-pub record Driven (r : Rules) (a : At) (Steps : LinkStep) (asked : ℕ) (x : Session) (cause : Option ℕ) (x' : Session) (asked' : ℕ) (outs outs' : List OutRecord) : Type 0 where
+-- The session's link made this step: what goes out for it stands after what was to be sent, and the session keeps the new link. One datagram
+-- at most says that the session has ended.
+pub record Driven (r : Rules) (a : At) (Steps : LinkStep) (beside : Beside) (x : Session) (cause : Option ℕ) (x' : Session) (beside' : Beside) (outs outs' : List OutRecord) : Type 0 where
   pub more : List OutRecord
-  pub drives : Drives r a asked x Steps more cause x' asked'
+  pub drives : Drives r a beside x Steps more cause x' beside'
   pub outs_are : outs' ≡ outs ++ more
+  pub few_last : length drives.last ≤ 1
 
 -- A live term of a session goes on over this input until the link says its end. A verdict and Close are told where there is none.
 abbrev pub LastsOver : WholeInput → Option Lease → Type 0

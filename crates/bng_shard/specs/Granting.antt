@@ -2,12 +2,16 @@
 use Rattle.std.specs.Prelude.{◌≡◌, ◌⊎◌, ℕ, ◌<◌, true, false, List, Option, Some, None, IsSome, if◌then◌else◌}
 use Rattle.std.specs.Option.{option_map, option_and_then}
 use Rattle.bng_base.specs.declared.address.Mac.{Mac}
-use Rattle.bng_base.specs.declared.circuit.Circuit.TheVariants.{Pppoe}
+use Rattle.bng_base.specs.declared.address.Peer.{Peer}
+use Rattle.bng_base.specs.declared.address.SessionNo.{SessionNo}
+use Rattle.bng_base.specs.declared.circuit.Circuit.{Circuit}
+use Rattle.bng_base.specs.declared.circuit.Circuit.TheVariants.{L2tp}
 use Rattle.bng_base.specs.declared.item.Entry.{Entry}
 use Rattle.bng_base.specs.declared.item.ItemKind.TheVariants.{Verdict}
 use Rattle.bng_base.specs.declared.outside.Role.{Role}
-use Rattle.bng_base.specs.declared.outside.Role.TheVariants.{Access}
+use Rattle.bng_base.specs.declared.outside.Role.TheVariants.{Access, Tunnel}
 use Rattle.bng_base.specs.PppoeGrammar.{PppoeFrame, IsPppoe}
+use Rattle.bng_l2tp_wire.specs.Messages.{DataMessage, IsData}
 use Rattle.bng_ppp.specs.Granting.{IsYes}
 use Rattle.bng_ppp.specs.PppState.{is_open, is_accepted}
 use Rattle.bng_slots.specs.Sessions.{value_at}
@@ -16,6 +20,9 @@ use Rattle.bng_shard.specs.Made.{Question}
 use Rattle.bng_shard.specs.declared.session.Service.{Service}
 use Rattle.bng_shard.specs.declared.session.Service.TheVariants.{Provisioned, Discovered}
 use Rattle.bng_shard.specs.declared.session.Session.{Session}
+use Rattle.bng_shard.specs.declared.way.Called.{Called}
+use Rattle.bng_shard.specs.declared.way.Way.TheVariants.{Call}
+use Rattle.bng_shard.specs.Link.{call_octets}
 use Rattle.bng_shard.specs.Questions.{Asking, last_asking_at, open_ask_at}
 use Rattle.bng_shard.specs.Serving.{AreOwn, AreOfShard}
 use Rattle.bng_shard.specs.State.{State}
@@ -32,6 +39,13 @@ pub record IsYesOn (port : ℕ) (mac : Mac) (session : ℕ) (role : Role) (octet
   pub to : frame.dst ≡ mac
   pub session_is : frame.session ≡ session
   pub yes : IsYes frame.payload
+
+-- the datagram is a data message to the peer of a tunnel that says yes to the peer of its call (RFC 2661 section 3.1)
+pub record IsYesOver (role : Role) (octets : List ℕ) : Type 0 where
+  pub role_is : role ≡ Tunnel
+  pub message : DataMessage
+  pub reads : IsData message octets
+  pub yes : IsYes message.ppp
 
 -- the question that the link of a session asked last, and whose verdict was yes
 abbrev pub accepted_in : Service → Option Question
@@ -55,12 +69,25 @@ abbrev pub IsGranted : State → Entry → ℕ → ℕ → Type 0
 IsGranted s e session ask =
     (accepted_ask_at s session ≡ Some ask) ⊎ (GivesYes e session ask × (open_ask_at s session ≡ Some ask))
 
--- The circuit of this session was asked about by the question that its link asked last, and the question was answered by a yes.
-pub record IsGrantedOn (s : State) (e : Entry) (port : ℕ) (mac : Mac) (session : ℕ) : Type 0 where
+-- This circuit, of the session with this number, was asked about by the question that its link asked last, and the question was answered by a
+-- yes.
+pub record IsGrantedOn (s : State) (e : Entry) (circuit : Circuit) (session : ℕ) : Type 0 where
   pub asking : Asking
   pub last : last_asking_at s session ≡ Some asking
-  pub circuit : asking.circuit ≡ Pppoe port mac (record { 0 = session })
+  pub circuit_is : asking.circuit ≡ circuit
   pub granted : IsGranted s e session asking.number.ask
+
+-- So it was with the circuit of a call of this peer, and the octets are a data message to the peer's own numbers for its tunnel and the call.
+pub record IsGrantedOver (s : State) (e : Entry) (to : Peer) (octets : List ℕ) : Type 0 where
+  pub session : SessionNo
+  pub x : Session
+  pub found : value_at s.sessions session.0 ≡ Some x
+  pub called : Called
+  pub way_is : x.way ≡ Call called
+  pub peer : called.peer ≡ to
+  pub frame : List ℕ
+  pub sent : octets ≡ call_octets called frame
+  pub granted : IsGrantedOn s e (L2tp to called.tunnel session) session.0
 
 -- a link that has asked, or whose peer was accepted, has a question
 abbrev pub HasQuestion : Service → Type 0

@@ -9,8 +9,8 @@ pub mod Serving
 pub mod Opening
 pub mod Controlling
 pub mod Deed
-pub mod Link
 pub mod L2tp
+pub mod Link
 pub mod Questions
 pub mod Passing
 pub mod Metered
@@ -18,6 +18,9 @@ pub mod Wishes
 pub mod Verdicts
 pub mod Discovery
 pub mod Frames
+pub mod Calls
+pub mod Cutting
+pub mod Datagrams
 pub mod Timers
 pub mod Changes
 pub mod Step

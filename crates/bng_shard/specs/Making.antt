@@ -8,4 +8,4 @@ use Rattle.bng_shard.specs.Discovery.{IsNewLink, new_session}
 -- its link was told nothing
 abbrev pub IsNewSession : ℕ → ℕ → Mac → Option (List ℕ) → List ℕ → Session → Type 0
 IsNewSession number port mac host_uniq random x =
-    (link : PppState) × IsNewLink random link × (x ≡ new_session number port mac host_uniq link)
+    (link : PppState) × IsNewLink 1492 random link × (x ≡ new_session number port mac host_uniq link)

@@ -14,7 +14,7 @@ use Rattle.bng_shard.specs.declared.meters.Plan.{Plan}
 use Rattle.bng_shard.specs.declared.session.Lease.{Lease}
 use Rattle.bng_shard.specs.declared.session.Session.{Session}
 use Rattle.bng_shard.specs.Passing.{place_in}
-use Rattle.bng_shard.specs.State.{passes_in}
+use Rattle.bng_shard.specs.State.{mru_in, passes_in}
 
 -- Plans ------------------------------------------------------------------------------------------------------------------
 
@@ -75,7 +75,7 @@ spent_output ms now octets = record ms { output = spent ms.output now octets }
 
 -- of a session's live term, whose meters are these
 abbrev pub view_of : Meters → Session → Option TermView
-view_of ms x = option_map (λ (l : Lease). record { lease = l.address; opened = passes_in x.service; input = ms.input; output = ms.output }) x.lease
+view_of ms x = option_map (λ (l : Lease). record { lease = l.address; opened = passes_in x.service; mru = mru_in x.service; input = ms.input; output = ms.output }) x.lease
 
 -- the same, with the session's own
 abbrev pub view_in : List Meters → Session → Option TermView
@@ -83,7 +83,7 @@ view_in meters x = view_of (meters_at meters x.number) x
 
 -- of a term that has ended and still has this address, if there is one: it is not open
 abbrev pub kept_view : Bool → Ip4 → Option TermView
-kept_view true a = Some (record { lease = a; opened = false; input = None; output = None })
+kept_view true a = Some (record { lease = a; opened = false; mru = 1492; input = None; output = None })
 kept_view false a = None
 
 -- the meters that a view has

@@ -10,6 +10,7 @@ use Rattle.bng_shard.specs.declared.meters.Meters.{Meters}
 use Rattle.bng_shard.specs.declared.session.Lease.{Lease}
 use Rattle.bng_shard.specs.declared.session.Service.TheVariants.{Provisioned}
 use Rattle.bng_shard.specs.declared.session.Session.{Session}
+use Rattle.bng_shard.specs.declared.way.Way.TheVariants.{Port}
 use Rattle.bng_shard.specs.Metered.{meters_of, no_meters, plan_at}
 use Rattle.bng_shard.specs.State.{State}
 use Rattle.bng_shard.specs.Tenures.{Tenure}
@@ -24,8 +25,7 @@ lease_from now c serial = record { serial = serial; address = c.address; profile
 abbrev pub provisioned : ℕ → Static → ℕ → Session
 provisioned now c serial = record {
   number = c.session;
-  port = c.port;
-  mac = c.mac;
+  way = Port c.port c.mac;
   service = Provisioned false;
   lease = Some (lease_from now c serial);
 }

@@ -1,7 +1,8 @@
 -- How octets on PPPoE access ports, to the core and to peers of tunnels are read, and when they are what a charge says.
-use Rattle.std.specs.Prelude.{◌≡◌, ℕ, ◌==◌, Bool, true, false, ◌&&◌, ◌||◌, List, Option, Some, None, length, take, drop, cond, MatchOption}
+use Rattle.std.specs.Prelude.{◌≡◌, ℕ, ◌==◌, Bool, true, false, ◌&&◌, ◌||◌, List, Option, Some, None, length, slice_index, take, drop, cond, MatchOption}
 use Rattle.byteorder.specs.Endian.{big_from}
 use Rattle.bng_base.specs.declared.address.Mac.{Mac}
+use Rattle.bng_base.specs.declared.address.Peer.{Peer}
 use Rattle.bng_base.specs.declared.address.SessionNo.{SessionNo}
 use Rattle.bng_base.specs.declared.circuit.Circuit.{Circuit}
 use Rattle.bng_base.specs.declared.circuit.Circuit.TheVariants.{Pppoe, L2tp}
@@ -14,6 +15,7 @@ use Rattle.bng_base.specs.Ipv4Grammar.{IsIpv4}
 use Rattle.bng_base.specs.Roles.{is_core, is_access}
 use Rattle.bng_engine.specs.Wire.{WirePacket}
 use Rattle.bng_l2tp_tunnel.specs.Sound.{IsSpelled}
+use Rattle.bng_l2tp_wire.specs.Messages.{DataMessage, data_text, type_bit}
 
 -- a PPPoE session frame (RFC 2516, ETHER_TYPE 8864) whose PPP protocol is IPv4's, 0021 (RFC 1332)
 abbrev pub is_session_data : List ℕ → Bool
@@ -33,10 +35,18 @@ frame_packet port octets = record {
   octets = length (drop 22 octets);
 }
 
+-- a data message (RFC 2661 section 3.1), whose T bit is 0, without other fields, and with a PPP frame of IPv4 after Address and Control
+abbrev pub is_call_data : List ℕ → Bool
+is_call_data octets = (type_bit (slice_index octets 0) == 0) && (big_from 8 2 octets == 33)
+
+-- It has a packet after 10 octets, with its destination in octets 26 to 29. It names numbers of the other end, and so no circuit.
+abbrev pub call_packet : List ℕ → WirePacket
+call_packet octets = record { input = false; circuit = None; address = record { 0 = big_from 26 4 octets }; octets = length (drop 10 octets) }
+
 abbrev pub pppoe_reader : Role → List ℕ → Option WirePacket
 pppoe_reader (Access port) octets = cond (is_session_data octets) (Some (frame_packet port octets)) None
 pppoe_reader Core octets = Some (core_packet octets)
-pppoe_reader Tunnel octets = None
+pppoe_reader Tunnel octets = cond (is_call_data octets) (Some (call_packet octets)) None
 pppoe_reader Auth octets = None
 pppoe_reader Acct octets = None
 pppoe_reader Coa octets = None
@@ -74,10 +84,34 @@ pub record IsOutputOf (c : Charge) (role : Role) (octets : List ℕ) : Type 0 wh
   pub total : header.total ≡ length (drop 22 octets)
   pub counted : c.octets ≡ length (drop 22 octets)
 
+-- a data message in its one spelling: no flags, version 2, two numbers of the other end, Address and Control, and a PPP frame (RFC 2661
+-- section 3.1)
+abbrev pub IsDataSpelled : List ℕ → Type 0
+IsDataSpelled octets = (d : DataMessage) × (octets ≡ data_text d)
+
+-- towards the subscriber of a call: it goes to the tunnel's peer as a data message, and after 10 octets it is a whole IPv4 packet whose
+-- destination is the term's address
+pub record IsOutputOver (peer : Peer) (c : Charge) (role : Role) (to : Peer) (octets : List ℕ) : Type 0 where
+  pub role_is : role ≡ Tunnel
+  pub to_is : to ≡ peer
+  pub type : type_bit (slice_index octets 0) ≡ 0
+  pub spelled : IsDataSpelled octets
+  pub protocol : big_from 8 2 octets ≡ 33
+  pub header : Ipv4
+  pub packet : IsIpv4 header (drop 10 octets)
+  pub destination : header.dst ≡ c.address
+  pub total : header.total ≡ length (drop 10 octets)
+  pub counted : c.octets ≡ length (drop 10 octets)
+
+-- towards the subscriber, by the circuit that is charged
+abbrev pub IsOutputOn : Circuit → Charge → Role → Peer → List ℕ → Type 0
+IsOutputOn (Pppoe port mac session) c role to octets = IsOutputOf c role octets
+IsOutputOn (L2tp peer tunnel session) c role to octets = IsOutputOver peer c role to octets
+
 -- in the direction that the charge says
-abbrev pub IsInDirection : Bool → Charge → Role → List ℕ → Type 0
-IsInDirection true c role octets = IsInputOf c role octets
-IsInDirection false c role octets = IsOutputOf c role octets
+abbrev pub IsInDirection : Bool → Charge → Role → Peer → List ℕ → Type 0
+IsInDirection true c role to octets = IsInputOf c role octets
+IsInDirection false c role to octets = IsOutputOn c.circuit c role to octets
 
 -- to the peer of a tunnel
 abbrev pub is_tunnel : Role → Bool
@@ -89,13 +123,17 @@ is_tunnel Acct = false
 is_tunnel Coa = false
 is_tunnel Control = false
 
--- on an access port or to the peer of a tunnel, and no packet of a subscriber: to such a peer go control messages alone
+-- On an access port or to the peer of a tunnel, and no packet of a subscriber. To such a peer a datagram whose T bit is set is a control
+-- message in its one spelling, and one whose T bit is 0 is a data message in its one spelling, so that its PPP protocol stands in octets 8
+-- and 9.
 pub record IsNoPacket (role : Role) (octets : List ℕ) : Type 0 where
   pub on_way : (is_access role || is_tunnel role) ≡ true
   pub not_core : is_core role ≡ false
   pub not_data : is_access role ≡ true → is_session_data octets ≡ false
-  pub is_control : is_tunnel role ≡ true → IsSpelled octets
+  pub not_call : is_tunnel role ≡ true → is_call_data octets ≡ false
+  pub control : is_tunnel role ≡ true → type_bit (slice_index octets 0) ≡ 1 → IsSpelled octets
+  pub spelled : is_tunnel role ≡ true → type_bit (slice_index octets 0) ≡ 0 → IsDataSpelled octets
 
 -- the octets are a whole packet as the charge says, and no packet of a subscriber where there is no charge
 abbrev pub IsWhole : OutRecord → Type 0
-IsWhole o = MatchOption o.charge (IsNoPacket o.role o.frame) (λ c. IsInDirection c.input c o.role o.frame)
+IsWhole o = MatchOption o.charge (IsNoPacket o.role o.frame) (λ c. IsInDirection c.input c o.role o.to o.frame)

@@ -13,7 +13,7 @@ use Rattle.bng_shard.specs.declared.served.Served.TheInside.{Inside}
 use Rattle.bng_shard.specs.Listing.{AreListed, passing_in}
 use Rattle.bng_shard.specs.Questions.{open_of}
 use Rattle.bng_shard.specs.Indexed.{address_of}
-use Rattle.bng_shard.specs.State.{leaves}
+use Rattle.bng_shard.specs.State.{is_port, leaves}
 
 -- each session has the number under which it stands
 abbrev pub AreOwn : Sessions Session → Type 0
@@ -39,13 +39,13 @@ asks x = is_some (open_of x)
 abbrev pub AreAsking : Sessions Session → List SessionNo → Type 0
 AreAsking sessions numbers = AreListed asks sessions numbers
 
--- the session is young: discovery made it, it has not ended, and its LCP was never Opened
+-- the session is young: discovery made it, so that it is at an access port, it has not ended, and its LCP was never Opened
 abbrev pub is_young_in : Service → Bool
 is_young_in (Provisioned l) = false
 is_young_in (Discovered m) = not m.ended && not m.link.lcp.kept.was_opened
 
 abbrev pub is_young : Session → Bool
-is_young x = is_young_in x.service
+is_young x = is_port x.way && is_young_in x.service
 
 -- the numbers of the young ones
 abbrev pub AreYoung : Sessions Session → List SessionNo → Type 0

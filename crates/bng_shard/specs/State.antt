@@ -1,4 +1,4 @@
--- What a shard serves: its sessions by number, each on a provisioned circuit or made by discovery, and its tunnels.
+-- What a shard serves: its sessions by number, each on a provisioned circuit or made by discovery or by a call, and its tunnels.
 use Rattle.std.specs.Prelude.{◌≡◌, ℕ, ◌-◌, ◌==◌, Bool, true, false, not, ◌&&◌, List, [], Option, Some, None, filter, find, length, slice_get, if◌then◌else◌}
 use Rattle.std.specs.FinMap as map
 use Rattle.std.specs.List.{list_any}
@@ -7,9 +7,13 @@ use Rattle.std.specs.Str.{bytes_eq}
 use Rattle.bng_base.specs.declared.address.Ip4.{Ip4}
 use Rattle.bng_base.specs.declared.address.Mac.{Mac}
 use Rattle.bng_base.specs.declared.circuit.Circuit.{Circuit}
-use Rattle.bng_base.specs.declared.circuit.Circuit.TheVariants.{Pppoe}
+use Rattle.bng_base.specs.declared.address.Peer.{Peer}
+use Rattle.bng_base.specs.declared.address.SessionNo.{SessionNo}
+use Rattle.bng_base.specs.declared.circuit.Circuit.TheVariants.{Pppoe, L2tp}
 use Rattle.bng_base.specs.declared.settings.AccessPort.{AccessPort}
 use Rattle.bng_discovery.specs.declared.port.PortRules.{PortRules}
+use Rattle.bng_l2tp_call.specs.CallState.{is_established}
+use Rattle.bng_lns.specs.Places.{same_peer}
 use Rattle.bng_lns.specs.Tunnels.{TunnelsState}
 use Rattle.bng_ppp.specs.PppState.{passes}
 use Rattle.bng_slots.specs.Sessions.{Sessions, value_at, with_value}
@@ -19,6 +23,8 @@ use Rattle.bng_shard.specs.declared.session.Lease.{Lease}
 use Rattle.bng_shard.specs.declared.session.Service.{Service}
 use Rattle.bng_shard.specs.declared.session.Service.TheVariants.{Provisioned, Discovered}
 use Rattle.bng_shard.specs.declared.session.Session.{Session}
+use Rattle.bng_shard.specs.declared.way.Way.{Way}
+use Rattle.bng_shard.specs.declared.way.Way.TheVariants.{Port, Call}
 use Rattle.bng_shard.specs.Tenures.{Tenure, closed, has_kept, is_over}
 
 -- The shard's number with its sessions, how many terms began in it, how many questions were asked, the terms that have no Stop yet, in
@@ -41,13 +47,45 @@ port_at ports number = if number == 0 then None else slice_get ports (number - 1
 abbrev pub offers_at : List PortRules → ℕ → Option PortRules
 offers_at ports number = if number == 0 then None else slice_get ports (number - 1)
 
--- a session's circuit: its port, the MAC of its subscriber and its SESSION_ID (RFC 2516)
+-- a session's circuit: its port, the MAC of its subscriber and its SESSION_ID (RFC 2516); or the peer of its tunnel, the tunnel's number and
+-- its Session ID (RFC 2661)
+abbrev pub circuit_in : Way → SessionNo → Circuit
+circuit_in (Port port mac) n = Pppoe port mac n
+circuit_in (Call c) n = L2tp c.peer c.tunnel n
+
 abbrev pub circuit_of : Session → Circuit
-circuit_of x = Pppoe x.port x.mac x.number
+circuit_of x = circuit_in x.way x.number
+
+-- it is at an access port
+abbrev pub is_port : Way → Bool
+is_port (Port port mac) = true
+is_port (Call c) = false
 
 -- the session is on this port, of this MAC
+abbrev pub is_on_way : ℕ → Mac → Way → Bool
+is_on_way port mac (Port p m) = (p == port) && bytes_eq m.0 mac.0
+is_on_way port mac (Call c) = false
+
 abbrev pub is_on : ℕ → Mac → Session → Bool
-is_on port mac x = (x.port == port) && bytes_eq x.mac.0 mac.0
+is_on port mac x = is_on_way port mac x.way
+
+-- it is a call of the tunnel with this number, of this peer
+abbrev pub is_over_way : Peer → ℕ → Way → Bool
+is_over_way peer tunnel (Port p m) = false
+is_over_way peer tunnel (Call c) = same_peer c.peer peer && (c.tunnel.0 == tunnel)
+
+abbrev pub is_call_of : Peer → ℕ → Session → Bool
+is_call_of peer tunnel x = is_over_way peer tunnel x.way
+
+-- it is a call of the tunnel with this number, whoever the peer is
+abbrev pub is_way_of : ℕ → Way → Bool
+is_way_of tunnel (Port p m) = false
+is_way_of tunnel (Call c) = c.tunnel.0 == tunnel
+
+-- its call is established: the ICCN was taken
+abbrev pub is_connected : Way → Bool
+is_connected (Port port mac) = false
+is_connected (Call c) = is_established c.call.phase
 
 abbrev pub where_on : ℕ → Mac → Option Session → Option Session
 where_on port mac None = None
@@ -57,10 +95,34 @@ where_on port mac (Some x) = if is_on port mac x then Some x else None
 abbrev pub session_of : State → ℕ → Mac → ℕ → Option Session
 session_of s port mac n = where_on port mac (value_at s.sessions n)
 
--- data passes: of a session that discovery made, once LCP and IPCP are Opened; a provisioned circuit has no LCP, and counts as Opened
+abbrev pub where_over : Peer → ℕ → Option Session → Option Session
+where_over peer tunnel None = None
+where_over peer tunnel (Some x) = if is_call_of peer tunnel x then Some x else None
+
+-- the session of a message or a PPP frame of a call: its sender, its Tunnel ID and its Session ID
+abbrev pub call_of : State → Peer → ℕ → ℕ → Option Session
+call_of s peer tunnel n = where_over peer tunnel (value_at s.sessions n)
+
+-- the session with a number, if there is a number and a session
+abbrev pub session_at : State → Option SessionNo → Option Session
+session_at s None = None
+session_at s (Some n) = value_at s.sessions n.0
+
+-- data passes: of a session with a link, once LCP and IPCP are Opened; a provisioned circuit has no LCP, and counts as Opened
 abbrev pub passes_in : Service → Bool
 passes_in (Provisioned over) = true
 passes_in (Discovered m) = passes m.link
+
+-- The longest packet that the subscriber takes: of a session with a link, the MRU of the peer. A provisioned circuit has that of PPPoE (RFC 2516
+-- section 7).
+abbrev pub mru_in : Service → ℕ
+mru_in (Provisioned over) = 1492
+mru_in (Discovered m) = m.link.lcp.kept.mru
+
+-- the session has a link, and has not ended
+abbrev pub lives_in : Service → Bool
+lives_in (Provisioned p) = false
+lives_in (Discovered m) = not m.ended
 
 -- the session's live term has this address
 abbrev pub leases : Ip4 → Session → Bool
@@ -90,16 +152,25 @@ with_tunnels s t = record s { tunnels = t }
 abbrev pub with_session : State → ℕ → Session → State
 with_session s n x = record s { sessions = with_value s.sessions n x }
 
--- The same after a step of the link of this number's session, which had this lease before: so many questions were asked, and where the
+-- What a session's link works with beside the session: the moment, how many questions were asked in its shard, and the shard's tunnels.
+pub record Beside : Type 0 where
+  pub moment : ℕ
+  pub asked : ℕ
+  pub tunnels : TunnelsState
+
+abbrev pub beside_at : ℕ → ℕ → TunnelsState → Beside
+beside_at moment asked tunnels = record { moment = moment; asked = asked; tunnels = tunnels }
+
+-- The same after a step of the link of this number's session, which had this lease before: beside the session this stands, and where the
 -- step ended the live term by a cause, that has ended.
-abbrev pub with_driven : State → ℕ → Option Lease → Option ℕ → Session → ℕ → State
-with_driven s n lease cause x asked = record (with_session s n x) { asked = asked; terms = closed lease cause s.terms }
+abbrev pub with_driven : State → ℕ → Option Lease → Option ℕ → Session → Beside → State
+with_driven s n lease cause x beside = record (with_session s n x) { asked = beside.asked; terms = closed lease cause s.terms; tunnels = beside.tunnels }
 
 -- The same once a session has ended, with the live term of this lease, if it had one, by this cause.
 abbrev pub with_ended : State → ℕ → Option Lease → ℕ → Session → State
 with_ended s n lease cause x = record (with_session s n x) { terms = closed lease (Some cause) s.terms }
 
--- discovery made the session
+-- the session has a link: discovery made it, or a call
 abbrev pub made_one : Service → ℕ
 made_one (Provisioned p) = 0
 made_one (Discovered m) = 1

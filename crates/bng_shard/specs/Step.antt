@@ -10,7 +10,7 @@ use Rattle.bng_shard.specs.State.{State}
 use Rattle.bng_shard.specs.Changes.{HearsChange}
 use Rattle.bng_shard.specs.Deed.{Deed}
 use Rattle.bng_shard.specs.Frames.{HearsAccess, HearsCore}
-use Rattle.bng_shard.specs.L2tp.{HearsTunnel}
+use Rattle.bng_shard.specs.Datagrams.{HearsTunnel}
 use Rattle.bng_shard.specs.Timers.{HearsTick, HearsEnd}
 use Rattle.bng_shard.specs.Verdicts.{HearsVerdict}
 

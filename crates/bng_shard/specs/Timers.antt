@@ -16,9 +16,12 @@ use Rattle.bng_shard.specs.declared.session.Service.{Service}
 use Rattle.bng_shard.specs.declared.session.Service.TheVariants.{Provisioned, Discovered}
 use Rattle.bng_shard.specs.declared.session.Session.{Session}
 use Rattle.bng_base.specs.declared.item.At.{At}
-use Rattle.bng_shard.specs.State.{State, leaves, with_session, with_ended, with_driven, with_tunnels}
-use Rattle.bng_shard.specs.Deed.{Deed, at_of, handled}
-use Rattle.bng_shard.specs.L2tp.{TellInTurn, tunnels_most}
+use Rattle.bng_shard.specs.declared.way.Way.{Way}
+use Rattle.bng_shard.specs.declared.way.Way.TheVariants.{Port, Call}
+use Rattle.bng_shard.specs.State.{Beside, State, leaves, lives_in, with_session, with_ended, with_driven, with_tunnels}
+use Rattle.bng_shard.specs.Deed.{Deed, at_of, beside_of, handled}
+use Rattle.bng_shard.specs.Cutting.{cut_told}
+use Rattle.bng_shard.specs.L2tp.{Tells, TellInTurn, tunnels_most}
 use Rattle.bng_shard.specs.Link.{Drives, EndsWith, ended, nas_request, told}
 use Rattle.bng_shard.specs.Passing.{cause_at, lapsed, looked, passed_at}
 
@@ -66,10 +69,10 @@ NoneIsDue s now = (n deadline : ℕ) → due_at s n ≡ Some deadline → now < 
 
 -- The live term of the session ends by this cause, and its link takes Close. A provisioned circuit has no link.
 abbrev pub LosesTerm : Service → ℕ → Rules → Entry → State → ℕ → Session → List OutRecord → State → Type 0
-LosesTerm (Provisioned over) cause r e s n x outs s' = (outs ≡ []) × (s' ≡ with_driven s n x.lease (Some cause) (lapsed x) s.asked)
+LosesTerm (Provisioned over) cause r e s n x outs s' = (outs ≡ []) × (s' ≡ with_driven s n x.lease (Some cause) (lapsed x) (beside_of s e))
 LosesTerm (Discovered m) cause r e s n x outs s' =
-    (after : Session) × (none : Option ℕ) × (asked : ℕ) × Drives r (at_of s e) s.asked (lapsed x) (told r e Close) outs none after asked
-    × (s' ≡ with_driven s n x.lease (Some cause) after asked)
+    (after : Session) × (none : Option ℕ) × (beside : Beside) × Drives r (at_of s e) (beside_of s e) (lapsed x) (told r e Close) outs none after beside
+    × (s' ≡ with_driven s n x.lease (Some cause) after beside)
 
 -- The live term of the session is looked at. Where one of its timeouts is over it ends by that cause; else it goes on.
 abbrev pub LooksAt : Option ℕ → Rules → Entry → State → ℕ → Session → List OutRecord → State → Type 0
@@ -81,10 +84,10 @@ pub record IsReminded (r : Rules) (e : Entry) (s : State) (n : ℕ) (x : Session
   pub first : List OutRecord
   pub cause : Option ℕ
   pub after : Session
-  pub asked : ℕ
-  pub drives : Drives r (at_of s e) s.asked x (told r e Timer) first cause after asked
+  pub beside : Beside
+  pub drives : Drives r (at_of s e) (beside_of s e) x (told r e Timer) first cause after beside
   pub then : List OutRecord
-  pub looks : LooksAt (cause_at (passed_at s.passed after.number) after.lease e.moment) r e (with_driven s n x.lease cause after asked) n after then s'
+  pub looks : LooksAt (cause_at (passed_at s.passed after.number) after.lease e.moment) r e (with_driven s n x.lease cause after beside) n after then s'
   pub outs_are : outs ≡ first ++ then
 
 -- the term of a provisioned circuit is looked at alone
@@ -108,16 +111,24 @@ Ticks (suc k) r e s outs s' =
 abbrev pub at_once : ℕ
 at_once = 64
 
--- First the timers of each tunnel, by rising number, do what they ask for (RFC 2661 sections 5.5 and 5.8), and then those of sessions.
+-- The timers of the tunnel at a place do what they ask for (RFC 2661 sections 5.5 and 5.8). Where that clears it, its calls have ended.
+pub record RemindsOne (k : ℕ) (a : At) (now : ℕ) (s : State) (outs : List OutRecord) (s' : State) : Type 0 where
+  pub tunnels : TunnelsState
+  pub tells : Tells a (reminded now s.tunnels k) outs tunnels
+  pub after : s' ≡ cut_told (reminded now s.tunnels k).told (with_tunnels s tunnels)
+
+-- So do those at so many places, from this one on.
+abbrev pub Reminds : ℕ → ℕ → At → ℕ → State → List OutRecord → State → Type 0
+Reminds zero k a now s outs s' = (outs ≡ []) × (s' ≡ s)
+Reminds (suc n) k a now s outs s' =
+    (first : List OutRecord) × (next : State) × RemindsOne k a now s first next
+    × (rest : List OutRecord) × Reminds n (k + 1) a now next rest s' × (outs ≡ first ++ rest)
+
+-- First the timers of each tunnel, by rising number, and then those of sessions.
 abbrev pub HearsTick : Rules → State → Entry → Deed → Type 0
 HearsTick r s e d =
-    (first : List OutRecord) × (t : TunnelsState) × TellInTurn reminded tunnels_most 0 (at_of s e) e.moment s.tunnels first t
-    × (rest : List OutRecord) × (s' : State) × Ticks at_once r e (with_tunnels s t) rest s' × (d ≡ handled s e (first ++ rest) s')
-
--- discovery made the session, and it has not ended
-abbrev pub lives_in : Service → Bool
-lives_in (Provisioned p) = false
-lives_in (Discovered m) = not m.ended
+    (first : List OutRecord) × (next : State) × Reminds tunnels_most 0 (at_of s e) e.moment s first next
+    × (rest : List OutRecord) × (s' : State) × Ticks at_once r e next rest s' × (d ≡ handled s e (first ++ rest) s')
 
 abbrev pub does_live : Option Session → Bool
 does_live None = false
@@ -142,10 +153,15 @@ pub record IsLowest (s : State) (n : ℕ) : Type 0 where
 abbrev pub NoneStays : State → Type 0
 NoneStays s = (n : ℕ) → IsFalse (stays_at s n)
 
--- A session that discovery made is told by a PADT that it ends; a provisioned circuit is told nothing.
+-- A session that discovery made is told by a PADT that it ends; a call is told nothing, since its tunnel tells its own end, and neither is a
+-- provisioned circuit.
+abbrev pub TellsOn : Way → Rules → At → Session → List OutRecord → Type 0
+TellsOn (Port number mac) r a x outs = EndsWith r a number mac x.number outs
+TellsOn (Call c) r a x outs = outs ≡ []
+
 abbrev pub TellsEnd : Service → Rules → At → Session → List OutRecord → Type 0
 TellsEnd (Provisioned p) r a x outs = outs ≡ []
-TellsEnd (Discovered m) r a x outs = EndsWith r a x outs
+TellsEnd (Discovered m) r a x outs = TellsOn x.way r a x outs
 
 -- So many sessions at most end, by rising number.
 abbrev pub Ends : ℕ → Rules → Entry → State → List OutRecord → State → Type 0

@@ -13,9 +13,9 @@ use Rattle.bng_shard.specs.declared.meters.Plan.{Plan}
 use Rattle.bng_shard.specs.declared.rules.Rules.{Rules}
 use Rattle.bng_shard.specs.declared.session.Lease.{Lease}
 use Rattle.bng_shard.specs.declared.session.Session.{Session}
-use Rattle.bng_shard.specs.State.{State, circuit_of, with_driven}
+use Rattle.bng_shard.specs.State.{Beside, State, circuit_of, with_driven}
 use Rattle.bng_shard.specs.Tenures.{Tenure}
-use Rattle.bng_shard.specs.Deed.{Deed, at_of, handled, ignored}
+use Rattle.bng_shard.specs.Deed.{Deed, at_of, beside_of, handled, ignored}
 use Rattle.bng_shard.specs.Link.{Drives, Told, settles}
 use Rattle.bng_shard.specs.Metered.{meters_of}
 use Rattle.bng_shard.specs.Passing.{place_in}
@@ -40,8 +40,8 @@ next_term s x q plan class moment a = record {
 }
 
 -- the state once a term has begun, by this lease and with these meters, of the session that is so after a step of its link
-abbrev pub with_term : State → ℕ → Session → ℕ → Lease → Tenure → Meters → State
-with_term s n x asked l t ms = record (with_driven s n None None (record x { lease = Some l }) asked) {
+abbrev pub with_term : State → ℕ → Session → Beside → Lease → Tenure → Meters → State
+with_term s n x beside l t ms = record (with_driven s n None None (record x { lease = Some l }) beside) {
   begun = s.begun + 1;
   terms = s.terms ++ t ∷ [];
   news = s.news ++ t ∷ [];
@@ -49,9 +49,9 @@ with_term s n x asked l t ms = record (with_driven s n None None (record x { lea
 }
 
 -- A term begins where the peer is accepted with an address, and else none does. Its meters start full then.
-abbrev pub settled_by : State → ℕ → Session → Question → Told → ℕ → Session → ℕ → Option Ip4 → State
-settled_by s n x q t moment x' asked None = with_driven s n None None x' asked
-settled_by s n x q t moment x' asked (Some a) = with_term s n x' asked (next_lease s t.plan t.limits moment a) (next_term s x q t.plan t.class moment a) (meters_of t.plan moment)
+abbrev pub settled_by : State → ℕ → Session → Question → Told → ℕ → Session → Beside → Option Ip4 → State
+settled_by s n x q t moment x' beside None = with_driven s n None None x' beside
+settled_by s n x q t moment x' beside (Some a) = with_term s n x' beside (next_lease s t.plan t.limits moment a) (next_term s x q t.plan t.class moment a) (meters_of t.plan moment)
 
 -- the session that the item names has an open question, and no live term, and is told what was found
 pub record Judges (r : Rules) (s : State) (e : Entry) (t : Told) (d : Deed) : Type 0 where
@@ -62,10 +62,10 @@ pub record Judges (r : Rules) (s : State) (e : Entry) (t : Told) (d : Deed) : Ty
   pub asks : open_of x ≡ Some question
   pub outs : List OutRecord
   pub after : Session
-  pub asked : ℕ
+  pub beside : Beside
   pub cause : Option ℕ
-  pub drives : Drives r (at_of s e) s.asked x (settles r e t) outs cause after asked
-  pub done : d ≡ handled s e outs (settled_by s e.item.target x question t e.moment after asked t.lease)
+  pub drives : Drives r (at_of s e) (beside_of s e) x (settles r e t) outs cause after beside
+  pub done : d ≡ handled s e outs (settled_by s e.item.target x question t e.moment after beside t.lease)
 
 -- The item names a session and a question by their numbers, and has the octets of a reply. Where that question of that session is
 -- open, and the octets say something, the session's link is told what they come to. Else nothing happens.

@@ -10,7 +10,7 @@ ghost use Rattle.bng_shard.specs.Doing.{DoesWith};
 ghost use Rattle.bng_shard.specs.Fits.{ArePlaced};
 ghost use Rattle.bng_shard.specs.Link.{admin_reset};
 ghost use Rattle.bng_shard.specs.Running.{whole, KeepSums};
-ghost use Rattle.bng_shard.specs.State.{with_session};
+ghost use Rattle.bng_shard.specs.State.{beside_at, with_session};
 ghost use Rattle.bng_shard.specs.Timed.{LostTerm};
 ghost use Rattle.bng_shard.specs.Timers.{stays_at};
 ghost use Rattle.bng_shard.specs.declared.changes.Answer.{Answer as AnswerOf};
@@ -172,14 +172,22 @@ fn disconnect(
     requires stays { stays_at served.old meant.now.term.session.0 ≡ true }
     requires room { length outs.old.items + 5 ≤ outs.old.room }
     ensures sums { KeepSums terms.old terms.new }
-    ensures lost { (x : Seen) → value_at served.old.sessions meant.now.term.session.0 ≡ Some x → (x' : Seen) × (asked : ℕ) × (served.new ≡ record (with_session served.old meant.now.term.session.0 x') { asked = asked })
-        × LostTerm x.service admin_reset incoming.now.rules.now incoming.now.at incoming.now.moment incoming.now.item.now.random served.old.asked x x' asked terms.old terms.new outs.old.items outs.new.items }
+    ensures lost { (x : Seen) → value_at served.old.sessions meant.now.term.session.0 ≡ Some x → (x' : Seen) × (asked : ℕ) × (served.new ≡ record (with_session served.old meant.now.term.session.0 x') { asked = asked; tunnels = served.new.tunnels })
+        × LostTerm x.service admin_reset incoming.now.rules.now incoming.now.at incoming.now.moment incoming.now.item.now.random (beside_at incoming.now.moment served.old.asked served.old.tunnels) x x' (beside_at incoming.now.moment asked served.new.tunnels) terms.old terms.new outs.old.items outs.new.items }
     ensures capacity { outs.new.room ≡ outs.old.room }
     ensures few { length outs.new.items ≤ length outs.old.items + 5 }
 {
     let mut session = served.take(meant.term.session);
     let asked = served.asked();
-    let asked = end_term(&mut session, terms, asked, ADMIN_RESET, incoming, outs);
+    let asked = end_term(
+        served,
+        &mut session,
+        terms,
+        asked,
+        ADMIN_RESET,
+        incoming,
+        outs,
+    );
     served.put(session);
     served.count_asked(asked);
 }

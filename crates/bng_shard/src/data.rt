@@ -1,28 +1,32 @@
 //! Packets of the sessions' terms: from a circuit to the core, and from the core to a circuit.
-ghost use Rattle.std.specs.Prelude.{◌≡◌, ◌<◌, ◌^◌, ℕ, List, length, option_map};
+ghost use Rattle.std.specs.Prelude.{◌≡◌, ◌<◌, ◌≤◌, ◌^◌, ℕ, List, length, option_map};
 ghost use Rattle.std.specs.List.{list_any};
 ghost use Rattle.std.specs.Option.{option_copied};
 ghost use Rattle.bng_base.specs.FateOf.{arrival_of};
 ghost use Rattle.bng_pppoe_wire.specs.View.{frame_of};
 ghost use Rattle.bng_forward.specs.Fates.{Carries, IsCorePacket, IsFrame};
 ghost use Rattle.bng_shard.specs.Doing.{DoesWith};
-ghost use Rattle.bng_shard.specs.Fits.{ArePlaced};
-ghost use Rattle.bng_shard.specs.Frames.{charge_of as charged_to, found_among, HearsCore, HearsData, HearsPacket};
+ghost use Rattle.bng_shard.specs.Fits.{ArePlaced, IsPlaced};
+ghost use Rattle.bng_shard.specs.Frames.{charge_of as charged_to, found_among, HearsCore, HearsData, HearsPacket, SentDown};
 ghost use Rattle.bng_shard.specs.Metered.{kept_view, meters_found, view_in};
 ghost use Rattle.bng_shard.specs.Running.{AreTied, tenures_in, whole};
+ghost use Rattle.bng_shard.specs.State.{session_at, session_of};
 ghost use Rattle.bng_shard.specs.Tenures.{has_kept};
 
 use crate::drive::port_of;
 use crate::incoming::Incoming;
 use crate::meters::Meters;
+use crate::rules::Rules;
 use crate::sending::push_out;
 use crate::served::Served;
-use crate::session::{Lease, Session};
+use crate::session::{Lease, PPPOE_MRU, Session};
 use crate::terms::Terms;
+use crate::way::Way;
 use bng_base::{
-    Batch, Charge, Circuit, DropCause, Fate, Frame, Ip4, Ipv4, OutRecord, Role, SessionNo, TermId,
+    Batch, Charge, DropCause, Fate, Frame, Ip4, Ipv4, OutRecord, Peer, Role, SessionNo, TermId,
 };
 use bng_forward::{Arrived, TermView, down, packet_from, put_in_frame, take_from_frame, up};
+use bng_lns::put_in_call;
 use bng_pppoe_wire::Pppoe;
 
 // Whose packet it is: the session's term.
@@ -35,11 +39,7 @@ fn charge_of(session: &Session, lease: Lease, input: bool, octets: u16) -> Charg
             serial: lease.serial,
         },
         profile: lease.profile,
-        circuit: Circuit::Pppoe {
-            port: session.port,
-            mac: session.mac,
-            session: session.number,
-        },
+        circuit: session.own_circuit(),
         address: lease.address,
         input,
         octets,
@@ -86,6 +86,7 @@ fn kept_view(terms: &Terms, address: Ip4) -> Option<TermView>
         Some(TermView {
             lease: address,
             opened: false,
+            mru: PPPOE_MRU,
             input: None,
             output: None,
         })
@@ -104,32 +105,25 @@ fn meters_found(found: Option<Option<TermView>>) -> Meters
     }
 }
 
-/// Handles a frame that came to the port with this number and carries an IPv4 packet of so many octets.
-pub(crate) fn hear_data(
+/// Handles the IPv4 packet of a circuit, for which the session with this number was found, if there is one.
+pub(crate) fn pass_up(
     served: &mut Served,
     terms: &Terms,
     incoming: &Incoming<'_>,
-    number: u8,
-    frame: &Pppoe<'_>,
-    size: usize,
+    number: Option<SessionNo>,
+    packet: &mut Frame,
     outs: &mut Batch<OutRecord>,
 ) -> Fate
     requires moment { incoming.now.moment < 2 ^ 60 }
-    requires whole { incoming.now.item.now.frame.headroom ≡ 64 }
     requires here { incoming.now.at.shard ≡ served.old.sessions.shard }
     requires tied { AreTied served.old.sessions (tenures_in terms.now.rows) }
     requires room { length outs.old.items < outs.old.room }
-    requires came { IsFrame incoming.now.rules.now.access number (arrival_of incoming.now.item.now) (frame_of frame.now) }
-    requires carries { (info : List ℕ) × Carries (frame_of frame.now) info × (length info ≡ size) }
-    ensures does { (info : List ℕ) → Carries (frame_of frame.now) info → DoesWith (λ e d. HearsData incoming.now.rules.now (whole served.old terms.now) e number (frame_of frame.now) info d) 1 (whole served.old terms.now) (whole served.new terms.now) outs.old.items outs.new.items incoming.now.at incoming.now.moment incoming.now.item.now result }
+    ensures does { DoesWith (λ e d. HearsData incoming.now.rules.now (whole served.old terms.now) e (session_at served.old number) packet.old.payload d) 1 (whole served.old terms.now) (whole served.new terms.now) outs.old.items outs.new.items incoming.now.at incoming.now.moment incoming.now.item.now result }
     ensures capacity { outs.new.room ≡ outs.old.room }
 {
-    let session = served.session_of(number, frame.src, SessionNo(frame.session));
-    let mut packet = Frame::new();
-    packet.copy_from(&incoming.item.frame);
-    take_from_frame(&mut packet, size);
+    let session = served.session_at(number);
     let mut found = found_for(served, session);
-    let fate = up(&mut found, incoming.moment, &mut packet);
+    let fate = up(&mut found, incoming.moment, packet);
     let Fate::Forwarded = fate else {
         return fate;
     };
@@ -143,8 +137,55 @@ pub(crate) fn hear_data(
     let charge = charge_of(session, lease, true, octets);
     served.note_passed(charge.term.session, incoming.moment, meters_found(found));
     let core = incoming.rules.core_peer;
-    push_out(outs, incoming.at, Role::Core, core, &packet, Some(charge));
+    push_out(outs, incoming.at, Role::Core, core, packet, Some(charge));
     Fate::Forwarded
+}
+
+/// Handles a frame that came to the port with this number and carries an IPv4 packet of so many octets.
+pub(crate) fn hear_data(
+    served: &mut Served,
+    terms: &Terms,
+    incoming: &Incoming<'_>,
+    number: u8,
+    frame: &Pppoe<'_>,
+    size: usize,
+    outs: &mut Batch<OutRecord>,
+) -> Fate
+    requires moment { incoming.now.moment < 2 ^ 60 }
+    requires here { incoming.now.at.shard ≡ served.old.sessions.shard }
+    requires tied { AreTied served.old.sessions (tenures_in terms.now.rows) }
+    requires room { length outs.old.items < outs.old.room }
+    requires came { IsFrame incoming.now.rules.now.access number (arrival_of incoming.now.item.now) (frame_of frame.now) }
+    requires carries { (info : List ℕ) × Carries (frame_of frame.now) info × (length info ≡ size) }
+    ensures does { (info : List ℕ) → Carries (frame_of frame.now) info → DoesWith (λ e d. HearsData incoming.now.rules.now (whole served.old terms.now) e (session_of served.old number frame.now.src frame.now.session) info d) 1 (whole served.old terms.now) (whole served.new terms.now) outs.old.items outs.new.items incoming.now.at incoming.now.moment incoming.now.item.now result }
+    ensures capacity { outs.new.room ≡ outs.old.room }
+{
+    let session = served.numbered_on(number, frame.src, SessionNo(frame.session));
+    let mut packet = Frame::new();
+    packet.copy_from(&incoming.item.frame);
+    take_from_frame(&mut packet, size);
+    pass_up(served, terms, incoming, session, &mut packet, outs)
+}
+
+// Makes of a packet what goes out on the way of a session, and answers where it goes.
+fn put_on_way(rules: &Rules, session: &Session, packet: &mut Frame) -> (Role, Peer)
+    requires placed { IsPlaced rules.now session.now.way }
+    requires room { 22 ≤ packet.old.headroom }
+    ensures { SentDown session.now.way rules.now session.now.number.0 packet.old.payload result.0 result.1 packet.new.payload }
+{
+    match &session.way {
+        Way::Port { port, mac } => {
+            let Some(found) = port_of(rules, *port) else {
+                unreachable!();
+            };
+            put_in_frame(&found, *mac, session.number, packet);
+            (Role::Access(*port), found.peer)
+        }
+        Way::Call(called) => {
+            put_in_call(called.far, called.far_session(), packet);
+            (Role::Tunnel, called.peer)
+        }
+    }
 }
 
 // Handles a packet of the core that says this.
@@ -179,18 +220,14 @@ fn hear_packet(
     let Some(lease) = session.lease() else {
         unreachable!();
     };
-    let Some(port) = port_of(incoming.rules, session.port) else {
-        unreachable!();
-    };
-    put_in_frame(&port, session.mac, session.number, &mut packet);
+    let (role, to) = put_on_way(incoming.rules, session, &mut packet);
     let charge = charge_of(session, lease, false, header.total);
-    let role = Role::Access(session.port);
     served.note_passed(
         charge.term.session,
         incoming.moment,
         Meters::from_view(view),
     );
-    push_out(outs, incoming.at, role, port.peer, &packet, Some(charge));
+    push_out(outs, incoming.at, role, to, &packet, Some(charge));
     Fate::Forwarded
 }
 

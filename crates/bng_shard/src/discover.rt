@@ -12,7 +12,7 @@ ghost use Rattle.bng_ppp.specs.PppRelation.{PppSteps};
 ghost use Rattle.std.specs.Prelude.{ℕ, None as Nothing, Option as Maybe};
 ghost use Rattle.bng_shard.specs.Running.{TermsView, whole};
 ghost use Rattle.bng_shard.specs.Serving.{KeepsLease};
-ghost use Rattle.bng_shard.specs.State.{port_at, with_driven};
+ghost use Rattle.bng_shard.specs.State.{beside_at, port_at, with_driven, Beside};
 ghost use Rattle.bng_slots.specs.Sessions.{IsLowestVacant};
 
 use crate::answering::{Reply, reply_to};
@@ -22,6 +22,7 @@ use crate::incoming::Incoming;
 use crate::replies::{send_offer, send_refusal, send_session};
 use crate::served::Served;
 use crate::session::{Made, Service, Session};
+use crate::way::Way;
 use arrayvec::ArrayVec;
 use bng_base::{Batch, Fate, Mac, OutRecord, SessionNo};
 use bng_ppp::{LinkKind, WholeInput, WholeLink};
@@ -63,8 +64,7 @@ fn new_session(
 {
     Session {
         number,
-        port,
-        mac,
+        way: Way::Port { port, mac },
         service: Service::Discovered(Made {
             host_uniq: kept(asked),
             link: WholeLink::new(LinkKind::Pppoe, random, now),
@@ -91,14 +91,15 @@ fn make(
     requires offers { length incoming.now.rules.now.offers ≡ length incoming.now.rules.now.access }
     requires placed { (port : Port) × (port_at incoming.now.rules.now.access number ≡ Some port) }
     requires tags { (ts : List PppoeTag) × AreTags ts frame.now.payload.now × (length ts ≤ 64) × IfSome (host_uniq_of ts) (λ h. length h ≤ 64) }
-    ensures made { (ts : List PppoeTag) → AreTags ts frame.now.payload.now → (new : Seen) × (x : Seen) × (cause : Maybe ℕ) × (asked : ℕ) × IsNewSession session.0 number frame.now.src (host_uniq_of ts) incoming.now.item.now.random new × Driven incoming.now.rules.now incoming.now.at (PppSteps incoming.now.rules.now.link WholeInput.Start incoming.now.moment incoming.now.item.now.random) served.old.asked new cause x asked outs.old.items outs.new.items × ((t : TermsView) → whole served.new t ≡ with_driven (whole served.old t) session.0 Nothing cause x asked) }
+    ensures made { (ts : List PppoeTag) → AreTags ts frame.now.payload.now → (new : Seen) × (x : Seen) × (cause : Maybe ℕ) × (after : Beside) × IsNewSession session.0 number frame.now.src (host_uniq_of ts) incoming.now.item.now.random new × Driven incoming.now.rules.now incoming.now.at (PppSteps incoming.now.rules.now.link WholeInput.Start incoming.now.moment incoming.now.item.now.random) (beside_at incoming.now.moment served.old.asked served.old.tunnels) new cause x after outs.old.items outs.new.items × ((t : TermsView) → whole served.new t ≡ with_driven (whole served.old t) session.0 Nothing cause x after) }
     ensures capacity { outs.new.room ≡ outs.old.room }
     ensures few { length outs.new.items ≤ length outs.old.items + 5 }
 {
     let wanted = host_uniq(frame);
     let random = &incoming.item.random;
     let mut made = new_session(session, number, frame.src, wanted, random, incoming.moment);
-    let (asked, _cause) = drive(&mut made, served.asked(), incoming, WholeInput::Start, outs);
+    let asked = served.asked();
+    let (asked, _cause) = drive(served, &mut made, asked, incoming, WholeInput::Start, outs);
     served.put(made);
     served.count_asked(asked);
 }

@@ -1,24 +1,30 @@
 //! What a step of a session's link sends.
-ghost use Rattle.std.specs.Prelude.{◌≡◌, List, Some, true, ◌+◌, ◌<◌, ◌≤◌, ◌^◌, ◌++◌, IfSome, IfNone, None as Nothing, length};
+ghost use Rattle.std.specs.Prelude.{◌≡◌, ℕ, List, Some, true, ◌+◌, ◌<◌, ◌≤◌, ◌^◌, ◌++◌, IfSome, IfNone, None as Nothing, length};
 ghost use Rattle.bng_base.specs.PppoeGrammar.{PppoeFrame, pppoe_text};
 ghost use Rattle.bng_pppoe_wire.specs.View.{frame_of};
 ghost use Rattle.bng_ppp.specs.PppRelation.{PppSteps};
 ghost use Rattle.bng_ppp.specs.Said.{payloads};
 ghost use Rattle.bng_base.specs.declared.item.OutRecord.{OutRecord as OutRecordOf};
 ghost use Rattle.bng_base.specs.declared.settings.AccessPort.{AccessPort as Port};
-ghost use Rattle.bng_shard.specs.State.{made_one, offers_at, port_at};
+ghost use Rattle.bng_shard.specs.State.{beside_at, made_one, offers_at, port_at, with_tunnels};
 ghost use Rattle.bng_shard.specs.Serving.{KeepsLease};
 ghost use Rattle.bng_shard.specs.Deed.{has_macs, frame_outs};
-ghost use Rattle.bng_shard.specs.Link.{ppp_outs, EndsWith};
-ghost use Rattle.bng_discovery.specs.Reply.{padt_of};
+ghost use Rattle.bng_shard.specs.Fits.{IsPlaced};
+ghost use Rattle.bng_shard.specs.Link.{call_outs, data_outs, message_outs, ppp_outs, SaysOn};
 ghost use Rattle.bng_shard.specs.Driven.{Driven, LastsOver};
 
 use crate::incoming::Incoming;
+use crate::parting::part;
 use crate::rules::Rules;
 use crate::sending::push_out;
+use crate::served::Served;
 use crate::session::Session;
-use bng_base::{AccessPort, At, Batch, Frame, HEADROOM, LONGEST, Mac, OutRecord, Role, Written};
-use bng_discovery::{PortRules, terminate};
+use crate::way::{Called, Way};
+use bng_base::{
+    AccessPort, At, Batch, Frame, HEADROOM, LONGEST, Mac, OutRecord, Peer, Role, SessionNo, Written,
+};
+use bng_discovery::PortRules;
+use bng_l2tp_wire::Data;
 use bng_ppp::{WholeInput, WholeSteps};
 use bng_pppoe_wire::{Pppoe, code};
 
@@ -92,7 +98,85 @@ pub(crate) fn push_frame(
     }
 }
 
-// Appends the frames of a session's link, each in a frame of its circuit (RFC 2516 section 6).
+// Appends the frames of the session with this number, each in a frame to the MAC of its subscriber (RFC 2516 section 6).
+fn send_at(
+    rules: &Rules,
+    at: At,
+    number: u8,
+    mac: Mac,
+    session: SessionNo,
+    frames: &[Frame],
+    outs: &mut Batch<OutRecord>,
+)
+    requires few { length frames.now ≤ 4 }
+    requires placed { (port : Port) × (port_at rules.now.access number ≡ Some port) }
+    requires room { length outs.old.items + 4 ≤ outs.old.room }
+    ensures items { (port : Port) → port_at rules.now.access number ≡ Some port → outs.new.items ≡ outs.old.items ++ ppp_outs at number mac session port (payloads frames.now) }
+    ensures capacity { outs.new.room ≡ outs.old.room }
+    ensures few { length outs.new.items ≤ length outs.old.items + 4 }
+{
+    let Some(port) = port_of(rules, number) else {
+        unreachable!();
+    };
+    for frame in frames {
+        let wrapped = Pppoe {
+            dst: mac,
+            src: port.mac,
+            discovery: false,
+            code: code::SESSION_DATA,
+            session: session.0,
+            payload: frame.payload(),
+        };
+        push_frame(outs, at, number, &port, &wrapped);
+    }
+}
+
+// Appends a data message that was written, to the peer of a call's tunnel.
+fn push_message(outs: &mut Batch<OutRecord>, at: At, to: Peer, message: &Frame)
+    requires room { length outs.old.items < outs.old.room }
+    requires whole { message.now.headroom ≡ HEADROOM }
+    ensures items { (octets : List ℕ) → message.now.payload ≡ octets → outs.new.items ≡ outs.old.items ++ message_outs at to octets }
+    ensures capacity { outs.new.room ≡ outs.old.room }
+    ensures few { length outs.new.items ≤ length outs.old.items + 1 }
+{
+    let octets = message.payload().len();
+    prove!(octets <= LONGEST);
+    push_out(outs, at, Role::Tunnel, to, message, None);
+}
+
+// Appends a PPP frame of a call to the peer of its tunnel, where a datagram holds it (RFC 2661 section 3.1).
+fn push_data(outs: &mut Batch<OutRecord>, at: At, called: &Called, ppp: &[u8])
+    requires room { length outs.old.items < outs.old.room }
+    ensures items { outs.new.items ≡ outs.old.items ++ data_outs at called.now ppp.now }
+    ensures capacity { outs.new.room ≡ outs.old.room }
+    ensures few { length outs.new.items ≤ length outs.old.items + 1 }
+{
+    let message = Data {
+        tunnel: called.far,
+        session: called.far_session(),
+        ppp,
+    };
+    let mut fresh = Frame::new();
+    match message.write(&mut fresh) {
+        Written::Done => push_message(outs, at, called.peer, &fresh),
+        Written::Full => {}
+    }
+}
+
+// Appends the frames of a call's link, each in a data message.
+fn send_over(at: At, called: &Called, frames: &[Frame], outs: &mut Batch<OutRecord>)
+    requires few { length frames.now ≤ 4 }
+    requires room { length outs.old.items + 4 ≤ outs.old.room }
+    ensures items { outs.new.items ≡ outs.old.items ++ call_outs at called.now (payloads frames.now) }
+    ensures capacity { outs.new.room ≡ outs.old.room }
+    ensures few { length outs.new.items ≤ length outs.old.items + 4 }
+{
+    for frame in frames {
+        push_data(outs, at, called, frame.payload());
+    }
+}
+
+// Appends the frames of a session's link, on the session's way.
 fn send_frames(
     rules: &Rules,
     at: At,
@@ -101,69 +185,23 @@ fn send_frames(
     outs: &mut Batch<OutRecord>,
 )
     requires few { length frames.now ≤ 4 }
-    requires placed { (port : Port) × (port_at rules.now.access session.now.port ≡ Some port) }
+    requires placed { IsPlaced rules.now session.now.way }
     requires room { length outs.old.items + 4 ≤ outs.old.room }
-    ensures items { (port : Port) → port_at rules.now.access session.now.port ≡ Some port → outs.new.items ≡ outs.old.items ++ ppp_outs at session.now port (payloads frames.now) }
+    ensures told { (first : List OutRecordOf) × SaysOn session.now.way rules.now at session.now.number (payloads frames.now) first × (outs.new.items ≡ outs.old.items ++ first) }
     ensures capacity { outs.new.room ≡ outs.old.room }
     ensures few { length outs.new.items ≤ length outs.old.items + 4 }
 {
-    let Some(port) = port_of(rules, session.port) else {
-        unreachable!();
-    };
-    for frame in frames {
-        let wrapped = Pppoe {
-            dst: session.mac,
-            src: port.mac,
-            discovery: false,
-            code: code::SESSION_DATA,
-            session: session.number.0,
-            payload: frame.payload(),
-        };
-        push_frame(outs, at, session.port, &port, &wrapped);
+    match &session.way {
+        Way::Port { port, mac } => send_at(rules, at, *port, *mac, session.number, frames, outs),
+        Way::Call(called) => send_over(at, called, frames, outs),
     }
 }
 
-// Appends the PADT of a session to a host of the port (RFC 2516 section 5.5).
-fn push_padt(
-    outs: &mut Batch<OutRecord>,
-    at: At,
-    session: &Session,
-    port: &AccessPort,
-    offers: &PortRules,
-)
-    requires room { length outs.old.items < outs.old.room }
-    ensures items { outs.new.items ≡ outs.old.items ++ frame_outs at session.now.port port.now (padt_of offers.now session.now.mac session.now.number.0) }
-    ensures capacity { outs.new.room ≡ outs.old.room }
-    ensures few { length outs.new.items ≤ length outs.old.items + 1 }
-{
-    between(session.mac, offers.mac);
-    let mut padt = Frame::new();
-    terminate(session.mac, offers, session.number, &mut padt);
-    push_written(outs, at, session.port, port, &padt);
-}
-
-/// Appends the PADT of a session (RFC 2516 section 5.5).
-pub(crate) fn send_padt(rules: &Rules, at: At, session: &Session, outs: &mut Batch<OutRecord>)
-    requires offers { length rules.now.offers ≡ length rules.now.access }
-    requires placed { (port : Port) × (port_at rules.now.access session.now.port ≡ Some port) }
-    requires room { length outs.old.items < outs.old.room }
-    ensures items { (padt : List OutRecordOf) × EndsWith rules.now at session.now padt × (outs.new.items ≡ outs.old.items ++ padt) }
-    ensures capacity { outs.new.room ≡ outs.old.room }
-    ensures few { length outs.new.items ≤ length outs.old.items + 1 }
-{
-    let Some(port) = port_of(rules, session.port) else {
-        unreachable!();
-    };
-    let Some(offers) = offers_of(rules, session.port) else {
-        unreachable!();
-    };
-    push_padt(outs, at, session, &port, offers);
-}
-
 /// Tells a session's link an input and appends what goes out for it; so many questions had been asked in its shard. Where LCP
-/// finished the session has ended, and its PADT stands last. Answers how many questions were asked then, and the cause, where the step
+/// finished the session has ended, and last its way is told so. Answers how many questions were asked then, and the cause, where the step
 /// ended the session's live term.
 pub(crate) fn drive(
+    served: &mut Served,
     session: &mut Session,
     asked: u64,
     incoming: &Incoming<'_>,
@@ -173,12 +211,13 @@ pub(crate) fn drive(
     requires moment { incoming.now.moment < 2 ^ 60 }
     requires auth { 0 < length incoming.now.rules.now.link.auth.items }
     requires offers { length incoming.now.rules.now.offers ≡ length incoming.now.rules.now.access }
-    requires placed { (port : Port) × (port_at incoming.now.rules.now.access session.old.port ≡ Some port) }
+    requires placed { IsPlaced incoming.now.rules.now session.old.way }
     requires made { made_one session.old.service ≡ 1 }
     requires leased { KeepsLease session.old.service session.old.lease }
     requires lasts { LastsOver input session.old.lease }
     requires room { length outs.old.items + 5 ≤ outs.old.room }
-    ensures driven { Driven incoming.now.rules.now incoming.now.at (PppSteps incoming.now.rules.now.link input.entry incoming.now.moment incoming.now.item.now.random) asked session.old result.1 session.new result.0 outs.old.items outs.new.items }
+    ensures driven { Driven incoming.now.rules.now incoming.now.at (PppSteps incoming.now.rules.now.link input.entry incoming.now.moment incoming.now.item.now.random) (beside_at incoming.now.moment asked served.old.tunnels) session.old result.1 session.new (beside_at incoming.now.moment result.0 served.new.tunnels) outs.old.items outs.new.items }
+    ensures others { served.new ≡ with_tunnels served.old served.new.tunnels }
     ensures leased { KeepsLease session.new.service session.new.lease }
     ensures number { session.new.number ≡ session.old.number }
     ensures capacity { outs.new.room ≡ outs.old.room }
@@ -197,7 +236,7 @@ pub(crate) fn drive(
     );
     send_frames(rules, incoming.at, session, steps.outs(), outs);
     if steps.finished {
-        send_padt(rules, incoming.at, session, outs);
+        part(served, session, incoming, outs);
     }
     (asked, steps.term_ended)
 }

@@ -11,7 +11,7 @@ ghost use Rattle.bng_shard.specs.Link.{ended, user_request};
 ghost use Rattle.bng_ppp.specs.PppRelation.{PppSteps};
 ghost use Rattle.std.specs.Prelude.{ℕ, Option as Maybe};
 ghost use Rattle.bng_shard.specs.Running.{whole, KeepSums};
-ghost use Rattle.bng_shard.specs.State.{session_of, with_driven, with_ended};
+ghost use Rattle.bng_shard.specs.State.{beside_at, session_of, with_driven, with_ended, Beside};
 ghost use Rattle.bng_shard.specs.Timers.{lives_at};
 ghost use Rattle.bng_slots.specs.Sessions.{value_at};
 
@@ -55,13 +55,14 @@ pub(crate) fn drive_at(
     requires lasts { (x : Seen) → value_at served.old.sessions number.0 ≡ Some x → LastsOver input x.lease }
     requires room { length outs.old.items + 5 ≤ outs.old.room }
     ensures sums { KeepSums terms.old terms.new }
-    ensures driven { (x : Seen) → value_at served.old.sessions number.0 ≡ Some x → (x' : Seen) × (cause : Maybe ℕ) × (asked : ℕ) × Driven incoming.now.rules.now incoming.now.at (PppSteps incoming.now.rules.now.link input.entry incoming.now.moment incoming.now.item.now.random) served.old.asked x cause x' asked outs.old.items outs.new.items × (whole served.new terms.new ≡ with_driven (whole served.old terms.old) number.0 x.lease cause x' asked) }
+    ensures driven { (x : Seen) → value_at served.old.sessions number.0 ≡ Some x → (x' : Seen) × (cause : Maybe ℕ) × (after : Beside) × Driven incoming.now.rules.now incoming.now.at (PppSteps incoming.now.rules.now.link input.entry incoming.now.moment incoming.now.item.now.random) (beside_at incoming.now.moment served.old.asked served.old.tunnels) x cause x' after outs.old.items outs.new.items × (whole served.new terms.new ≡ with_driven (whole served.old terms.old) number.0 x.lease cause x' after) }
     ensures capacity { outs.new.room ≡ outs.old.room }
     ensures few { length outs.new.items ≤ length outs.old.items + 5 }
 {
     let mut session = served.take(number);
     let lease = session.lease();
-    let (asked, cause) = drive(&mut session, served.asked(), incoming, input, outs);
+    let asked = served.asked();
+    let (asked, cause) = drive(served, &mut session, asked, incoming, input, outs);
     terms.close(lease, cause);
     served.put(session);
     served.count_asked(asked);
@@ -69,7 +70,7 @@ pub(crate) fn drive_at(
 
 // What a frame that names a session is to do.
 #[derive(Clone, Copy, PartialEq, Eq, Debug)]
-enum Control {
+pub(crate) enum Control {
     /// There is no such session.
     Unknown,
     /// It is ignored.

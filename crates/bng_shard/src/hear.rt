@@ -126,7 +126,7 @@ pub(crate) fn hear(
     match incoming.item.kind {
         ItemKind::Access(number) => hear_access(served, terms, incoming, number, outs),
         ItemKind::Core => hear_core(served, terms, incoming, outs),
-        ItemKind::Tunnel => hear_tunnel(served, incoming, outs),
+        ItemKind::Tunnel => hear_tunnel(served, terms, incoming, outs),
         ItemKind::Verdict => hear_verdict(served, terms, incoming, claim, limited, outs),
         ItemKind::Change => hear_change(served, terms, incoming, answers, outs),
         ItemKind::Tick => {

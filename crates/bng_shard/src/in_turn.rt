@@ -1,13 +1,18 @@
 //! What the tunnels of a shard tell their peers by themselves, one after another (RFC 2661 sections 5.5, 5.8 and 6.4).
 ghost use Rattle.std.specs.Prelude.{◌≡◌, ◌+◌, ◌<◌, ◌≤◌, ◌++◌, length};
 ghost use Rattle.bng_l2tp_tunnel.specs.View.{payloads};
-ghost use Rattle.bng_lns.specs.Timed.{reminded, stopped};
-ghost use Rattle.bng_shard.specs.L2tp.{tunnel_outs};
+ghost use Rattle.bng_lns.specs.Timed.{stopped};
+ghost use Rattle.bng_shard.specs.declared.rules.Rules.{Rules as RulesOf};
+ghost use Rattle.bng_shard.specs.Deed.{tunnel_outs};
+ghost use Rattle.bng_shard.specs.Fits.{ArePlaced};
+ghost use Rattle.bng_shard.specs.Running.{whole, KeepSums};
 ghost use Rattle.bng_shard.specs.State.{with_tunnels};
-ghost use Rattle.bng_shard.specs.Timed.{ToldInTurn, ToldOnce};
+ghost use Rattle.bng_shard.specs.Timed.{RemindedAt, RemindedInTurn, ToldInTurn, ToldOnce};
 
+use crate::cutting::cut_if;
 use crate::sending::push_out;
 use crate::served::Served;
+use crate::terms::Terms;
 use bng_base::{At, Batch, Frame, OutRecord, Peer, Role};
 use bng_lns::TUNNELS_MOST;
 
@@ -23,30 +28,50 @@ pub(crate) fn send_datagrams(at: At, to: Peer, frames: &[Frame], outs: &mut Batc
     }
 }
 
-// The timers of the tunnel at this place do what they ask for.
-fn remind_one(served: &mut Served, at: At, place: usize, now: u64, outs: &mut Batch<OutRecord>)
+// The timers of the tunnel at this place do what they ask for. Where that clears it, its calls have ended.
+fn remind_one(
+    served: &mut Served,
+    terms: &mut Terms,
+    at: At,
+    place: usize,
+    now: u64,
+    outs: &mut Batch<OutRecord>,
+)
     requires room { length outs.old.items + 8 ≤ outs.old.room }
-    ensures told { ToldOnce at (reminded now served.old.tunnels place) served.new.tunnels outs.old.items outs.new.items }
-    ensures others { served.new ≡ with_tunnels served.old served.new.tunnels }
+    ensures reminded { RemindedAt place at now (whole served.old terms.old) (whole served.new terms.new) outs.old.items outs.new.items }
+    ensures sums { KeepSums terms.old terms.new }
+    ensures shard { served.new.sessions.shard ≡ served.old.sessions.shard }
+    ensures placed { (r : RulesOf) → ArePlaced r served.old.sessions → ArePlaced r served.new.sessions }
     ensures capacity { outs.new.room ≡ outs.old.room }
     ensures few { length outs.new.items ≤ length outs.old.items + 8 }
 {
     match served.remind_tunnel(place, now) {
-        Some(told) => send_datagrams(at, told.peer, told.step.outs.as_slice(), outs),
+        Some(told) => {
+            send_datagrams(at, told.peer, told.step.outs.as_slice(), outs);
+            cut_if(served, terms, told.step.cleared, told.number);
+        }
         None => {}
     }
 }
 
 /// The timers of each tunnel do what they ask for, by rising number.
-pub(crate) fn remind_tunnels(served: &mut Served, at: At, now: u64, outs: &mut Batch<OutRecord>)
+pub(crate) fn remind_tunnels(
+    served: &mut Served,
+    terms: &mut Terms,
+    at: At,
+    now: u64,
+    outs: &mut Batch<OutRecord>,
+)
     requires room { length outs.old.items + 128 ≤ outs.old.room }
-    ensures told { ToldInTurn reminded at now served.old.tunnels served.new.tunnels outs.old.items outs.new.items }
-    ensures others { served.new ≡ with_tunnels served.old served.new.tunnels }
+    ensures reminded { RemindedInTurn at now (whole served.old terms.old) (whole served.new terms.new) outs.old.items outs.new.items }
+    ensures sums { KeepSums terms.old terms.new }
+    ensures shard { served.new.sessions.shard ≡ served.old.sessions.shard }
+    ensures placed { (r : RulesOf) → ArePlaced r served.old.sessions → ArePlaced r served.new.sessions }
     ensures capacity { outs.new.room ≡ outs.old.room }
     ensures few { length outs.new.items ≤ length outs.old.items + 128 }
 {
     for place in 0..TUNNELS_MOST {
-        remind_one(served, at, place, now, outs);
+        remind_one(served, terms, at, place, now, outs);
     }
 }
 

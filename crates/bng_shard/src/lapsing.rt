@@ -1,12 +1,13 @@
 //! The live term of a session ends, and its link closes.
 ghost use Rattle.std.specs.Prelude.{◌≡◌, ◌<◌, ◌≤◌, ◌+◌, ◌^◌, None as Nothing, Some, IsSome, length};
-ghost use Rattle.bng_base.specs.declared.settings.AccessPort.{AccessPort as Port};
+ghost use Rattle.bng_shard.specs.Fits.{IsPlaced};
 ghost use Rattle.bng_shard.specs.Serving.{KeepsLease};
-ghost use Rattle.bng_shard.specs.State.{port_at};
+ghost use Rattle.bng_shard.specs.State.{beside_at, with_tunnels};
 ghost use Rattle.bng_shard.specs.Timed.{ClosedLink, LostTerm};
 
 use crate::drive::drive;
 use crate::incoming::Incoming;
+use crate::served::Served;
 use crate::session::{Service, Session};
 use crate::terms::Terms;
 use bng_base::{Batch, OutRecord};
@@ -14,6 +15,7 @@ use bng_ppp::WholeInput;
 
 // The link of a session without a term takes Close, if it has one. Answers how many questions were asked then.
 fn close_link(
+    served: &mut Served,
     session: &mut Session,
     asked: u64,
     incoming: &Incoming<'_>,
@@ -22,11 +24,12 @@ fn close_link(
     requires moment { incoming.now.moment < 2 ^ 60 }
     requires auth { 0 < length incoming.now.rules.now.link.auth.items }
     requires offers { length incoming.now.rules.now.offers ≡ length incoming.now.rules.now.access }
-    requires placed { (port : Port) × (port_at incoming.now.rules.now.access session.old.port ≡ Some port) }
+    requires placed { IsPlaced incoming.now.rules.now session.old.way }
     requires leased { KeepsLease session.old.service session.old.lease }
     requires none { session.old.lease ≡ Nothing }
     requires room { length outs.old.items + 5 ≤ outs.old.room }
-    ensures closed { ClosedLink session.old.service incoming.now.rules.now incoming.now.at incoming.now.moment incoming.now.item.now.random asked session.old session.new result outs.old.items outs.new.items }
+    ensures closed { ClosedLink session.old.service incoming.now.rules.now incoming.now.at incoming.now.moment incoming.now.item.now.random (beside_at incoming.now.moment asked served.old.tunnels) session.old session.new (beside_at incoming.now.moment result served.new.tunnels) outs.old.items outs.new.items }
+    ensures others { served.new ≡ with_tunnels served.old served.new.tunnels }
     ensures leased { KeepsLease session.new.service session.new.lease }
     ensures number { session.new.number ≡ session.old.number }
     ensures capacity { outs.new.room ≡ outs.old.room }
@@ -35,7 +38,7 @@ fn close_link(
     match &session.service {
         Service::Provisioned { .. } => asked,
         Service::Discovered(_) => {
-            let (asked, _) = drive(session, asked, incoming, WholeInput::Close, outs);
+            let (asked, _) = drive(served, session, asked, incoming, WholeInput::Close, outs);
             asked
         }
     }
@@ -43,6 +46,7 @@ fn close_link(
 
 /// The live term of a session ends by this cause, and its link takes Close, if it has one. Answers how many questions were asked then.
 pub(crate) fn end_term(
+    served: &mut Served,
     session: &mut Session,
     terms: &mut Terms,
     asked: u64,
@@ -53,10 +57,11 @@ pub(crate) fn end_term(
     requires moment { incoming.now.moment < 2 ^ 60 }
     requires auth { 0 < length incoming.now.rules.now.link.auth.items }
     requires offers { length incoming.now.rules.now.offers ≡ length incoming.now.rules.now.access }
-    requires placed { (port : Port) × (port_at incoming.now.rules.now.access session.old.port ≡ Some port) }
+    requires placed { IsPlaced incoming.now.rules.now session.old.way }
     requires leased { KeepsLease session.old.service session.old.lease }
     requires room { length outs.old.items + 5 ≤ outs.old.room }
-    ensures lost { LostTerm session.old.service cause incoming.now.rules.now incoming.now.at incoming.now.moment incoming.now.item.now.random asked session.old session.new result terms.old terms.new outs.old.items outs.new.items }
+    ensures lost { LostTerm session.old.service cause incoming.now.rules.now incoming.now.at incoming.now.moment incoming.now.item.now.random (beside_at incoming.now.moment asked served.old.tunnels) session.old session.new (beside_at incoming.now.moment result served.new.tunnels) terms.old terms.new outs.old.items outs.new.items }
+    ensures others { served.new ≡ with_tunnels served.old served.new.tunnels }
     ensures leased { KeepsLease session.new.service session.new.lease }
     ensures number { session.new.number ≡ session.old.number }
     ensures capacity { outs.new.room ≡ outs.old.room }
@@ -65,5 +70,5 @@ pub(crate) fn end_term(
 {
     terms.close(session.lease(), Some(cause));
     session.lapse();
-    close_link(session, asked, incoming, outs)
+    close_link(served, session, asked, incoming, outs)
 }

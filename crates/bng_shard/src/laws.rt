@@ -6,6 +6,7 @@ ghost use Rattle.bng_engine.specs.Views.{row_keys};
 ghost use Rattle.std.specs.List.{All, AllByRecursion, AllPairs, Contains};
 ghost use Rattle.bng_base.specs.declared.address.Mac.{Mac};
 ghost use Rattle.bng_base.specs.declared.book.Profile.{Profile};
+ghost use Rattle.bng_base.specs.declared.circuit.Circuit.TheVariants.{Pppoe};
 ghost use Rattle.bng_base.specs.declared.item.OutRecord.{OutRecord};
 ghost use Rattle.bng_base.specs.declared.settings.Static.{Static};
 ghost use Rattle.bng_slots.specs.Sessions.{IsNumberOf};
@@ -17,7 +18,7 @@ ghost use Rattle.bng_shard.specs.Changes.{found_by, is_asked_for};
 ghost use Rattle.bng_shard.specs.Claiming.{IsAskedBy};
 ghost use Rattle.bng_shard.specs.Interims.{AwaitsInterims, Reports};
 ghost use Rattle.bng_shard.specs.Lasting.{AreHoused, AreTenures, BeginsByClaims, CircuitsLast};
-ghost use Rattle.bng_shard.specs.Granting.{BeginsByYes, IsGranted, IsGrantedOn, IsSound, IsYesOn, accepted_ask_at};
+ghost use Rattle.bng_shard.specs.Granting.{BeginsByYes, IsGranted, IsGrantedOn, IsGrantedOver, IsSound, IsYesOn, IsYesOver, accepted_ask_at};
 ghost use Rattle.bng_shard.specs.Opening.{opened_slots};
 ghost use Rattle.bng_shard.specs.Questions.{Asking, AsksOn, last_asking_at};
 ghost use Rattle.bng_shard.specs.Reader.{IsWhole};
@@ -99,7 +100,7 @@ pub fn requests_find_live_terms()
 
 /// A peer is told that it is accepted, by Success of CHAP (RFC 1994 section 4.2) or Authenticate-Ack of PAP (RFC 1334 section 2.2.2),
 /// only on the circuit of a session whose link asked about it, and whose question was answered by a yes before, or is answered so by
-/// this entry. No other question counts as answered by a yes. The question that a link asked last is the one before the step, or has
+/// this entry. Over a call that goes to the peer of the tunnel, and to the numbers that the peer gave the tunnel and the call. No other question counts as answered by a yes. The question that a link asked last is the one before the step, or has
 /// a number that the step gave, until the count of questions has come to its end; a step asks one question at most. It is so of each
 /// state that is sound, as a shard is at its opening and from then on.
 pub fn yeses_are_granted()
@@ -108,15 +109,16 @@ pub fn yeses_are_granted()
     ensures kept { (r : Rules) (s : State) (limited : Bool) (d : Deed) → Step r s limited d → IsSound s → IsSound d.next }
     ensures settled { (s : State) → IsSound s → IsSound (settled s) }
     ensures yes { (r : Rules) (s : State) (limited : Bool) (d : Deed) → Step r s limited d → IsSound s → (port : ℕ) (mac : Mac) (n : ℕ) (o : OutRecord) → Contains d.outs o
-        → IsYesOn port mac n o.role o.frame → IsGrantedOn s d.entry port mac n }
+        → IsYesOn port mac n o.role o.frame → IsGrantedOn s d.entry (Pppoe port mac (record { 0 = n })) n }
+    ensures yes_over { (r : Rules) (s : State) (limited : Bool) (d : Deed) → Step r s limited d → IsSound s → (o : OutRecord) → Contains d.outs o → IsYesOver o.role o.frame → IsGrantedOver s d.entry o.to o.frame }
     ensures accepted { (r : Rules) (s : State) (limited : Bool) (d : Deed) → Step r s limited d → (n ask : ℕ) → accepted_ask_at d.next n ≡ Some ask → IsGranted s d.entry n ask }
     ensures last { (r : Rules) (s : State) (limited : Bool) (d : Deed) → Step r s limited d → d.next.asked < 2 ^ 64 - 1 → (n : ℕ) (a : Asking) → last_asking_at d.next n ≡ Some a
         → (last_asking_at s n ≡ Some a) ⊎ ((s.asked < a.number.ask) × (a.number.ask ≤ d.next.asked)) }
     ensures few { (r : Rules) (s : State) (limited : Bool) (d : Deed) → Step r s limited d → d.next.asked ≤ s.asked + 1 }
 {}
 
-/// A link asks only by a frame of its session. The question that a link asked last is the one of before, or the step's entry is a frame
-/// of the session's circuit, and the question is about that circuit and claims what stands in the frame: the Peer-ID and the Password of
+/// A link asks only by a PPP frame of its session. The question that a link asked last is the one of before, or the step's entry carries a
+/// PPP frame of the session's circuit, and the question is about that circuit and claims what stands in the frame: the Peer-ID and the Password of
 /// an Authenticate-Request (RFC 1334 section 2.2.1), or the Name and the Value of a Response to the Challenge that the link had sent
 /// (RFC 1994 section 4.1). Until the count of questions has come to its end, a last question with a number of before is the same
 /// question.

@@ -1,14 +1,16 @@
-//! One shard of the gateway: the sessions that discovery made, the provisioned circuits and the L2TP tunnels of its numbers, stepped one
-//! item at a time. `Shard::step` is a step of the protocol of `specs/Step.antt` (PPPoE discovery by RFC 2516, PPP by RFC 1661, the peer's
-//! authentication by RFC 1334 and RFC 1994, forwarding by RFC 791, tunnels by RFC 2661), and appends one entry to the journal of the round.
-//! An Access-Accept begins a term of a session, with an address of a pool. The term ends with the link, by a PADT, by its timeouts, by a
-//! Disconnect-Request (RFC 5176) or by an End; a CoA-Request changes its profile and its timeouts. `whose_is` says which shard an item is
-//! for. `open` and `prepare` alone take memory.
+//! One shard of the gateway: the sessions that discovery made, the provisioned circuits, and the L2TP tunnels of its numbers with their
+//! calls, stepped one item at a time. `Shard::step` is a step of the protocol of `specs/Step.antt` (PPPoE discovery by RFC 2516, PPP by RFC
+//! 1661, the peer's authentication by RFC 1334 and RFC 1994, forwarding by RFC 791, tunnels and calls by RFC 2661), and appends one entry to
+//! the journal of the round. An Access-Accept begins a term of a session, with an address of a pool, and the term ends with the link, by a
+//! PADT, with its call, by its timeouts, by a Disconnect-Request (RFC 5176) or by an End; a CoA-Request changes its profile and its timeouts.
+//! `whose_is` says which shard an item is for. `open` and `prepare` alone take memory.
 #![tactic(auto)]
 
 mod answering;
+mod calls;
 mod changes;
 mod claim;
+mod cutting;
 mod data;
 mod discover;
 mod drive;
@@ -25,6 +27,7 @@ mod leaving;
 mod limited;
 mod live;
 mod meters;
+mod parting;
 mod questions;
 mod replies;
 mod rules;
@@ -40,6 +43,7 @@ mod terms;
 mod timers;
 mod tunnels;
 mod verdicts;
+mod way;
 mod whose;
 mod wish;
 mod young;

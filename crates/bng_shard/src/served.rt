@@ -16,7 +16,9 @@ ghost use Rattle.bng_shard.specs.Indexed.{address_of};
 ghost use Rattle.bng_shard.specs.Passing.{passed_at, place_in, with_passed};
 ghost use Rattle.bng_slots.specs.Sessions.{NoneShares};
 ghost use Rattle.bng_shard.specs.Serving.{AreOwn, KeepsLease};
-ghost use Rattle.bng_shard.specs.State.{count_in, holder_of, reaped, session_of, with_session};
+ghost use Rattle.bng_shard.specs.State.{call_of, count_in, holder_of, reaped, session_at, session_of, with_session};
+ghost use Rattle.bng_shard.specs.Cutting.{is_cut};
+ghost use Rattle.bng_shard.specs.Listing.{does_pass};
 ghost use Rattle.bng_shard.specs.Timers.{IsFirstDue, IsLowest, NoneIsDue, NoneStays, stays_at};
 
 use crate::interims::{LEAST, Reports, interim_at};
@@ -25,8 +27,9 @@ use crate::limited::NO_LIMITS;
 use crate::meters::{Meters, opened_meters};
 use crate::questions::{Handed, copied, list, lowest_waiting, unlist};
 use crate::session::{Lease, Service, Session};
+use crate::way::Way;
 use crate::young::{list_young, lowest_repeated, unlist_young};
-use bng_base::{Ip4, Mac, Profile, SessionNo, Static};
+use bng_base::{Ip4, Mac, Peer, Profile, SessionNo, Static, TunnelNo};
 use bng_lns::Tunnels;
 use bng_slots::Slots;
 use bng_term::Lifetime;
@@ -81,7 +84,7 @@ impl Model for Served {
 }
 
 /// So many session numbers are a shard's, from 1 past 1,024 times the shard's number on (`SessionNo`).
-const NUMBERS: u16 = 1022;
+pub(crate) const NUMBERS: u16 = 1022;
 
 /// By this a session number is told from those of other shards.
 pub(crate) const SPAN: u16 = 1024;
@@ -109,8 +112,10 @@ fn provisioned(circuit: &Static, serial: u64, now: u64) -> Session
 {
     Session {
         number: circuit.session,
-        port: circuit.port,
-        mac: circuit.mac,
+        way: Way::Port {
+            port: circuit.port,
+            mac: circuit.mac,
+        },
         service: Service::Provisioned { ended: false },
         lease: Some(Lease {
             serial,
@@ -272,7 +277,7 @@ impl Served {
                 session: session.number,
                 ask: question.ask,
             },
-            circuit: session.pppoe_circuit(),
+            circuit: session.own_circuit(),
             credentials: copied(&question.credentials),
         })
     }
@@ -318,6 +323,63 @@ impl Served {
             Some(session)
         } else {
             None
+        }
+    }
+
+    /// The number of that session, if it is there.
+    pub(crate) fn numbered_on(&self, port: u8, mac: Mac, number: SessionNo) -> Option<SessionNo>
+        ensures { session_at self.now result ≡ session_of self.now port mac number.0 }
+    {
+        match self.session_of(port, mac, number) {
+            Some(_) => Some(number),
+            None => None,
+        }
+    }
+
+    /// The session of a message or a PPP frame of a call: of the tunnel with this number, of this peer, with this Session ID.
+    pub(crate) fn call_of(&self, from: Peer, tunnel: u16, number: SessionNo) -> Option<&Session>
+        ensures { option_copied result ≡ call_of self.now from tunnel number.0 }
+    {
+        let session = self.sessions.get(number)?;
+        if session.is_over(from, tunnel) {
+            Some(session)
+        } else {
+            None
+        }
+    }
+
+    /// The number of that session, if it is there.
+    pub(crate) fn numbered_over(
+        &self,
+        from: Peer,
+        tunnel: u16,
+        number: SessionNo,
+    ) -> Option<SessionNo>
+        ensures { session_at self.now result ≡ call_of self.now from tunnel number.0 }
+    {
+        match self.call_of(from, tunnel, number) {
+            Some(_) => Some(number),
+            None => None,
+        }
+    }
+
+    /// The session with a number, if there is one.
+    pub(crate) fn session_at(&self, number: Option<SessionNo>) -> Option<&Session>
+        ensures { option_copied result ≡ session_at self.now number }
+    {
+        match number {
+            Some(number) => self.sessions.get(number),
+            None => None,
+        }
+    }
+
+    /// Whether the session with this number is a call of that tunnel, and has not ended.
+    pub(crate) fn is_cut(&self, number: SessionNo, tunnel: TunnelNo) -> bool
+        ensures { result ≡ does_pass (is_cut tunnel.0) (value_at self.now.sessions number.0) }
+    {
+        match self.sessions.get(number) {
+            Some(session) => session.is_cut(tunnel.0),
+            None => false,
         }
     }
 

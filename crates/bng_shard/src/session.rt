@@ -1,6 +1,8 @@
 //! A session: its circuit, and what serves it.
-ghost use Rattle.std.specs.Prelude.{◌≡◌, ◌<◌, ◌^◌, Some, length, option_map, IfNone, OnSome};
-ghost use Rattle.bng_shard.specs.Discovery.{is_repeated, same_option};
+ghost use Rattle.std.specs.Prelude.{◌≡◌, ◌<◌, ◌^◌, ◌&&◌, Some, length, option_map, IfNone, OnSome};
+ghost use Rattle.bng_shard.specs.Calls.{linked_anew};
+ghost use Rattle.bng_shard.specs.Cutting.{is_cut};
+ghost use Rattle.bng_shard.specs.Discovery.{is_repeated, same_option, IsNewLink};
 ghost use Rattle.bng_ppp.specs.PppRelation.{PppSaid, PppSteps};
 ghost use Rattle.bng_ppp.specs.PppState.{PppState};
 ghost use Rattle.bng_ppp.specs.Said.{payloads};
@@ -10,24 +12,28 @@ ghost use Rattle.bng_shard.specs.Questions.{open_of};
 ghost use Rattle.bng_shard.specs.Driven.{LastsOver};
 ghost use Rattle.bng_shard.specs.Made.{Made as DiscoveredMade};
 ghost use Rattle.bng_shard.specs.Serving.{is_young, KeepsLease};
-ghost use Rattle.bng_shard.specs.State.{circuit_of, is_on, leaves, made_one, passes_in};
+ghost use Rattle.bng_shard.specs.State.{circuit_of, is_connected, is_call_of, is_on, leaves, lives_in, made_one, mru_in, passes_in};
 ghost use Rattle.bng_shard.specs.Metered.{view_of};
 ghost use Rattle.bng_shard.specs.Tenures.{kept_lease};
-ghost use Rattle.bng_shard.specs.Timers.{deadline_of, lease_deadline, lives_in};
+ghost use Rattle.bng_shard.specs.Timers.{deadline_of, lease_deadline};
 ghost use Rattle.bng_ppp.specs.LinkRelation.{earliest as first_of};
 ghost use Rattle.bng_shard.specs.Passing.{cause_at, lapsed, looked};
 ghost use Rattle.bng_shard.specs.Indexed.{address_of, term_of};
 
 use crate::meters::Meters;
+use crate::way::Way;
 use arrayvec::ArrayVec;
 use bng_auth::Credentials;
-use bng_base::{Circuit, Ip4, Mac, SessionNo, TermId};
+use bng_base::{Circuit, Ip4, Mac, Peer, SessionNo, TermId};
 use bng_forward::TermView;
-use bng_ppp::{LinkRules, WholeInput, WholeLink, WholeSteps};
+use bng_ppp::{LinkKind, LinkRules, WholeInput, WholeLink, WholeSteps};
 use bng_slots::Slotted;
 use bng_term::Lifetime;
 use std::marker::Model;
 use std::mem;
+
+/// The MRU of PPPoE (RFC 2516 section 7).
+pub(crate) const PPPOE_MRU: u16 = 1492;
 
 /// A term's number in its shard, from 1 on, its address, the place of its profile, and how long it lasts.
 #[derive(Clone, Copy)]
@@ -54,8 +60,8 @@ impl Model for Question {
     ghost view = { λ q. record { ask = q.ask; claim = claim_of q.credentials } };
 }
 
-/// A session that discovery made (RFC 2516): the Host-Uniq with which it was asked for, its link, what the link asked last, as long
-/// as the peer's authentication goes on, and whether it has ended.
+/// A session that discovery made (RFC 2516) or a call (RFC 2661): the Host-Uniq with which it was asked for, its link, what the link
+/// asked last, as long as the peer's authentication goes on, and whether it has ended. A call has no Host-Uniq.
 #[derive(Drop)]
 pub struct Made {
     pub(crate) host_uniq: Option<ArrayVec<u8, 64>>,
@@ -73,19 +79,18 @@ impl Model for Made {
     ghost view = { λ m. record { host_uniq = option_map (λ h. h.items) m.host_uniq; link = m.link; question = m.question; ended = m.ended } };
 }
 
-/// What serves a session: a provisioned circuit has no link, and says whether it has ended; a session that discovery made has a link.
+/// What serves a session: a provisioned circuit has no link, and says whether it has ended; a session that discovery made or a call has one.
 #[derive(Drop)]
 pub enum Service {
     Provisioned { ended: bool },
     Discovered(Made),
 }
 
-/// A session, on the circuit of its port, the MAC of its subscriber and its SESSION_ID, with the lease of its live term, if it has one.
+/// A session, on the way of its frames and with its number, with the lease of its live term, if it has one.
 #[derive(Drop)]
 pub struct Session {
     pub(crate) number: SessionNo,
-    pub(crate) port: u8,
-    pub(crate) mac: Mac,
+    pub(crate) way: Way,
     pub(crate) service: Service,
     pub(crate) lease: Option<Lease>,
 }
@@ -100,7 +105,7 @@ impl Slotted for Session {
     ghost deadline = { deadline_of };
 
     fn circuit(&self) -> Option<Circuit> {
-        Some(self.pppoe_circuit())
+        Some(self.own_circuit())
     }
 
     fn address(&self) -> Option<Ip4> {
@@ -129,10 +134,25 @@ impl Slotted for Session {
 
 impl Made {
     ghost use Rattle.std.specs.Option.{option_copied};
-    ghost use Rattle.bng_ppp.specs.Phases.{is_begun};
+    ghost use Rattle.bng_ppp.specs.Phases.{KeepsPhases, is_begun};
+    ghost use Rattle.bng_shard.specs.Calls.{linked};
+    ghost use Rattle.bng_shard.specs.Discovery.{IsNewLink};
     ghost use Rattle.bng_shard.specs.Link.{question_after};
     ghost use Rattle.bng_shard.specs.Questions.{open_in};
     ghost use Rattle.bng_shard.specs.Timers.{made_deadline};
+
+    /// What serves a call, whose link was told nothing.
+    pub(crate) fn linked(random: &[u8; 16], now: u64) -> Made
+        ensures linked { (link : PppState) × IsNewLink 1500 random.now link × (result ≡ linked link) }
+        ensures phases { KeepsPhases result.link }
+    {
+        Made {
+            host_uniq: None,
+            link: WholeLink::new(LinkKind::L2tp, random, now),
+            question: None,
+            ended: false,
+        }
+    }
 
     // Its question whose verdict is not there yet.
     fn open_question(&self) -> Option<&Question>
@@ -194,13 +214,23 @@ fn kept(lease: Option<Lease>, cause: Option<u8>) -> Option<Lease>
 }
 
 impl Service {
-    // Whether data passes: of a session that discovery made, once LCP and IPCP are Opened.
+    // Whether data passes: of a session with a link, once LCP and IPCP are Opened.
     fn passes(&self) -> bool
         ensures { result ≡ passes_in self.now }
     {
         match self {
             Service::Provisioned { .. } => true,
             Service::Discovered(made) => made.link.passes(),
+        }
+    }
+
+    // The longest packet that its subscriber takes.
+    fn mru(&self) -> u16
+        ensures { result ≡ mru_in self.now }
+    {
+        match self {
+            Service::Provisioned { .. } => PPPOE_MRU,
+            Service::Discovered(made) => made.link.mru(),
         }
     }
 }
@@ -217,21 +247,48 @@ fn is_same(kept: &Option<ArrayVec<u8, 64>>, asked: Option<&[u8]>) -> bool
 
 impl Session {
     /// The circuit that it serves.
-    pub(crate) fn pppoe_circuit(&self) -> Circuit
+    pub(crate) fn own_circuit(&self) -> Circuit
         ensures { result ≡ circuit_of self.now }
     {
-        Circuit::Pppoe {
-            port: self.port,
-            mac: self.mac,
-            session: self.number,
-        }
+        self.way.circuit(self.number)
     }
 
     /// Whether it is on this port, of this MAC.
     pub(crate) fn is_on(&self, port: u8, mac: Mac) -> bool
         ensures { result ≡ is_on port mac self.now }
     {
-        self.port == port && self.mac.0.as_slice() == mac.0.as_slice()
+        self.way.is_on(port, mac)
+    }
+
+    /// Whether it is a call of the tunnel with this number, of this peer.
+    pub(crate) fn is_over(&self, from: Peer, tunnel: u16) -> bool
+        ensures { result ≡ is_call_of from tunnel self.now }
+    {
+        self.way.is_over(from, tunnel)
+    }
+
+    /// Whether its call is established (RFC 2661 section 7.4.2).
+    pub(crate) fn is_connected(&self) -> bool
+        ensures { result ≡ is_connected self.now.way }
+    {
+        match &self.way {
+            Way::Port { .. } => false,
+            Way::Call(called) => called.call.is_connected(),
+        }
+    }
+
+    /// Whether its link hears a PPP frame that comes over its call: it has a link and has not ended, and its call is established.
+    pub(crate) fn hears(&self) -> bool
+        ensures { result ≡ (lives_in self.now.service && is_connected self.now.way) }
+    {
+        self.lives() && self.is_connected()
+    }
+
+    /// Whether it is a call of the tunnel with this number, and has not ended.
+    pub(crate) fn is_cut(&self, tunnel: u16) -> bool
+        ensures { result ≡ is_cut tunnel self.now }
+    {
+        self.way.is_of(tunnel) && self.lives()
     }
 
     /// Whether it was made for the same request before (RFC 2516 section 5.4).
@@ -247,17 +304,18 @@ impl Session {
             }
     }
 
-    /// Whether discovery made it, it has not ended, and its LCP was never Opened.
+    /// Whether it is at an access port, discovery made it, it has not ended, and its LCP was never Opened.
     pub(crate) fn is_young(&self) -> bool
         ensures { result ≡ is_young self.now }
     {
-        match &self.service {
-            Service::Provisioned { .. } => false,
-            Service::Discovered(made) => !made.ended && !made.link.was_opened(),
-        }
+        self.way.is_port()
+            && match &self.service {
+                Service::Provisioned { .. } => false,
+                Service::Discovered(made) => !made.ended && !made.link.was_opened(),
+            }
     }
 
-    /// Whether discovery made it, and it has not ended.
+    /// Whether it has a link, and has not ended.
     pub(crate) fn lives(&self) -> bool
         ensures { result ≡ lives_in self.now.service }
     {
@@ -298,7 +356,7 @@ impl Session {
         }
     }
 
-    /// Tells its link an input, where discovery made it; so many questions had been asked in its shard. Where LCP finished it has
+    /// Tells its link an input, where it has one; so many questions had been asked in its shard. Where LCP finished it has
     /// ended, and where the step ended its live term it has no lease any longer. Answers how many questions were asked then.
     pub(crate) fn step(
         &mut self,
@@ -355,6 +413,15 @@ impl Session {
         cause
     }
 
+    /// Its link is made anew, for a call, and no term of it is live any longer.
+    pub(crate) fn link_anew(&mut self, random: &[u8; 16], now: u64)
+        ensures anew { (link : PppState) × IsNewLink 1500 random.now link × (self.new ≡ linked_anew self.old link) }
+        ensures leased { KeepsLease self.new.service self.new.lease }
+    {
+        self.service = Service::Discovered(Made::linked(random, now));
+        self.lapse();
+    }
+
     /// It has no term any longer.
     pub(crate) fn lapse(&mut self)
         ensures { self.new ≡ lapsed self.old }
@@ -376,6 +443,7 @@ impl Session {
         Some(TermView {
             lease: self.lease?.address,
             opened: self.service.passes(),
+            mru: self.service.mru(),
             input: meters.input,
             output: meters.output,
         })

@@ -1,26 +1,27 @@
 //! Ticks and Ends.
-ghost use Rattle.std.specs.Prelude.{◌≡◌, ◌+◌, ◌<◌, ◌≤◌, ◌^◌, ◌++◌, ℕ, List, Option as Maybe, Some, IsSome, length};
+ghost use Rattle.std.specs.Prelude.{◌≡◌, ◌+◌, ◌<◌, ◌≤◌, ◌^◌, ◌++◌, ℕ, List, Option as Maybe, IsSome, length};
 ghost use Rattle.bng_ppp.specs.PppRelation.{PppSteps};
 ghost use Rattle.bng_ppp.specs.declared.whole_input.WholeInput.TheVariants.{Timer};
 ghost use Rattle.bng_base.specs.declared.item.OutRecord.{OutRecord as Out};
-ghost use Rattle.bng_base.specs.declared.settings.AccessPort.{AccessPort as Port};
-ghost use Rattle.bng_shard.specs.Fits.{ArePlaced};
+ghost use Rattle.bng_shard.specs.Fits.{ArePlaced, IsPlaced};
 ghost use Rattle.bng_shard.specs.Driven.{Driven};
 ghost use Rattle.bng_shard.specs.Passing.{cause_at};
 ghost use Rattle.bng_shard.specs.Serving.{KeepsLease};
 ghost use Rattle.bng_shard.specs.Timed.{LookedOnce, RemindedOnce, TickedOnce, EndedOnce, Ticked, Ended, Stopped, TickDone, EndDone};
 ghost use Rattle.bng_shard.specs.Running.{closed_rows, whole, KeepSums};
-ghost use Rattle.bng_shard.specs.State.{made_one, port_at, with_tunnels};
-ghost use Rattle.bng_shard.specs.Timers.{TellsEnd, at_once};
+ghost use Rattle.bng_shard.specs.State.{beside_at, made_one, with_tunnels};
+ghost use Rattle.bng_shard.specs.Timers.{TellsEnd, TellsOn, at_once};
 
-use crate::drive::{drive, send_padt};
+use crate::drive::drive;
 use crate::in_turn::{remind_tunnels, stop_tunnels};
 use crate::incoming::Incoming;
 use crate::lapsing::end_term;
+use crate::parting::send_padt;
 use crate::rules::Rules;
 use crate::served::Served;
 use crate::session::{Service, Session};
 use crate::terms::Terms;
+use crate::way::Way;
 use bng_base::{At, Batch, OutRecord};
 use bng_ppp::WholeInput;
 
@@ -32,6 +33,7 @@ const AT_ONCE: u8 = 64;
 
 // A session's link takes Timer; where that ends its live term, the term ends. Answers how many questions were asked then.
 fn remind(
+    served: &mut Served,
     session: &mut Session,
     terms: &mut Terms,
     asked: u64,
@@ -41,12 +43,13 @@ fn remind(
     requires moment { incoming.now.moment < 2 ^ 60 }
     requires auth { 0 < length incoming.now.rules.now.link.auth.items }
     requires offers { length incoming.now.rules.now.offers ≡ length incoming.now.rules.now.access }
-    requires placed { (port : Port) × (port_at incoming.now.rules.now.access session.old.port ≡ Some port) }
+    requires placed { IsPlaced incoming.now.rules.now session.old.way }
     requires made { made_one session.old.service ≡ 1 }
     requires leased { KeepsLease session.old.service session.old.lease }
     requires room { length outs.old.items + 5 ≤ outs.old.room }
-    ensures driven { (cause : Maybe ℕ) × Driven incoming.now.rules.now incoming.now.at (PppSteps incoming.now.rules.now.link Timer incoming.now.moment incoming.now.item.now.random) asked session.old cause session.new result outs.old.items outs.new.items
+    ensures driven { (cause : Maybe ℕ) × Driven incoming.now.rules.now incoming.now.at (PppSteps incoming.now.rules.now.link Timer incoming.now.moment incoming.now.item.now.random) (beside_at incoming.now.moment asked served.old.tunnels) session.old cause session.new (beside_at incoming.now.moment result served.new.tunnels) outs.old.items outs.new.items
         × (terms.new ≡ record terms.old { rows = closed_rows session.old.lease cause terms.old.rows }) }
+    ensures others { served.new ≡ with_tunnels served.old served.new.tunnels }
     ensures leased { KeepsLease session.new.service session.new.lease }
     ensures number { session.new.number ≡ session.old.number }
     ensures capacity { outs.new.room ≡ outs.old.room }
@@ -54,13 +57,14 @@ fn remind(
     ensures fewer { IsSome session.new.lease → length outs.new.items ≤ length outs.old.items + 2 }
 {
     let lease = session.lease();
-    let (asked, cause) = drive(session, asked, incoming, WholeInput::Timer, outs);
+    let (asked, cause) = drive(served, session, asked, incoming, WholeInput::Timer, outs);
     terms.close(lease, cause);
     asked
 }
 
 // The link of a session takes Timer, if it has one. Answers how many questions were asked then.
 fn remind_link(
+    served: &mut Served,
     session: &mut Session,
     terms: &mut Terms,
     asked: u64,
@@ -70,10 +74,11 @@ fn remind_link(
     requires moment { incoming.now.moment < 2 ^ 60 }
     requires auth { 0 < length incoming.now.rules.now.link.auth.items }
     requires offers { length incoming.now.rules.now.offers ≡ length incoming.now.rules.now.access }
-    requires placed { (port : Port) × (port_at incoming.now.rules.now.access session.old.port ≡ Some port) }
+    requires placed { IsPlaced incoming.now.rules.now session.old.way }
     requires leased { KeepsLease session.old.service session.old.lease }
     requires room { length outs.old.items + 5 ≤ outs.old.room }
-    ensures reminded { RemindedOnce session.old.service incoming.now.rules.now incoming.now.at incoming.now.moment incoming.now.item.now.random asked session.old session.new result terms.old terms.new outs.old.items outs.new.items }
+    ensures reminded { RemindedOnce session.old.service incoming.now.rules.now incoming.now.at incoming.now.moment incoming.now.item.now.random (beside_at incoming.now.moment asked served.old.tunnels) session.old session.new (beside_at incoming.now.moment result served.new.tunnels) terms.old terms.new outs.old.items outs.new.items }
+    ensures others { served.new ≡ with_tunnels served.old served.new.tunnels }
     ensures leased { KeepsLease session.new.service session.new.lease }
     ensures number { session.new.number ≡ session.old.number }
     ensures capacity { outs.new.room ≡ outs.old.room }
@@ -82,13 +87,14 @@ fn remind_link(
 {
     match &session.service {
         Service::Provisioned { .. } => asked,
-        Service::Discovered(_) => remind(session, terms, asked, incoming, outs),
+        Service::Discovered(_) => remind(served, session, terms, asked, incoming, outs),
     }
 }
 
 // A session's live term is looked at, whose last packet passed at the moment `passed`: where one of its timeouts is over it ends, and the
 // link takes Close, if there is one. Answers how many questions were asked then.
 fn look_at(
+    served: &mut Served,
     session: &mut Session,
     terms: &mut Terms,
     asked: u64,
@@ -100,10 +106,11 @@ fn look_at(
     requires low { passed < 2 ^ 60 }
     requires auth { 0 < length incoming.now.rules.now.link.auth.items }
     requires offers { length incoming.now.rules.now.offers ≡ length incoming.now.rules.now.access }
-    requires placed { (port : Port) × (port_at incoming.now.rules.now.access session.old.port ≡ Some port) }
+    requires placed { IsPlaced incoming.now.rules.now session.old.way }
     requires leased { KeepsLease session.old.service session.old.lease }
     requires room { length outs.old.items + 5 ≤ outs.old.room }
-    ensures looked { LookedOnce (cause_at passed session.old.lease incoming.now.moment) incoming.now.rules.now incoming.now.at incoming.now.moment incoming.now.item.now.random passed asked session.old session.new result terms.old terms.new outs.old.items outs.new.items }
+    ensures looked { LookedOnce (cause_at passed session.old.lease incoming.now.moment) incoming.now.rules.now incoming.now.at incoming.now.moment incoming.now.item.now.random passed (beside_at incoming.now.moment asked served.old.tunnels) session.old session.new (beside_at incoming.now.moment result served.new.tunnels) terms.old terms.new outs.old.items outs.new.items }
+    ensures others { served.new ≡ with_tunnels served.old served.new.tunnels }
     ensures leased { KeepsLease session.new.service session.new.lease }
     ensures number { session.new.number ≡ session.old.number }
     ensures capacity { outs.new.room ≡ outs.old.room }
@@ -112,7 +119,7 @@ fn look_at(
     let Some(cause) = session.look(passed, incoming.moment) else {
         return asked;
     };
-    end_term(session, terms, asked, cause, incoming, outs)
+    end_term(served, session, terms, asked, cause, incoming, outs)
 }
 
 // Handles the due deadline that comes first, and says whether one is due.
@@ -139,17 +146,32 @@ fn tick_once(
     let passed = served.passed_at(number);
     let mut session = served.take(number);
     let asked = served.asked();
-    let asked = remind_link(&mut session, terms, asked, incoming, outs);
-    let asked = look_at(&mut session, terms, asked, passed, incoming, outs);
+    let asked = remind_link(served, &mut session, terms, asked, incoming, outs);
+    let asked = look_at(served, &mut session, terms, asked, passed, incoming, outs);
     served.put(session);
     served.count_asked(asked);
     true
 }
 
-// Tells a session that it ends: one that discovery made by a PADT; a provisioned circuit is told nothing.
+// Tells a session that has a link that it ends: one at an access port by a PADT. A call is told nothing, since its tunnel tells its own end.
+fn tell_on_way(rules: &Rules, at: At, session: &Session, outs: &mut Batch<OutRecord>)
+    requires offers { length rules.now.offers ≡ length rules.now.access }
+    requires placed { IsPlaced rules.now session.now.way }
+    requires room { length outs.old.items < outs.old.room }
+    ensures told { (padt : List Out) × TellsOn session.now.way rules.now at session.now padt × (outs.new.items ≡ outs.old.items ++ padt) }
+    ensures capacity { outs.new.room ≡ outs.old.room }
+    ensures few { length outs.new.items ≤ length outs.old.items + 1 }
+{
+    match &session.way {
+        Way::Port { port, mac } => send_padt(rules, at, *port, *mac, session.number, outs),
+        Way::Call(_) => {}
+    }
+}
+
+// Tells a session that it ends. A provisioned circuit is told nothing.
 fn tell_end(rules: &Rules, at: At, session: &Session, outs: &mut Batch<OutRecord>)
     requires offers { length rules.now.offers ≡ length rules.now.access }
-    requires placed { (port : Port) × (port_at rules.now.access session.now.port ≡ Some port) }
+    requires placed { IsPlaced rules.now session.now.way }
     requires room { length outs.old.items < outs.old.room }
     ensures told { (padt : List Out) × TellsEnd session.now.service rules.now at session.now padt × (outs.new.items ≡ outs.old.items ++ padt) }
     ensures capacity { outs.new.room ≡ outs.old.room }
@@ -157,7 +179,7 @@ fn tell_end(rules: &Rules, at: At, session: &Session, outs: &mut Batch<OutRecord
 {
     match &session.service {
         Service::Provisioned { .. } => {}
-        Service::Discovered(_) => send_padt(rules, at, session, outs),
+        Service::Discovered(_) => tell_on_way(rules, at, session, outs),
     }
 }
 
@@ -214,8 +236,8 @@ fn tick_sessions(
     }
 }
 
-/// Handles a Tick: the timers of each tunnel do what they ask for, by rising number, and then those of sessions do, of which one
-/// comes after another by its deadline: at most 64.
+/// Handles a Tick: the timers of each tunnel do what they ask for, by rising number, and where that clears it its calls have ended. Then
+/// those of sessions do, of which one comes after another by its deadline: at most 64.
 pub(crate) fn tick(
     served: &mut Served,
     terms: &mut Terms,
@@ -231,7 +253,7 @@ pub(crate) fn tick(
     ensures ticked { TickDone incoming.now.rules.now incoming.now.at incoming.now.moment incoming.now.item.now.random (whole served.old terms.old) (whole served.new terms.new) outs.old.items outs.new.items }
     ensures capacity { outs.new.room ≡ outs.old.room }
 {
-    remind_tunnels(served, incoming.at, incoming.moment, outs);
+    remind_tunnels(served, terms, incoming.at, incoming.moment, outs);
     tick_sessions(served, terms, incoming, outs);
 }
 

@@ -1,5 +1,5 @@
 //! The tunnels of a shard, beside its sessions (RFC 2661).
-ghost use Rattle.std.specs.Prelude.{◌≡◌, ◌≤◌, IfSome, IsSome, Some, true, false, length, option_map};
+ghost use Rattle.std.specs.Prelude.{◌≡◌, ◌≤◌, IfNone, IfSome, IsSome, Some, None as Nothing, true, false, is_some, length, option_map, unwrap_or};
 ghost use Rattle.std.specs.List.{AllByRecursion};
 ghost use Rattle.bng_l2tp_wire.specs.View.{control_of};
 ghost use Rattle.bng_l2tp_tunnel.specs.Sound.{IsSpelled};
@@ -8,14 +8,18 @@ ghost use Rattle.bng_l2tp_tunnel.specs.View.{payloads, said};
 ghost use Rattle.bng_lns.specs.Timed.{reminded, stopped, telling_of};
 ghost use Rattle.bng_lns.specs.Tunnels.{hear as heard_of, IsTaken, answer_of, tunnel_at, with_step};
 ghost use Rattle.bng_shard.specs.Due.{due_of};
-ghost use Rattle.bng_shard.specs.L2tp.{refusal_step};
+ghost use Rattle.bng_l2tp_call.specs.CallState.{fresh};
+ghost use Rattle.bng_l2tp_call.specs.Steps.{end_step};
+ghost use Rattle.bng_lns.specs.Exchange.{parted};
+ghost use Rattle.bng_shard.specs.Calls.{call_after, call_step};
 ghost use Rattle.bng_shard.specs.State.{with_tunnels};
 ghost use Rattle.bng_shard.specs.Timers.{NoneStays};
 
 use crate::rules::Rules;
 use crate::served::Served;
 use crate::session::earlier;
-use bng_base::{SessionNo, TunnelNo, TunnelStep};
+use crate::way::Called;
+use bng_base::{Peer, SessionNo, TunnelNo, TunnelStep};
 use bng_l2tp_call::Call;
 use bng_l2tp_wire::Control;
 use bng_lns::{Came, Taken, Told};
@@ -36,28 +40,75 @@ impl Served {
             .hear(&rules.link.name, rules.lacs.as_slice(), came, message)
     }
 
-    /// The tunnel with this number handed a call's message over, and there is no session to take it. `heard` is what the tunnel said.
-    pub(crate) fn refuse_call(
+    /// A call of the tunnel with this number, whose peer this is, that has taken no message. It has this session number, 0 where none is
+    /// free for it.
+    pub(crate) fn new_call(&self, number: TunnelNo, peer: Peer, session: SessionNo) -> Called
+        requires { IsSome (tunnel_at self.now.tunnels number.0) }
+        ensures { (t : TunnelState) → tunnel_at self.now.tunnels number.0 ≡ Some t
+            → result ≡ record { peer = peer; tunnel = number; far = unwrap_or t.peer_number 0; call = fresh t.secret session.0 } }
+    {
+        let Some(tunnel) = self.tunnels.get(number) else {
+            unreachable!();
+        };
+        let far = tunnel.peer_number().unwrap_or(0);
+        let call = Call::new(tunnel.secret(), session);
+        Called {
+            peer,
+            tunnel: number,
+            far,
+            call,
+        }
+    }
+
+    /// The tunnel with this number handed a message over that is for this call. `heard` is what the tunnel said.
+    pub(crate) fn answer_call(
         &mut self,
         number: TunnelNo,
         heard: TunnelStep,
+        call: &mut Call,
         message: &Control<'_>,
         now: u64,
     ) -> TunnelStep
         requires stands { IsSome (tunnel_at self.old.tunnels number.0) }
         requires few { length (payloads heard.outs.items) ≤ 8 }
         ensures said { (t : TunnelState) → tunnel_at self.old.tunnels number.0 ≡ Some t
-            → said result ≡ (refusal_step t (said heard) (control_of message.now) now).said }
+            → said result ≡ (call_step t (said heard) call.old (control_of message.now) now).said }
         ensures after { (t : TunnelState) → tunnel_at self.old.tunnels number.0 ≡ Some t
-            → self.new ≡ with_tunnels self.old (with_step now self.old.tunnels number.0 (refusal_step t (said heard) (control_of message.now) now).after) }
+            → self.new ≡ with_tunnels self.old (with_step now self.old.tunnels number.0 (call_step t (said heard) call.old (control_of message.now) now).after) }
+        ensures call { call.new ≡ call_after call.old (control_of message.now) }
         ensures few { length (payloads result.outs.items) ≤ 9 }
         ensures spelled { AllByRecursion IsSpelled (payloads heard.outs.items) → AllByRecursion IsSpelled (payloads result.outs.items) }
     {
-        let Some(tunnel) = self.tunnels.get(number) else {
-            unreachable!();
-        };
-        let mut call = Call::new(tunnel.secret(), SessionNo(0));
-        self.tunnels.answer(number, heard, &mut call, message, now)
+        self.tunnels.answer(number, heard, call, message, now)
+    }
+
+    // Whether the tunnel with this number stands.
+    fn has_tunnel(&self, number: TunnelNo) -> bool
+        ensures { result ≡ is_some (tunnel_at self.now.tunnels number.0) }
+    {
+        self.tunnels.get(number).is_some()
+    }
+
+    /// Ends a call of the tunnel with this number by a CDN (RFC 2661 section 6.12). None comes exactly where the tunnel does not stand, and
+    /// the call has ended all the same.
+    pub(crate) fn hang_up(
+        &mut self,
+        number: TunnelNo,
+        call: &mut Call,
+        now: u64,
+    ) -> Option<TunnelStep>
+        ensures none { IfNone result ((tunnel_at self.old.tunnels number.0 ≡ Nothing) × (self.new ≡ self.old)) }
+        ensures told { IfSome result (λ step. (t : TunnelState) × (tunnel_at self.old.tunnels number.0 ≡ Some t) × (said step ≡ (parted t call.old now).said)
+            × (self.new ≡ with_tunnels self.old (with_step now self.old.tunnels number.0 (parted t call.old now).after))) }
+        ensures call { call.new ≡ (end_step call.old).after }
+        ensures one { IfSome result (λ step. length (payloads step.outs.items) ≤ 1) }
+        ensures spelled { IfSome result (λ step. AllByRecursion IsSpelled (payloads step.outs.items)) }
+    {
+        if !self.has_tunnel(number) {
+            let _told = call.end();
+            return None;
+        }
+        Some(self.tunnels.hang_up(number, call, now))
     }
 
     /// The timers of the tunnel at this place, from 0, do what they ask for at that moment, in milliseconds.

@@ -15,6 +15,7 @@ ghost use Rattle.bng_shard.specs.Passing.{place_in};
 ghost use Rattle.bng_shard.specs.Protocol.{entry_with};
 ghost use Rattle.bng_shard.specs.Questions.{open_of};
 ghost use Rattle.bng_shard.specs.Running.{tenures_in, whole, MayBegin, SumsStay};
+ghost use Rattle.bng_shard.specs.State.{beside_at, Beside};
 ghost use Rattle.bng_shard.specs.Verdicts.{next_lease, next_term, settled_by, HearsVerdict};
 ghost use Rattle.bng_shard.specs.Wished.{IsAnswered};
 ghost use Rattle.bng_shard.specs.Wishes.{refused_with, told_by, told_in, told_of, Decides, IsAnswerTo, Wishes};
@@ -237,7 +238,7 @@ fn begin_term(
             session: session.number,
             serial,
         },
-        circuit: session.pppoe_circuit(),
+        circuit: session.own_circuit(),
         lease: address,
         profile: plan.profile,
         carried: Book::empty(),
@@ -264,9 +265,9 @@ fn settle_question(
     requires asks { (x : Seen) × (q : Asked) × (value_at served.old.sessions number.0 ≡ Some x) × (open_of x ≡ Some q) }
     requires begins { (a : Address) → told.lease ≡ Some a → (told.yes ≡ true) × MayBegin a served.old terms.old }
     requires room { length outs.old.items + 5 ≤ outs.old.room }
-    ensures settled { (x : Seen) (q : Asked) → value_at served.old.sessions number.0 ≡ Some x → open_of x ≡ Some q → (x' : Seen) × (cause : Maybe ℕ) × (asked : ℕ)
-        × Driven incoming.now.rules.now incoming.now.at (IsToldVerdict incoming.now.rules.now.link told incoming.now.moment incoming.now.item.now.random) served.old.asked x cause x' asked outs.old.items outs.new.items
-        × (x.lease ≡ Nothing) × (whole served.new terms.new ≡ settled_by (whole served.old terms.old) number.0 x q told incoming.now.moment x' asked told.lease) }
+    ensures settled { (x : Seen) (q : Asked) → value_at served.old.sessions number.0 ≡ Some x → open_of x ≡ Some q → (x' : Seen) × (cause : Maybe ℕ) × (after : Beside)
+        × Driven incoming.now.rules.now incoming.now.at (IsToldVerdict incoming.now.rules.now.link told incoming.now.moment incoming.now.item.now.random) (beside_at incoming.now.moment served.old.asked served.old.tunnels) x cause x' after outs.old.items outs.new.items
+        × (x.lease ≡ Nothing) × (whole served.new terms.new ≡ settled_by (whole served.old terms.old) number.0 x q told incoming.now.moment x' after told.lease) }
     ensures sums { SumsStay terms.old terms.new }
     ensures capacity { outs.new.room ≡ outs.old.room }
     ensures few { length outs.new.items ≤ length outs.old.items + 5 }
@@ -282,7 +283,8 @@ fn settle_question(
         plan,
     } = told;
     let input = WholeInput::Verdict { yes, lease, text };
-    let (asked, _) = drive(&mut session, served.asked(), incoming, input, outs);
+    let asked = served.asked();
+    let (asked, _) = drive(served, &mut session, asked, incoming, input, outs);
     served.count_asked(asked);
     let Some(address) = lease else {
         served.put(session);

@@ -6,8 +6,7 @@ use super::authentication::{
 use super::changes::{asks, packet_100, replies, run_changes, with_changes};
 use super::host::{PADT, TO_HOST, framed, from_host};
 use super::logins::run_in;
-use super::tunnels::a_turn_later;
-use super::{Ended, assert_err, assert_status, has};
+use super::{Ended, a_turn_later, assert_err, assert_status, has};
 use crate::asserts::assert_holds;
 use bng_base::Role;
 use bng_plant::Arrival;

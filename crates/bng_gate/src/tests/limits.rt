@@ -3,8 +3,7 @@
 use super::authentication::stop;
 use super::changes::{asks, packet_100, run_changes};
 use super::disconnects::stops_have;
-use super::tunnels::a_turn_later;
-use super::{Ended, has};
+use super::{Ended, a_turn_later, has};
 use crate::asserts::{assert_holds, assert_same};
 use bng_base::Role;
 use std::process::Abort;

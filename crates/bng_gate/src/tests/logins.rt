@@ -46,7 +46,7 @@ last = "10.0.0.2"
 "#;
 
 /// The Access-Accept to the first request, with the Service-Type Framed, the Framed-IP-Address 10.0.0.50 and the Class gold.
-const ACCEPT_50: &str =
+pub(super) const ACCEPT_50: &str =
     "0200002664e9e839d2f2f37dc86e2b4aff99928e06060000000208060a0000321906676f6c64";
 
 /// The Start of the term, formed at the second 1,700,000,003, and the Accounting-Response to it.
@@ -93,7 +93,7 @@ pub(super) const UP: &[u8] =
     b"\x45\x00\x00\x28\x00\x01\x00\x00\x3f\x11\xaf\x91\x0a\x00\x00\x32\xc0\x00\x02\x01\x00\x01\x02\x03\x04\x05\x06\x07\x08\x09\x0a\x0b\x0c\x0d\x0e\x0f\x10\x11\x12\x13";
 
 /// A packet of the core of 28 octets to 10.0.0.50 with TTL 64, and the PPP frame that goes to the host for it.
-const FROM_CORE: &[u8] =
+pub(super) const FROM_CORE: &[u8] =
     b"\x45\x00\x00\x1c\x00\x02\x00\x00\x40\x11\xae\x9c\xc0\x00\x02\x01\x0a\x00\x00\x32\x00\x01\x02\x03\x04\x05\x06\x07";
 
 const DOWN: &[u8] =
@@ -205,8 +205,8 @@ fn visit(alloc: Global) -> Result<Vec<Arrival>, Fail> {
     Ok(script)
 }
 
-/// The records that a run sent to the server are these.
-pub(super) fn records(
+/// The first records that a run sent to the server are these.
+pub(super) fn records_begin(
     rt: &impl Abort,
     alloc: Global,
     ended: &Ended,
@@ -220,8 +220,20 @@ pub(super) fn records(
         assert_same(rt, &record.peer, &loopback(1813));
         assert_same(rt, &record.octets.as_slice(), &octets.as_slice());
     }
-    assert_holds(rt, records.next().is_none());
     Ok(())
+}
+
+/// They are these, and no more.
+pub(super) fn records(
+    rt: &impl Abort,
+    alloc: Global,
+    ended: &Ended,
+    wanted: &[&str],
+) -> Result<(), Fail> {
+    let sent = ended.plant.sent().iter();
+    let all = sent.filter(|datagram| datagram.role == Role::Acct);
+    assert_same(rt, &all.count(), &wanted.len());
+    records_begin(rt, alloc, ended, wanted)
 }
 
 /// What a run sent to the host and to the core: until the packets went both ways, then this last PPP frame, and a PADT at the stop.

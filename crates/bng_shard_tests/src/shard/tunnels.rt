@@ -1,6 +1,8 @@
 ghost use Rattle.std.specs.Prelude.{◌<◌, ◌≤◌, ◌^◌, length};
 
-use super::{Bench, NOTHING, TWO, assert_due, item, octets, open_bench, peer, rules};
+use super::{
+    Bench, NOTHING, TWO, assert_due, assert_sessions, item, octets, open_bench, peer, rules,
+};
 use crate::asserts::{assert_count, assert_octets, assert_same};
 use bng_base::{DropCause, Fate, ItemKind, Role};
 use std::alloc::Global;
@@ -18,15 +20,18 @@ const SCCRP: &[u8; 64] =
 const SCCCN: &[u8; 20] =
     b"\xc8\x02\x00\x14\x00\x01\x00\x00\x00\x01\x00\x01\x80\x08\x00\x00\x00\x00\x00\x03";
 
-// an ICRQ of session 9, and the CDN with Result Code 4 that refuses it
+// an ICRQ of session 9, the ICRP that gives it the session 1, and the ICCN
 const ICRQ: &[u8; 48] =
     b"\xc8\x02\x00\x30\x00\x01\x00\x00\x00\x02\x00\x01\x80\x08\x00\x00\x00\x00\x00\x0a\x80\x08\x00\x00\x00\x0e\x00\x09\x80\x0a\x00\x00\x00\x0f\x00\x00\x00\x01\x80\x0a\x00\x00\x00\x12\x00\x00\x00\x00";
 
-const CDN: &[u8; 36] =
-    b"\xc8\x02\x00\x24\x00\x05\x00\x09\x00\x01\x00\x03\x80\x08\x00\x00\x00\x00\x00\x0e\x80\x08\x00\x00\x00\x0e\x00\x00\x80\x08\x00\x00\x00\x01\x00\x04";
+const ICRP: &[u8; 28] =
+    b"\xc8\x02\x00\x1c\x00\x05\x00\x09\x00\x01\x00\x03\x80\x08\x00\x00\x00\x00\x00\x0b\x80\x08\x00\x00\x00\x0e\x00\x01";
 
-// an LCP frame of the session 1
-const DATA: &[u8; 14] = b"\x00\x02\x00\x01\x00\x01\xff\x03\xc0\x21\x09\x01\x00\x04";
+const ICCN: &[u8; 40] =
+    b"\xc8\x02\x00\x28\x00\x01\x00\x01\x00\x03\x00\x02\x80\x08\x00\x00\x00\x00\x00\x0c\x80\x0a\x00\x00\x00\x18\x00\x00\x00\x00\x80\x0a\x00\x00\x00\x13\x00\x00\x00\x01";
+
+// an LCP frame of the session 2
+const DATA: &[u8; 14] = b"\x00\x02\x00\x01\x00\x02\xff\x03\xc0\x21\x09\x01\x00\x04";
 
 const HELLO: &[u8; 20] =
     b"\xc8\x02\x00\x14\x00\x05\x00\x00\x00\x01\x00\x02\x80\x08\x00\x00\x00\x00\x00\x06";
@@ -34,6 +39,10 @@ const HELLO: &[u8; 20] =
 // a StopCCN with Result Code 6
 const STOP_CCN: &[u8; 36] =
     b"\xc8\x02\x00\x24\x00\x05\x00\x00\x00\x01\x00\x02\x80\x08\x00\x00\x00\x00\x00\x04\x80\x08\x00\x00\x00\x09\x00\x01\x80\x08\x00\x00\x00\x01\x00\x06";
+
+// the same after an ICRP
+const STOP_CCN_OF_A_CALL: &[u8; 36] =
+    b"\xc8\x02\x00\x24\x00\x05\x00\x00\x00\x02\x00\x04\x80\x08\x00\x00\x00\x00\x00\x04\x80\x08\x00\x00\x00\x09\x00\x01\x80\x08\x00\x00\x00\x01\x00\x06";
 
 // The ZLB with these Ns and Nr.
 fn zlb(ns: u8, nr: u8) -> [u8; 12] {
@@ -90,18 +99,87 @@ fn established(rt: &impl Abort, alloc: Global) -> Result<Bench, Fail> {
 }
 
 #[test]
-fn a_tunnel_is_made_once_and_takes_no_call(rt: HostRuntime) -> Result<(), Fail> {
+fn a_tunnel_is_made_once_and_takes_a_call(rt: HostRuntime) -> Result<(), Fail> {
     let alloc = rt.alloc();
     let mut bench = open_bench(alloc, rules(alloc)?, TWO)?;
     answer(&rt, alloc, &mut bench, 0, SCCRQ, SCCRP);
     answer(&rt, alloc, &mut bench, 1, SCCRQ, &zlb(1, 1));
     assert_due(&rt, bench.shard.due(), Some(1_000));
     answer(&rt, alloc, &mut bench, 2, SCCCN, &zlb(1, 2));
-    answer(&rt, alloc, &mut bench, 3, ICRQ, CDN);
+    answer(&rt, alloc, &mut bench, 3, ICRQ, ICRP);
     let mut tally = NOTHING;
     let (fate, outs) = bench.handled(&rt, alloc, &mut tally, 4, item(ItemKind::Tunnel, DATA));
     assert_same(&rt, &fate, &Fate::Dropped(DropCause::NoSession));
     assert_count(&rt, outs.len(), 0);
+    Ok(())
+}
+
+// Once the ICCN came the call's link asks first, in a data message after the acknowledgement.
+#[test]
+fn a_call_speaks_once_it_is_connected(rt: HostRuntime) -> Result<(), Fail> {
+    let alloc = rt.alloc();
+    let mut bench = established(&rt, alloc)?;
+    answer(&rt, alloc, &mut bench, 1, ICRQ, ICRP);
+    let mut tally = NOTHING;
+    let outs = bench.round(&rt, alloc, &mut tally, 2, item(ItemKind::Tunnel, ICCN));
+    assert_count(&rt, outs.len(), 2);
+    assert_octets(&rt, octets(&outs, 0), &zlb(2, 4));
+    if let Some(out) = outs.get(1) {
+        assert_same(&rt, &out.role, &Role::Tunnel);
+        assert_same(&rt, &out.to, &peer(9011));
+    }
+    Ok(())
+}
+
+// A HELLO of the peer with this Ns.
+fn hello(ns: u16) -> [u8; 20] {
+    let [high, low] = ns.to_be_bytes();
+    [
+        0xc8, 2, 0, 20, 0, 1, 0, 0, high, low, 0, 1, 0x80, 8, 0, 0, 0, 0, 0, 6,
+    ]
+}
+
+// The HELLOs of the peer with the Ns 2 to 65,534, each of which is acknowledged.
+fn talk(rt: &impl Abort, alloc: Global, bench: &mut Bench) {
+    for ns in 2..65_535u16 {
+        let mut tally = NOTHING;
+        let came = item(ItemKind::Tunnel, &hello(ns));
+        let outs = bench.round(rt, alloc, &mut tally, 0, came);
+        assert_count(rt, outs.len(), 1);
+    }
+}
+
+// Ns 0 comes after 65,535 (RFC 2661 section 5.8). A message that comes again is acknowledged again, and one that comes too early is not.
+#[test]
+fn numbers_of_messages_go_on_from_65535_to_0(rt: HostRuntime) -> Result<(), Fail> {
+    let alloc = rt.alloc();
+    let mut bench = established(&rt, alloc)?;
+    talk(&rt, alloc, &mut bench);
+    answer(&rt, alloc, &mut bench, 1, &hello(65_535), &zlb(1, 0));
+    answer(&rt, alloc, &mut bench, 1, &hello(0), &zlb(1, 1));
+    answer(&rt, alloc, &mut bench, 1, &hello(65_535), &zlb(1, 1));
+    answer(&rt, alloc, &mut bench, 1, &hello(0), &zlb(1, 1));
+    let mut tally = NOTHING;
+    let early = item(ItemKind::Tunnel, &hello(2));
+    let outs = bench.round(&rt, alloc, &mut tally, 1, early);
+    assert_count(&rt, outs.len(), 0);
+    answer(&rt, alloc, &mut bench, 1, &hello(1), &zlb(1, 2));
+    Ok(())
+}
+
+// Each message of a call comes twice: one session is made, whose link asks once.
+#[test]
+fn a_call_that_is_asked_for_twice_is_one(rt: HostRuntime) -> Result<(), Fail> {
+    let alloc = rt.alloc();
+    let mut bench = established(&rt, alloc)?;
+    answer(&rt, alloc, &mut bench, 1, ICRQ, ICRP);
+    answer(&rt, alloc, &mut bench, 2, ICRQ, &zlb(2, 3));
+    assert_sessions(&rt, &bench.shard, 1);
+    let mut tally = NOTHING;
+    let outs = bench.round(&rt, alloc, &mut tally, 3, item(ItemKind::Tunnel, ICCN));
+    assert_count(&rt, outs.len(), 2);
+    answer(&rt, alloc, &mut bench, 4, ICCN, &zlb(2, 4));
+    assert_sessions(&rt, &bench.shard, 1);
     Ok(())
 }
 
@@ -123,5 +201,27 @@ fn an_end_without_sessions_stops_each_tunnel_once(rt: HostRuntime) -> Result<(),
     timed(&rt, alloc, &mut bench, ItemKind::End, 5, 1, STOP_CCN);
     timed(&rt, alloc, &mut bench, ItemKind::End, 5, 0, &[]);
     assert_due(&rt, bench.shard.due(), None);
+    Ok(())
+}
+
+// The call gets no CDN.
+#[test]
+fn an_end_stops_the_tunnel_of_a_call(rt: HostRuntime) -> Result<(), Fail> {
+    let alloc = rt.alloc();
+    let mut bench = established(&rt, alloc)?;
+    answer(&rt, alloc, &mut bench, 1, ICRQ, ICRP);
+    let mut tally = NOTHING;
+    let outs = bench.round(&rt, alloc, &mut tally, 2, item(ItemKind::Tunnel, ICCN));
+    assert_count(&rt, outs.len(), 2);
+    timed(
+        &rt,
+        alloc,
+        &mut bench,
+        ItemKind::End,
+        3,
+        1,
+        STOP_CCN_OF_A_CALL,
+    );
+    timed(&rt, alloc, &mut bench, ItemKind::End, 3, 0, &[]);
     Ok(())
 }

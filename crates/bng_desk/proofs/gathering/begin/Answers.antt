@@ -1,4 +1,4 @@
-use Rattle.std.proofs.Common.{◌≡◌, ◌≤◌, ◌+◌, ◌++◌, Bool, ◌&&◌, List, [], count_by, length, ap, ◌∙◌, arith}
+use Rattle.std.proofs.Common.{◌++◌, Bool, ◌&&◌, List, [], count_by, length, ap, ◌∙◌, arith}
 use Rattle.bng_base.specs.declared.item.Item.{Item}
 use Rattle.bng_desk.specs.Coa.{has_places, replies_in}
 use Rattle.bng_desk.specs.Intake.{TakesCoa}

@@ -1,4 +1,4 @@
-use Rattle.std.proofs.Common.{Bool, true, [], ◌∷◌, refl, sym, subst}
+use Rattle.std.proofs.Common.{Bool, true, [], ◌∷◌, sym, subst}
 use Rattle.bng_base.specs.declared.outside.Role.TheVariants.{Tunnel}
 use Rattle.bng_desk.specs.Intake.{Takes}
 use Rattle.bng_desk.specs.Turn.{tunnel_roles}

@@ -1,4 +1,4 @@
-use Rattle.std.proofs.Common.{Option, None, Some, sym, ap, ◌∙◌}
+use Rattle.std.proofs.Common.{Option, ap}
 use Rattle.std.specs.Prelude.{option_map}
 use Rattle.bng_base.proofs.StretchLaws.{plant_stays}
 use Rattle.bng_coa.specs.declared.rules.ChangeVerdict.{ChangeVerdict}

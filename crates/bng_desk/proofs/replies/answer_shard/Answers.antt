@@ -1,4 +1,3 @@
-use Rattle.std.proofs.Common.{sym, ◌∙◌}
 use Rattle.bng_base.proofs.StretchLaws.{plant_stays}
 use Rattle.bng_desk.proofs.CoaLaws.{first_all, first_fewer, first_more, first_none, first_told}
 use Rattle.bng_desk.proofs.replies.answer_shard.Goals as goal

@@ -1,4 +1,4 @@
-use Rattle.std.proofs.Common.{◌≡◌, inl, inr, ℕ, List, None, Some, refl, ap, subst}
+use Rattle.std.proofs.Common.{inl, inr, ℕ, List, Some, refl, ap, subst}
 use Rattle.bng_coa.specs.declared.rules.ChangeVerdict.{ChangeVerdict}
 use Rattle.bng_coa.specs.Admission.{IsRequestIn}
 use Rattle.bng_radius_wire.specs.Grammar.{Packet, whole}

@@ -1,4 +1,4 @@
-use Rattle.std.proofs.Common.{◌≡◌, ℕ, List, ◌++◌, codes, length, ◌∙◌, arith}
+use Rattle.std.proofs.Common.{◌++◌, codes, ◌∙◌, arith}
 use Rattle.std.specs.Fmt.{decimal}
 use Rattle.bng_desk.proofs.Texts.{longer, onto}
 use Rattle.bng_desk.proofs.stats.put_quantities.Goals as goal

@@ -1,7 +1,6 @@
-use Rattle.std.proofs.Common.{◌≡◌, ℕ, ◌+◌, List, [], ◌∷◌, ◌++◌, codes, length, append-nil, sym, ap, ◌∙◌, arith}
+use Rattle.std.proofs.Common.{◌≡◌, ℕ, List, [], ◌∷◌, ◌++◌, codes, length, append-nil, sym, ap, ◌∙◌, arith}
 use Rattle.std.specs.List.{range_with_len}
 use Rattle.std.specs.Prelude.{map}
-use Rattle.bng_base.specs.declared.book.Book.{Book}
 use Rattle.bng_base.specs.Packet.{Packet}
 use Rattle.bng_shard.specs.declared.sums.Traffic.{Traffic}
 use Rattle.bng_engine.specs.Quantities.{in_book}

@@ -1,4 +1,4 @@
-use Rattle.std.proofs.Common.{ℕ, List, ◌++◌, length, ap, ◌∙◌, arith}
+use Rattle.std.proofs.Common.{ℕ, ◌++◌, ap, ◌∙◌, arith}
 use Rattle.bng_desk.specs.Report.{quantities}
 use Rattle.bng_desk.proofs.Texts.{longer, onto}
 use Rattle.bng_desk.proofs.stats.put_traffic.Goals as goal

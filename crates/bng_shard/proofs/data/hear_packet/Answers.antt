@@ -4,7 +4,6 @@ use Rattle.bng_base.specs.Packet.{Packet}
 use Rattle.bng_base.specs.declared.fate.Fate.{Fate}
 use Rattle.bng_base.specs.declared.fate.Fate.TheVariants.{Forwarded}
 use Rattle.bng_base.specs.declared.item.Charge.{Charge}
-use Rattle.bng_base.specs.declared.outside.Role.TheVariants.{Access}
 use Rattle.bng_forward.specs.Fates.{DownFate}
 use Rattle.bng_forward.specs.Packets.{IsPassedOn}
 use Rattle.bng_shard.specs.Deed.{out}
@@ -18,7 +17,7 @@ use Rattle.bng_shard.specs.Tenures.{has_kept}
 use Rattle.bng_shard.specs.declared.meters.Meters.{Meters}
 use Rattle.bng_shard.specs.declared.session.Session.{Session}
 use Rattle.bng_shard.proofs.Carrying.{drops_down, goes_down}
-use Rattle.bng_shard.proofs.Values.{found_at, none_some}
+use Rattle.bng_shard.proofs.Values.{found_at}
 use Rattle.bng_shard.proofs.data.hear_packet.Goals as goal
 use Rattle.bng_shard.proofs.data.hear_packet.Goals.{After-down-fate}
 
@@ -30,11 +29,11 @@ fated : (c : After-down-fate) → DownFate (found_down (whole c.args.served.now 
 fated c =
     subst (λ (octets : List ℕ). DownFate (found_down (whole c.args.served.now c.args.terms.now)) c.args.incoming.now.moment octets c.down-fate.result) (ap (λ (f : Packet). f.payload) c.copy_from.ensures) (c.down-fate.ensures.fate (found_down (whole c.args.served.now c.args.terms.now)) (sym (found c)))
 
-pub unreachable-requires-in_default-port_of : goal.unreachable-requires-in_default-port_of
-unreachable-requires-in_default-port_of c =
-    let (n, at, passes) = found_at (leases c.args.header.dst) (whole c.args.served.now c.args.terms.now).sessions c.in-Some.session.now (sym c.in-Some.ensures) in
-    let (port, is) = c.requires.placed n c.in-Some.session.now at in
-    none_some port (sym c.in_default-port_of.is ∙ c.port_of.ensures ∙ is)
+pub put_on_way-role-requires-clause-placed : goal.put_on_way-role-requires-clause-placed
+put_on_way-role-requires-clause-placed c =
+    let x = c.in-Some.session.now in
+    let (n, at, passes) = found_at (leases c.args.header.dst) (whole c.args.served.now c.args.terms.now).sessions x (sym c.in-Some.ensures) in
+    c.requires.placed n x at
 
 pub returns-in_default-clause-does : goal.returns-in_default-clause-does
 returns-in_default-clause-does c =
@@ -48,7 +47,8 @@ returns-clause-does c =
     let v = c.args.header in
     let on : c.down-fate.result ≡ Forwarded = c.in-Forwarded.is in
     let x = c.in-Some.session.now in
-    let port = c.in-Some-port_of.port in
+    let (role, to) = c.put_on_way-role.result in
+    let octets = c.put_on_way-role.new.packet.payload in
     let l = c.in-Some-lease.lease in
     let (n, at, passes) = found_at (leases c.args.header.dst) c.args.served.now.sessions x (sym c.in-Some.ensures) in
     let moment : ℕ = c.args.incoming.now.moment in
@@ -58,7 +58,7 @@ returns-clause-does c =
     ∙ ap (λ (y : Charge). with_passed c.args.served.now y.term.session moment c.from_view.result) c.charge_of-charge.ensures
     ∙ ap (λ (ms : Meters). with_passed c.args.served.now x.number moment ms) c.from_view.ensures in
     subst (λ (t : State). DoesWith (λ e d. HearsPacket r s e v d) 1 s (whole t c.args.terms.now) c.args.outs.now.items c.push_out.new.outs.items c.args.incoming.now.at c.args.incoming.now.moment c.args.incoming.now.item.now Forwarded) (sym next)
-    (goes_down r s c.args.incoming.now.at c.args.incoming.now.item.now c.args.outs.now.items c.requires.here moment v c.down-fate.new.packet.payload c.put_in_frame.new.frame.payload x l port c.holder_view-view.result c.down-fate.new.holder
-    c.push_out.new.outs.items (found d) spends (sym c.in-Some.ensures) (sym c.in-Some-lease.ensures) (c.requires.tied n x l at (sym c.in-Some-lease.ensures)) (sym c.in-Some-port_of.ensures)
-    (subst (λ (f : Fate). DownFate (found_down s) moment c.args.incoming.now.item.now.frame.payload f) on (fated d)) (subst (λ (octets : List ℕ). IsPassedOn v octets c.down-fate.new.packet.payload) (ap (λ (f : Packet). f.payload) c.copy_from.ensures) passed) c.put_in_frame.ensures.framed c.put_in_frame.ensures.again
-    (c.push_out.ensures.items ∙ ap (λ (y : Charge). c.args.outs.now.items ++ out c.args.incoming.now.at (Access x.port) port.peer c.put_in_frame.new.frame.payload (Some y) ∷ []) c.charge_of-charge.ensures))
+    (goes_down r s c.args.incoming.now.at c.args.incoming.now.item.now c.args.outs.now.items c.requires.here moment v c.down-fate.new.packet.payload octets role to x l c.holder_view-view.result c.down-fate.new.holder
+    c.push_out.new.outs.items (found d) spends (sym c.in-Some.ensures) (sym c.in-Some-lease.ensures) (c.requires.tied n x l at (sym c.in-Some-lease.ensures)) c.put_on_way-role.ensures
+    (subst (λ (f : Fate). DownFate (found_down s) moment c.args.incoming.now.item.now.frame.payload f) on (fated d)) (subst (λ (octets : List ℕ). IsPassedOn v octets c.down-fate.new.packet.payload) (ap (λ (f : Packet). f.payload) c.copy_from.ensures) passed)
+    (c.push_out.ensures.items ∙ ap (λ (y : Charge). c.args.outs.now.items ++ out c.args.incoming.now.at role to octets (Some y) ∷ []) c.charge_of-charge.ensures))

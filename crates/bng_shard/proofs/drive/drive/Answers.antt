@@ -1,49 +1,80 @@
-use Rattle.std.proofs.Common.{◌≡◌, ◌++◌, ◌∙◌, ℕ, List, Option, Some, ap, subst, sym}
-use Rattle.bng_base.specs.declared.settings.AccessPort.{AccessPort}
+use Rattle.std.proofs.Common.{◌≡◌, ◌++◌, ◌∙◌, ℕ, List, Option, ap, subst, sym}
+use Rattle.bng_base.specs.declared.item.OutRecord.{OutRecord}
 use Rattle.bng_ppp.specs.PppRelation.{PppSteps}
 use Rattle.bng_ppp.specs.Said.{payloads}
 use Rattle.bng_shard.specs.declared.session.Session.{Session}
 use Rattle.bng_shard.specs.Driven.{Driven}
-use Rattle.bng_shard.specs.Link.{EndsWith, asked_after, ppp_outs}
-use Rattle.bng_shard.specs.State.{port_at}
-use Rattle.bng_shard.proofs.Driving.{driven_finished, driven_on, offered}
+use Rattle.bng_shard.specs.Fits.{IsPlaced}
+use Rattle.bng_shard.specs.Link.{PartsOn, SaysOn, asked_after, parted_way}
+use Rattle.bng_shard.specs.State.{beside_at}
+use Rattle.bng_shard.proofs.Driving.{driven_finished, driven_on, finished_link, going_link}
 use Rattle.bng_shard.proofs.drive.drive.Goals as goal
-use Rattle.bng_shard.proofs.drive.drive.Goals.{After-send_frames}
+use Rattle.bng_shard.proofs.drive.drive.Goals.{After-send_frames, After-step-asked}
+
+-- the session stays on its way through a step of its link
+there : (c : After-step-asked) → IsPlaced c.args.incoming.now.rules.now c.step-asked.new.self.way
+there c =
+    let (made, says, link, is, steps, next, count, outs, finished, ends_term) = c.step-asked.ensures.steps in
+    subst (λ (y : Session). IsPlaced c.args.incoming.now.rules.now y.way) (sym next) c.requires.placed
 
 -- the frames of the session as it was
-framed : (c : After-send_frames) → (port : AccessPort) → port_at c.args.incoming.now.rules.now.access c.args.session.now.port ≡ Some port
-    → c.send_frames.new.outs.items ≡ c.args.outs.now.items ++ ppp_outs c.args.incoming.now.at c.args.session.now port c.step-asked.ensures.steps.1.outs
+framed : (c : After-send_frames) → (first : List OutRecord) × SaysOn c.args.session.now.way c.args.incoming.now.rules.now c.args.incoming.now.at c.args.session.now.number c.step-asked.ensures.steps.1.outs first
+    × (c.send_frames.new.outs.items ≡ c.args.outs.now.items ++ first)
 framed c =
     let (made, says, link, is, steps, next, count, outs, finished, ends_term) = c.step-asked.ensures.steps in
-    let frames : (port : AccessPort) → port_at c.args.incoming.now.rules.now.access c.args.session.now.port ≡ Some port
-    → c.send_frames.new.outs.items ≡ c.args.outs.now.items ++ ppp_outs c.args.incoming.now.at c.args.session.now port (payloads c.outs.result.now) =
-    subst (λ (y : Session). (port : AccessPort) → port_at c.args.incoming.now.rules.now.access y.port ≡ Some port → c.send_frames.new.outs.items ≡ c.args.outs.now.items ++ ppp_outs c.args.incoming.now.at y port (payloads c.outs.result.now)) next
-    c.send_frames.ensures.items in
-    λ port there. frames port there ∙ ap (λ (os : List (List ℕ)). c.args.outs.now.items ++ ppp_outs c.args.incoming.now.at c.args.session.now port os) (ap payloads c.outs.ensures.frames ∙ sym outs)
+    let (first, tells, are) = c.send_frames.ensures.told in
+    let r = c.args.incoming.now.rules.now in
+    let x = c.args.session.now in
+    let as_it_was : SaysOn x.way r c.args.incoming.now.at x.number (payloads c.outs.result.now) first =
+    subst (λ (y : Session). SaysOn y.way r c.args.incoming.now.at y.number (payloads c.outs.result.now) first) next tells in
+    (first, subst (λ (os : List (List ℕ)). SaysOn x.way r c.args.incoming.now.at x.number os first) (ap payloads c.outs.ensures.frames ∙ sym outs) as_it_was, are)
+
+pub send_frames-requires-clause-placed : goal.send_frames-requires-clause-placed
+send_frames-requires-clause-placed c = there ((goal.at.send_frames-requires-clause-placed c).After-step-asked)
+
+pub part-requires-clause-placed : goal.part-requires-clause-placed
+part-requires-clause-placed c = there ((goal.at.part-requires-clause-placed c).After-step-asked)
 
 pub returns-then-steps-clause-driven : goal.returns-then-steps-clause-driven
 returns-then-steps-clause-driven c =
     let (made, says, link, is, steps, next, count, outs, finished, ends_term) = c.step-asked.ensures.steps in
-    let (padt, ends, last) = c.send_padt.ensures.items in
+    let (first, tells, are) = framed ((goal.at.returns-then-steps-clause-driven c).After-send_frames) in
+    let (last, parts, sent, few) = c.part.ensures.told in
     let r = c.args.incoming.now.rules.now in
+    let a = c.args.incoming.now.at in
+    let now = c.args.incoming.now.moment in
     let x = c.args.session.now in
-    let Steps = PppSteps r.link c.args.input c.args.incoming.now.moment c.args.incoming.now.item.now.random in
-    subst (λ (q : Option ℕ). Driven r c.args.incoming.now.at Steps c.args.asked x q c.step-asked.new.self c.step-asked.result c.args.outs.now.items c.send_padt.new.outs.items) ends_term
-    (subst (λ (n : ℕ). Driven r c.args.incoming.now.at Steps c.args.asked x says.term_ended c.step-asked.new.self n c.args.outs.now.items c.send_padt.new.outs.items) (sym count)
-    (subst (λ (y : Session). Driven r c.args.incoming.now.at Steps c.args.asked x says.term_ended y (asked_after c.args.asked says.asked) c.args.outs.now.items c.send_padt.new.outs.items) (sym next)
-    (driven_finished r c.args.incoming.now.at Steps c.args.asked x made is says link steps c.args.outs.now.items c.send_frames.new.outs.items
-    (framed (goal.at.returns-then-steps-clause-driven c).After-send_frames) c.send_padt.new.outs.items padt (finished ∙ c.if-steps.true) (subst (λ (y : Session). EndsWith r c.args.incoming.now.at y padt) next ends) last)))
+    let b = beside_at now c.args.asked c.args.served.now.tunnels in
+    let u = c.part.new.served.tunnels in
+    let items = c.args.outs.now.items in
+    let all = c.part.new.outs.items in
+    let Steps = PppSteps r.link c.args.input now c.args.incoming.now.item.now.random in
+    let over = finished ∙ c.if-steps.true in
+    let session = c.part.ensures.session ∙ ap (λ (y : Session). let z : Session = record y { way = parted_way y.way } in z) next
+    ∙ finished_link r a Steps b x made is says link steps items c.send_frames.new.outs.items first tells are over in
+    let on_its_way : PartsOn x.way r a now x.number c.args.served.now.tunnels last u =
+    subst (λ (y : Session). PartsOn y.way r a now y.number c.args.served.now.tunnels last u) next parts in
+    subst (λ (q : Option ℕ). Driven r a Steps b x q c.part.new.session (beside_at now c.step-asked.result u) items all) ends_term
+    (subst (λ (n : ℕ). Driven r a Steps b x says.term_ended c.part.new.session (beside_at now n u) items all) (sym count)
+    (subst (λ (y : Session). Driven r a Steps b x says.term_ended y (beside_at now (asked_after c.args.asked says.asked) u) items all) (sym session)
+    (driven_finished r a Steps b x made is says link steps items c.send_frames.new.outs.items first tells are all last u over on_its_way few sent)))
 
 pub returns-else-steps-clause-driven : goal.returns-else-steps-clause-driven
 returns-else-steps-clause-driven c =
     let (made, says, link, is, steps, next, count, outs, finished, ends_term) = c.step-asked.ensures.steps in
-    let (port, its_port) = c.requires.placed in
+    let (first, tells, are) = framed ((goal.at.returns-else-steps-clause-driven c).After-send_frames) in
     let r = c.args.incoming.now.rules.now in
+    let a = c.args.incoming.now.at in
+    let now = c.args.incoming.now.moment in
     let x = c.args.session.now in
-    let Steps = PppSteps r.link c.args.input c.args.incoming.now.moment c.args.incoming.now.item.now.random in
-    let (offers, its_offers) = offered r x.port port c.requires.offers its_port in
-    subst (λ (q : Option ℕ). Driven r c.args.incoming.now.at Steps c.args.asked x q c.step-asked.new.self c.step-asked.result c.args.outs.now.items c.send_frames.new.outs.items) ends_term
-    (subst (λ (n : ℕ). Driven r c.args.incoming.now.at Steps c.args.asked x says.term_ended c.step-asked.new.self n c.args.outs.now.items c.send_frames.new.outs.items) (sym count)
-    (subst (λ (y : Session). Driven r c.args.incoming.now.at Steps c.args.asked x says.term_ended y (asked_after c.args.asked says.asked) c.args.outs.now.items c.send_frames.new.outs.items) (sym next)
-    (driven_on r c.args.incoming.now.at Steps c.args.asked x made is says link steps c.args.outs.now.items c.send_frames.new.outs.items
-    (framed (goal.at.returns-else-steps-clause-driven c).After-send_frames) port offers (record { port_is = its_port; offers_are = its_offers }) (finished ∙ c.if-steps.false))))
+    let u = c.args.served.now.tunnels in
+    let b = beside_at now c.args.asked u in
+    let items = c.args.outs.now.items in
+    let all = c.send_frames.new.outs.items in
+    let Steps = PppSteps r.link c.args.input now c.args.incoming.now.item.now.random in
+    let going = finished ∙ c.if-steps.false in
+    let session = next ∙ going_link r a Steps b x made is says link steps items all first tells are going in
+    subst (λ (q : Option ℕ). Driven r a Steps b x q c.step-asked.new.self (beside_at now c.step-asked.result u) items all) ends_term
+    (subst (λ (n : ℕ). Driven r a Steps b x says.term_ended c.step-asked.new.self (beside_at now n u) items all) (sym count)
+    (subst (λ (y : Session). Driven r a Steps b x says.term_ended y (beside_at now (asked_after c.args.asked says.asked) u) items all) (sym session)
+    (driven_on r a Steps b x made is says link steps items all first tells are going)))

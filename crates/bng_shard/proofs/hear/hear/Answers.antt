@@ -26,8 +26,8 @@ returns-in-Core-clause-does c =
 pub returns-in-Tunnel-clause-does : goal.returns-in-Tunnel-clause-does
 returns-in-Tunnel-clause-does c =
     let none = unasked c.args.incoming.now.rules.now c.args.served.now c.args.incoming.now.item.now c.args.limited c.args.claim Tunnel c.in-Tunnel.is (λ w e. e) c.requires.asked in
-    stepped c.args.incoming.now.rules.now (whole c.args.served.now c.args.terms.now) (whole c.hear_tunnel.new.served c.args.terms.now) c.args.outs.now.items c.hear_tunnel.new.outs.items c.args.incoming.now.at c.args.incoming.now.moment c.args.incoming.now.item.now c.args.limited c.args.claim none c.hear_tunnel.result Tunnel c.in-Tunnel.is refl
-    (c.hear_tunnel.ensures.does c.args.terms.now)
+    stepped c.args.incoming.now.rules.now (whole c.args.served.now c.args.terms.now) (whole c.hear_tunnel.new.served c.hear_tunnel.new.terms) c.args.outs.now.items c.hear_tunnel.new.outs.items c.args.incoming.now.at c.args.incoming.now.moment c.args.incoming.now.item.now c.args.limited c.args.claim none c.hear_tunnel.result Tunnel c.in-Tunnel.is refl
+    c.hear_tunnel.ensures.does
 
 pub returns-in-Verdict-clause-does : goal.returns-in-Verdict-clause-does
 returns-in-Verdict-clause-does c =

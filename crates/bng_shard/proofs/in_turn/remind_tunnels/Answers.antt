@@ -1,29 +1,34 @@
-use Rattle.std.proofs.Common.{◌≡◌, refl, ap, ◌∙◌, arith, rules}
-use Rattle.bng_lns.specs.Timed.{reminded}
-use Rattle.bng_shard.specs.State.{State, with_tunnels}
-use Rattle.bng_shard.proofs.Tunnelling.{tells_begin, tells_done, tells_more}
+use Rattle.std.proofs.Common.{◌≡◌, refl, ◌∙◌, arith, rules}
+use Rattle.bng_shard.specs.Running.{whole}
+use Rattle.bng_shard.proofs.Reminding.{reminds_begin, reminds_done, reminds_more}
+use Rattle.bng_shard.proofs.SumsKept.{keeps_same, keeps_then}
 use Rattle.bng_shard.proofs.in_turn.remind_tunnels.Goals as goal
 
 pub loop-place-init : goal.loop-place-init
 loop-place-init c = record {
-  on = tells_begin reminded c.args.at c.args.now c.args.served.now.tunnels c.args.outs.now.items;
-  others = refl;
+  on = reminds_begin c.args.at c.args.now (whole c.args.served.now c.args.terms.now) c.args.outs.now.items;
+  sums = keeps_same c.args.terms.now;
+  shard = refl;
+  placed = λ r all. all;
   capacity = search rules;
   few = omega arith;
 }
 
 pub loop-place-preserved : goal.loop-place-preserved
 loop-place-preserved c = record {
-  on = tells_more reminded c.args.at c.args.now c.args.served.now.tunnels c.loop-place.served.tunnels c.args.outs.now.items c.loop-place.outs.items c.loop-place.place c.remind_one.new.served.tunnels c.remind_one.new.outs.items c.loop-place.invariant.on c.remind_one.ensures.told;
-  others = c.remind_one.ensures.others ∙ ap (λ (s : State). with_tunnels s c.remind_one.new.served.tunnels) c.loop-place.invariant.others;
+  on = reminds_more c.args.at c.args.now (whole c.args.served.now c.args.terms.now) (whole c.loop-place.served c.loop-place.terms) c.args.outs.now.items c.loop-place.outs.items c.loop-place.place
+      (whole c.remind_one.new.served c.remind_one.new.terms) c.remind_one.new.outs.items c.loop-place.invariant.on c.remind_one.ensures.reminded;
+  sums = keeps_then c.args.terms.now c.loop-place.terms c.remind_one.new.terms c.loop-place.invariant.sums c.remind_one.ensures.sums;
+  shard = c.remind_one.ensures.shard ∙ c.loop-place.invariant.shard;
+  placed = λ r all. c.remind_one.ensures.placed r (c.loop-place.invariant.placed r all);
   capacity = search rules;
   few = omega (arith, c.remind_one.ensures.few, c.loop-place.invariant.few);
 }
 
-pub returns-clause-told : goal.returns-clause-told
-returns-clause-told c =
+pub returns-clause-reminded : goal.returns-clause-reminded
+returns-clause-reminded c =
     let all : c.loop-place.place ≡ 16 = omega (arith, c.loop-place-test.false, c.loop-place.auto.place-end) in
-    tells_done reminded c.args.at c.args.now c.args.served.now.tunnels c.loop-place.served.tunnels c.args.outs.now.items c.loop-place.outs.items c.loop-place.place all c.loop-place.invariant.on
+    reminds_done c.args.at c.args.now (whole c.args.served.now c.args.terms.now) (whole c.loop-place.served c.loop-place.terms) c.args.outs.now.items c.loop-place.outs.items c.loop-place.place all c.loop-place.invariant.on
 
 pub returns-clause-few : goal.returns-clause-few
 returns-clause-few c = omega (arith, c.loop-place.invariant.few, c.loop-place.auto.place-end)

@@ -1,13 +1,16 @@
 use Rattle.std.proofs.Common.{◌≡◌, ◌+◌, ◌*◌, ◌≤◌, length}
-use Rattle.bng_lns.specs.Timed.{reminded}
-use Rattle.bng_shard.specs.State.{with_tunnels}
-use Rattle.bng_shard.proofs.Tunnelling.{TellsOn}
+use Rattle.bng_shard.specs.declared.rules.Rules.{Rules}
+use Rattle.bng_shard.specs.Fits.{ArePlaced}
+use Rattle.bng_shard.specs.Running.{KeepSums, whole}
+use Rattle.bng_shard.proofs.Reminding.{RemindsOn}
 use Rattle.bng_shard.proofs.in_turn.remind_tunnels.Given as goal
 
 abbrev pub invariant-loop-place : goal.invariant-loop-place
 invariant-loop-place l = record {
-  on : TellsOn reminded l.place l.at l.now l.fn.served.tunnels l.served.tunnels l.fn.outs.items l.outs.items;
-  others : l.served ≡ with_tunnels l.fn.served l.served.tunnels;
+  on : RemindsOn l.place l.at l.now (whole l.fn.served l.fn.terms) (whole l.served l.terms) l.fn.outs.items l.outs.items;
+  sums : KeepSums l.fn.terms l.terms;
+  shard : l.served.sessions.shard ≡ l.fn.served.sessions.shard;
+  placed : (r : Rules) → ArePlaced r l.fn.served.sessions → ArePlaced r l.served.sessions;
   capacity : l.outs.room ≡ l.fn.outs.room;
   few : length l.outs.items ≤ length l.fn.outs.items + 8 * l.place;
 }

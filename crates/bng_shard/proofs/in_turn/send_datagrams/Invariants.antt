@@ -1,6 +1,6 @@
 use Rattle.std.proofs.Common.{◌≡◌, ◌+◌, ◌≤◌, ◌++◌, length, take}
 use Rattle.bng_l2tp_tunnel.specs.View.{payloads}
-use Rattle.bng_shard.specs.L2tp.{tunnel_outs}
+use Rattle.bng_shard.specs.Deed.{tunnel_outs}
 use Rattle.bng_shard.proofs.in_turn.send_datagrams.Given as goal
 
 abbrev pub invariant-loop-frame : goal.invariant-loop-frame

@@ -2,7 +2,8 @@ use Rattle.std.proofs.Common.{◌++◌, List, [], Option, refl, sym, ap, subst, 
 use Rattle.bng_base.specs.Packet.{Packet}
 use Rattle.bng_l2tp_tunnel.specs.View.{payloads}
 use Rattle.bng_lns.specs.Timed.{Telling, stopped}
-use Rattle.bng_shard.specs.L2tp.{TellsIts, tunnel_outs}
+use Rattle.bng_shard.specs.Deed.{tunnel_outs}
+use Rattle.bng_shard.specs.L2tp.{TellsIts}
 use Rattle.bng_shard.specs.State.{State}
 use Rattle.bng_shard.proofs.Tunnelling.{others_kept, payloads_length}
 use Rattle.bng_shard.proofs.in_turn.stop_one.Goals as goal

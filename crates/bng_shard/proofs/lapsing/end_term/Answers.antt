@@ -1,23 +1,24 @@
 use Rattle.std.proofs.Common.{◌∙◌, Option, Some, ap, subst, sym}
 use Rattle.bng_shard.specs.declared.session.Lease.{Lease}
 use Rattle.bng_shard.specs.declared.session.Session.{Session}
+use Rattle.bng_shard.specs.Fits.{IsPlaced}
 use Rattle.bng_shard.specs.Passing.{lapsed}
 use Rattle.bng_shard.specs.Running.{TermsView, closed_rows}
 use Rattle.bng_shard.specs.Serving.{KeepsLease}
-use Rattle.bng_shard.specs.State.{port_at}
+use Rattle.bng_shard.specs.State.{beside_at}
 use Rattle.bng_shard.specs.Timed.{ClosedLink}
 use Rattle.bng_shard.proofs.Looking.{closed_few, keeps_lapsed}
 use Rattle.bng_shard.proofs.lapsing.end_term.Goals as goal
 use Rattle.bng_shard.proofs.lapsing.end_term.Goals.{After-close_link}
 
 -- the link closed after the term had ended
-closes : (c : After-close_link) → ClosedLink c.args.session.now.service c.args.incoming.now.rules.now c.args.incoming.now.at c.args.incoming.now.moment c.args.incoming.now.item.now.random c.args.asked (lapsed c.args.session.now) c.close_link.new.session c.close_link.result c.args.outs.now.items c.close_link.new.outs.items
+closes : (c : After-close_link) → ClosedLink c.args.session.now.service c.args.incoming.now.rules.now c.args.incoming.now.at c.args.incoming.now.moment c.args.incoming.now.item.now.random (beside_at c.args.incoming.now.moment c.args.asked c.args.served.now.tunnels) (lapsed c.args.session.now) c.close_link.new.session (beside_at c.args.incoming.now.moment c.close_link.result c.close_link.new.served.tunnels) c.args.outs.now.items c.close_link.new.outs.items
 closes c =
-    subst (λ (y : Session). ClosedLink y.service c.args.incoming.now.rules.now c.args.incoming.now.at c.args.incoming.now.moment c.args.incoming.now.item.now.random c.args.asked y c.close_link.new.session c.close_link.result c.args.outs.now.items c.close_link.new.outs.items)
+    subst (λ (y : Session). ClosedLink y.service c.args.incoming.now.rules.now c.args.incoming.now.at c.args.incoming.now.moment c.args.incoming.now.item.now.random (beside_at c.args.incoming.now.moment c.args.asked c.args.served.now.tunnels) y c.close_link.new.session (beside_at c.args.incoming.now.moment c.close_link.result c.close_link.new.served.tunnels) c.args.outs.now.items c.close_link.new.outs.items)
     c.lapse.ensures c.close_link.ensures.closed
 
 pub close_link-requires-clause-placed : goal.close_link-requires-clause-placed
-close_link-requires-clause-placed c = (c.requires.placed.0, ap (λ (y : Session). port_at c.args.incoming.now.rules.now.access y.port) c.lapse.ensures ∙ c.requires.placed.1)
+close_link-requires-clause-placed c = subst (λ (y : Session). IsPlaced c.args.incoming.now.rules.now y.way) (sym c.lapse.ensures) c.requires.placed
 
 pub close_link-requires-clause-leased : goal.close_link-requires-clause-leased
 close_link-requires-clause-leased c =
@@ -38,5 +39,5 @@ returns-clause-number c = c.close_link.ensures.number ∙ ap (λ (y : Session). 
 pub returns-clause-fewer : goal.returns-clause-fewer
 returns-clause-fewer c = λ some.
     let d = (goal.at.returns-clause-fewer c).After-close_link in
-    closed_few c.args.incoming.now.rules.now c.args.incoming.now.at c.args.incoming.now.moment c.args.incoming.now.item.now.random c.args.asked c.args.session.now c.close_link.new.session c.close_link.result c.args.outs.now.items c.close_link.new.outs.items
+    closed_few c.args.incoming.now.rules.now c.args.incoming.now.at c.args.incoming.now.moment c.args.incoming.now.item.now.random (beside_at c.args.incoming.now.moment c.args.asked c.args.served.now.tunnels) c.args.session.now c.close_link.new.session (beside_at c.args.incoming.now.moment c.close_link.result c.close_link.new.served.tunnels) c.args.outs.now.items c.close_link.new.outs.items
     c.args.session.now.service c.requires.leased some (closes d)

@@ -1,4 +1,4 @@
-use Rattle.bng_shard.proofs.GrantLaws.{settled_sound, step_accepted, step_few, step_last, step_sound, step_yes}
+use Rattle.bng_shard.proofs.GrantLaws.{settled_sound, step_accepted, step_few, step_last, step_sound, step_yes, step_yes_over}
 use Rattle.bng_shard.proofs.SoundOpening.{opened_sound}
 use Rattle.bng_shard.proofs.laws.yeses_are_granted.Goals as goal
 
@@ -13,6 +13,9 @@ returns-clause-settled c = settled_sound
 
 pub returns-clause-yes : goal.returns-clause-yes
 returns-clause-yes c = step_yes
+
+pub returns-clause-yes_over : goal.returns-clause-yes_over
+returns-clause-yes_over c = step_yes_over
 
 pub returns-clause-accepted : goal.returns-clause-accepted
 returns-clause-accepted c = step_accepted

@@ -1,7 +1,7 @@
 use Rattle.std.proofs.Common.{◌≡◌, ◌∙◌, Some, ap, subst, sym}
 use Rattle.bng_base.specs.declared.address.SessionNo.{SessionNo}
 use Rattle.bng_shard.specs.declared.session.Session.{Session}
-use Rattle.bng_shard.specs.Fits.{ArePlaced}
+use Rattle.bng_shard.specs.Fits.{ArePlaced, IsPlaced}
 use Rattle.bng_shard.specs.Link.{ended}
 use Rattle.bng_shard.specs.Serving.{KeepsLease}
 use Rattle.bng_shard.specs.Indexed.{address_of}
@@ -58,7 +58,7 @@ returns-clause-placed c =
     let d = (goal.at.returns-clause-placed c).After-end in
     let next = put_back c.args.served.now c.take-session.new.self c.in-Some.number.0 c.end.new.self.number.0 c.take-session.ensures.after (same_number d) c.put.new.self c.end.new.self c.put.ensures in
     subst (λ (t : State). ArePlaced c.args.rules.now t.sessions) (sym next)
-    (placed_with c.args.rules.now c.args.served.now c.in-Some.number.0 c.take-session.result c.end.new.self (sym c.take-session.ensures.value) (ap (λ (y : Session). y.port) c.end.ensures) c.requires.placed)
+    (placed_with c.args.rules.now c.args.served.now c.in-Some.number.0 c.end.new.self (subst (λ (y : Session). IsPlaced c.args.rules.now y.way) (sym c.end.ensures) (c.requires.placed c.in-Some.number.0 c.take-session.result (sym c.take-session.ensures.value))) c.requires.placed)
 
 pub returns-clause-sums : goal.returns-clause-sums
 returns-clause-sums c = closed_keeps c.args.terms.now c.close.new.self c.lease.result (Some 10) c.close.ensures

@@ -1,4 +1,5 @@
 use Rattle.std.proofs.Common.{◌≡◌, ℕ, Option, Some, None, IsSome, refl, subst, sym}
+use Rattle.bng_shard.specs.State.{beside_at}
 use Rattle.bng_shard.specs.declared.session.Lease.{Lease}
 use Rattle.bng_shard.specs.declared.session.Session.{Session}
 use Rattle.bng_shard.specs.Passing.{cause_at}
@@ -18,8 +19,10 @@ returns-clause-looked c =
     let now = c.args.incoming.now.moment in
     let random = c.args.incoming.now.item.now.random in
     let x = c.args.session.now in
-    subst (λ (k : Option ℕ). LookedOnce k r a now random c.args.passed c.args.asked x c.end_term.new.session c.end_term.result c.args.terms.now c.end_term.new.terms c.args.outs.now.items c.end_term.new.outs.items) c.in-Some.ensures.cause
-    (subst (λ (y : Session). LostTerm y.service c.in-Some.cause r a now random c.args.asked y c.end_term.new.session c.end_term.result c.args.terms.now c.end_term.new.terms c.args.outs.now.items c.end_term.new.outs.items) c.in-Some.ensures.over c.end_term.ensures.lost)
+    let before = beside_at now c.args.asked c.args.served.now.tunnels in
+    let after = beside_at now c.end_term.result c.end_term.new.served.tunnels in
+    subst (λ (k : Option ℕ). LookedOnce k r a now random c.args.passed before x c.end_term.new.session after c.args.terms.now c.end_term.new.terms c.args.outs.now.items c.end_term.new.outs.items) c.in-Some.ensures.cause
+    (subst (λ (y : Session). LostTerm y.service c.in-Some.cause r a now random before y c.end_term.new.session after c.args.terms.now c.end_term.new.terms c.args.outs.now.items c.end_term.new.outs.items) c.in-Some.ensures.over c.end_term.ensures.lost)
 
 pub returns-clause-few : goal.returns-clause-few
 returns-clause-few c =

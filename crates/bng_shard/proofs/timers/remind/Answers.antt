@@ -1,4 +1,5 @@
 use Rattle.std.proofs.Common.{◌∙◌, ap, arith, length, length-append, Option}
+use Rattle.bng_shard.specs.State.{beside_at}
 use Rattle.bng_shard.specs.declared.session.Lease.{Lease}
 use Rattle.bng_shard.specs.Running.{TermsView, closed_rows}
 use Rattle.bng_shard.proofs.FewOuts.{drives_by_timer, leased_by_timer}
@@ -12,13 +13,13 @@ returns-clause-driven c =
 pub returns-clause-few : goal.returns-clause-few
 returns-clause-few c =
     let d = c.drive-asked.ensures.driven in
-    let most = drives_by_timer c.args.incoming.now.rules.now c.args.incoming.now.at c.args.incoming.now.moment c.args.incoming.now.item.now.random c.args.asked c.args.session.now d.more c.drive-asked.result.1 c.drive-asked.new.session c.drive-asked.result.0 d.drives in
+    let most = drives_by_timer c.args.incoming.now.rules.now c.args.incoming.now.at c.args.incoming.now.moment c.args.incoming.now.item.now.random (beside_at c.args.incoming.now.moment c.args.asked c.args.served.now.tunnels) c.args.session.now d.more c.drive-asked.result.1 c.drive-asked.new.session (beside_at c.args.incoming.now.moment c.drive-asked.result.0 c.drive-asked.new.served.tunnels) d.drives d.few_last in
     let all = length-append c.args.outs.now.items d.more in
     omega (arith, most, all, ap length d.outs_are)
 
 pub returns-clause-fewer : goal.returns-clause-fewer
 returns-clause-fewer c = λ some.
     let d = c.drive-asked.ensures.driven in
-    let most = leased_by_timer c.args.incoming.now.rules.now c.args.incoming.now.at c.args.incoming.now.moment c.args.incoming.now.item.now.random c.args.asked c.args.session.now d.more c.drive-asked.result.1 c.drive-asked.new.session c.drive-asked.result.0 d.drives c.drive-asked.ensures.leased some in
+    let most = leased_by_timer c.args.incoming.now.rules.now c.args.incoming.now.at c.args.incoming.now.moment c.args.incoming.now.item.now.random (beside_at c.args.incoming.now.moment c.args.asked c.args.served.now.tunnels) c.args.session.now d.more c.drive-asked.result.1 c.drive-asked.new.session (beside_at c.args.incoming.now.moment c.drive-asked.result.0 c.drive-asked.new.served.tunnels) d.drives c.drive-asked.ensures.leased some in
     let all = length-append c.args.outs.now.items d.more in
     omega (arith, most, all, ap length d.outs_are)

@@ -1,4 +1,4 @@
-use Rattle.std.proofs.Common.{◌≡◌, ℕ, ◌+◌, ◌*◌, ◌<◌, ◌≤◌, Bool, false, ◌&&◌, List, [], ◌∷◌, Option, length, replicate, vec_capacity, refl, sym, ap, subst, arith, ◌∙◌}
+use Rattle.std.proofs.Common.{◌≡◌, ℕ, ◌+◌, ◌*◌, ◌<◌, ◌≤◌, false, List, [], ◌∷◌, Option, length, replicate, vec_capacity, refl, sym, ap, subst, arith, ◌∙◌}
 use Rattle.std.specs.List.{All}
 use Rattle.bng_base.specs.declared.book.Profile.{Profile}
 use Rattle.bng_base.specs.declared.item.Item.{Item}
@@ -278,8 +278,8 @@ returns g c =
     c.begin-front.result.reads c.begin-front.result.verdicts (front g b) c.gather-quiet.new.items.items (replies_in c.begin-front.new.lists.repeats.items) c.settle-noted.result due record_due
     (told c.args.plant.now) (told c.heed-heeding.new.plant) (told c.hear-unacknowledged.new.plant) (told c.begin-front.new.plant) (told c.gather-quiet.new.plant) (told c.settle-noted.new.plant) (told c.wait_for_work.new.plant) (g.T.Trace.told c.args.trace.now) (g.T.Trace.told c.settle-noted.new.trace)
     refl c.self.invariant.0.all_told (heeds g b) c.hear-unacknowledged.ensures.takes (takes g b) c.begin-front.ensures.reads c.begin-front.ensures.verdicts (gathers g b) (settles g c) c.deadline.ensures c.deadline-2.ensures
-    c.both-idle.result (wait_for (earliest (deadline_in c.as_slice-3.result.now) c.earlier-asked.result) c.now-now.result) c.wait_for_work.ensures
-    (c.both-idle.ensures ∙ ap (λ (x : Bool). x && c.settle-noted.result.noted) (c.both-silent.ensures ∙ ap (λ (x : Bool). x && c.gather-quiet.result) (c.both-unasked.ensures ∙ ap (λ (x : Bool). x && c.begin-front.result.quiet) c.both.ensures)))
+    c.took_nothing-idle.result (wait_for (earliest (deadline_in c.as_slice-3.result.now) c.earlier-asked.result) c.now-now.result) c.wait_for_work.ensures
+    c.took_nothing-idle.ensures
     (ap (λ (x : Option ℕ). wait_for x c.now-now.result)
     (ap (λ (xs : Shards). earliest (deadline_in xs) c.earlier-asked.result) c.as_slice-3.ensures.value ∙ ap (λ (x : Option ℕ). earliest (deadline_in after.shards.items) x) c.earlier-asked.ensures))
     (later g b) (clock c.args.clock.now) (clock c.now-now.new.self) (clock c.wall-wall.new.self) c.now-now.ensures.answers c.wall-wall.ensures.answers (c.wall-wall.ensures.last ∙ c.now-now.ensures.last)

@@ -19,7 +19,7 @@ returns-clause-first c =
     let q : Question = record { ask = c.question-2.inside.ask; claim = claim_of c.question-2.inside.credentials } in
     let asks : open_of x ≡ Some q = sym c.in_ok-question.ensures ∙ ap (λ (p : Question). Some p) (sym c.question-2.view_is) in
     let head = head_is c.self.inside.sessions c.args.handed.now c.as_slice.result.now (subst (λ (ns : List SessionNo). AreAsking c.self.inside.sessions ns) (sym c.as_slice.ensures.value) c.self.invariant.asking) c.in_ok-number.number x q c.in_ok-number.ensures (sym c.in_ok-session.ensures) asks in
-    let circuit = c.pppoe_circuit.ensures in
+    let circuit = c.own_circuit.ensures in
     let claim = c.copied.ensures in
     rw (← c.self.view_is) ((λ i. Some (record { number = record { session = x.number; ask = q.ask }; circuit = circuit i; claim = claim i })) ∙ sym head)
 

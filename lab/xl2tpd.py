@@ -1,0 +1,176 @@
+"""Lets a real xl2tpd, as an access concentrator, bring a tunnel and a call up at the real program, once without a secret and once with
+one, and hang up. Where there is a pppd that may open /dev/ppp, it logs in over the call, and packets go both ways."""
+
+import os
+import select
+import shutil
+import signal
+import socket
+import subprocess
+import sys
+import time
+
+import radius
+from evidence import Checks
+from gateway import CRATE, LOOPBACK, PROGRAM, Lab, is_built, tried, udp
+from lac import SECRET, SHARING
+from logins import PASSWORD, USER, hear_request, send_reply
+from radius import ACCESS_ACCEPT, FRAMED
+
+PATIENCE = 30
+STARTING = 300
+ADDRESS, FAR = "10.0.0.50", "192.0.2.1"
+
+GLOBAL = """\
+[global]
+listen-addr = {address}
+port = {port}
+auth file = {folder}/secrets
+[lac gateway]
+lns = 127.0.0.1:{tunnel}
+challenge = {challenge}
+autodial = yes
+redial = no
+length bit = yes
+pppoptfile = {folder}/options
+"""
+
+OPTIONS = """\
+user {user}
+password {password}
+noauth
+noccp
+noipdefault
+nodefaultroute
+ipcp-accept-local
+ipcp-accept-remote
+linkname bng-lab
+"""
+
+
+def may_open_ppp():
+    """Whether a pppd would come to an interface here."""
+    return shutil.which("pppd") is not None and os.geteuid() == 0 and os.access("/dev/ppp", os.R_OK | os.W_OK)
+
+
+class Concentrator:
+    """A running xl2tpd at this address of the loopback, with the lines that it says."""
+
+    def __init__(self, lab, address, challenge):
+        with udp(address) as end:
+            port = end.getsockname()[1]
+        words = {"address": address, "port": port, "folder": lab.folder, "tunnel": lab.ports["tunnel"], "challenge": challenge}
+        configuration = lab.write("xl2tpd.conf", GLOBAL.format(**words))
+        lab.write("secrets", f"* * {SECRET.decode()}\n")
+        lab.write("options", OPTIONS.format(user=USER.decode(), password=PASSWORD.decode()))
+        control, pid = (os.path.join(lab.folder, name) for name in ("xl2tpd.control", "xl2tpd.pid"))
+        command = ["xl2tpd", "-D", "-c", configuration, "-C", control, "-p", pid]
+        self.program = subprocess.Popen(command, stdout=subprocess.PIPE, stderr=subprocess.STDOUT, start_new_session=True)
+        self.said = b""
+
+    def __enter__(self):
+        return self
+
+    def __exit__(self, *_):
+        if self.program.poll() is None:
+            os.killpg(self.program.pid, signal.SIGTERM)
+            try:
+                self.program.wait(5)
+            except subprocess.TimeoutExpired:
+                os.killpg(self.program.pid, signal.SIGKILL)
+                self.program.wait()
+
+    def says(self, words):
+        """Whether it says this in time."""
+        end = time.monotonic() + PATIENCE
+        while words not in self.said and time.monotonic() < end:
+            ready, _, _ = select.select([self.program.stdout], [], [], 0.2)
+            octets = os.read(self.program.stdout.fileno(), 4096) if ready else b""
+            self.said += octets
+            if ready and not octets:
+                break
+        return words in self.said
+
+    def hang_up(self):
+        """Ends its calls and tunnels, as at a SIGTERM."""
+        os.killpg(self.program.pid, signal.SIGTERM)
+
+
+def exchanges(checks, lab, what):
+    """The pppd logs in, and a datagram goes each way by its interface."""
+    request, _ = hear_request(lab)
+    checks.same(f"the pppd of {what} is asked about", request is not None and dict(request.attributes).get(radius.USER_NAME), USER)
+    if request is None:
+        return
+    send_reply(lab, radius.answer(request, ACCESS_ACCEPT, FRAMED, (radius.FRAMED_IP_ADDRESS, socket.inet_aton(ADDRESS))))
+    end = time.monotonic() + PATIENCE
+    with socket.socket(socket.AF_INET, socket.SOCK_DGRAM) as host:
+        while time.monotonic() < end:
+            try:
+                host.bind((ADDRESS, 4000))
+                break
+            except OSError:
+                time.sleep(0.2)
+        # By the interface that has the address, whatever the routes are: pppd names it ppp and a number.
+        names = [name for name in os.listdir("/sys/class/net") if name.startswith("ppp")]
+        checks.same(f"the pppd of {what} has an interface", len(names) > 0, True)
+        if not names:
+            return
+        host.setsockopt(socket.SOL_SOCKET, socket.SO_BINDTODEVICE, names[-1].encode())
+        host.sendto(b"hello", (FAR, 4001))
+        came = lab.receive(lab.core)[0] or b""
+        checks.same(f"a packet of {what} comes to the core", (came[12:16], came[-5:]), (socket.inet_aton(ADDRESS), b"hello"))
+
+
+def brings_up(checks, command, address, challenge, what):
+    """This xl2tpd comes to a tunnel and a call, and hangs up. What the gateway said on standard error."""
+    with Lab(tunnels=True) as lab:
+        lab.start(command(lab.configuration), STARTING)
+        with Concentrator(lab, address, challenge) as concentrator:
+            checks.same(f"{what} sets a tunnel up", concentrator.says(b"Connection established to"), True)
+            checks.same(f"{what} has a call", concentrator.says(b"Call established with"), True)
+            if may_open_ppp():
+                exchanges(checks, lab, what)
+            concentrator.hang_up()
+            time.sleep(1)
+        checks.same(f"stop is answered after {what}", lab.stop(), b"stopping\n")
+        status, out, err = lab.end()
+        checks.same(f"the run of {what} ends well", status, 0)
+        print(out)
+        print(concentrator.said.decode(errors="replace"))
+    return err
+
+
+def attempt(checks, command):
+    """Both of them. What the gateway said on standard error."""
+    said = brings_up(checks, command, LOOPBACK, "no", "an xl2tpd without a secret")
+    return said + brings_up(checks, command, SHARING, "yes", "an xl2tpd with a secret")
+
+
+def main():
+    if shutil.which("xl2tpd") is None:
+        print("xl2tpd: skipped, since there is no xl2tpd")
+        print("To install: apt-get install --no-install-recommends xl2tpd ppp")
+        return 0
+    if not may_open_ppp():
+        print("xl2tpd: no pppd may open /dev/ppp here, so tunnels and calls are tried alone")
+    checks = Checks()
+    if is_built():
+        said = attempt(checks, lambda configuration: [PROGRAM, "serve", configuration])
+        checks.same("nothing is said on standard error", said, "")
+        return 0 if checks.all_right() else 1
+    if shutil.which("rt") is None:
+        print("xl2tpd: skipped, since the program is not built and there is no rt")
+        return 0
+    print("xl2tpd: the built program is missing or older than its sources: runs under rt try")
+    os.chdir(CRATE)
+    attempt(checks, lambda configuration: tried(configuration, STARTING))
+    return 0 if checks.all_right() else 1
+
+
+if __name__ == "__main__":
+    try:
+        sys.exit(main())
+    except (RuntimeError, OSError, subprocess.SubprocessError) as error:
+        print(f"xl2tpd: {error}", file=sys.stderr)
+        sys.exit(1)
