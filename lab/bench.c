@@ -14,14 +14,22 @@
 
 enum { FRONT = 22, BATCH = 32, WINDOW = 64, LONGEST = 4096 };
 
-static struct sockaddr_in loopback(const char *port) {
-    struct sockaddr_in end = {.sin_family = AF_INET, .sin_port = htons((unsigned short)atoi(port))};
-    end.sin_addr.s_addr = htonl(INADDR_LOOPBACK);
+/* PORT of the loopback, or ADDRESS:PORT */
+static struct sockaddr_in end_of(const char *words) {
+    const char *colon = strchr(words, ':');
+    char address[INET_ADDRSTRLEN] = "127.0.0.1";
+    if (colon != NULL)
+        snprintf(address, sizeof address, "%.*s", (int)(colon - words), words);
+    struct sockaddr_in end = {.sin_family = AF_INET, .sin_port = htons((unsigned short)atoi(colon ? colon + 1 : words))};
+    if (inet_pton(AF_INET, address, &end.sin_addr) != 1) {
+        fprintf(stderr, "bench: no address: %s\n", words);
+        exit(1);
+    }
     return end;
 }
 
 static int bound(const char *port) {
-    struct sockaddr_in end = loopback(port);
+    struct sockaddr_in end = end_of(port);
     int fd = socket(AF_INET, SOCK_DGRAM | SOCK_NONBLOCK, 0);
     if (fd < 0 || bind(fd, (struct sockaddr *)&end, sizeof end) < 0) {
         perror("bench: bind");
@@ -45,7 +53,7 @@ static int pass(int in, int out, struct sockaddr_in *peer, char *room, ssize_t f
 /* loop ACCESS CORE CORE_PEER ACCESS_PEER CONTROL: until a datagram comes at CONTROL */
 static int forward(char **ports) {
     int access = bound(ports[0]), core = bound(ports[1]), control = bound(ports[4]);
-    struct sockaddr_in core_peer = loopback(ports[2]), access_peer = loopback(ports[3]);
+    struct sockaddr_in core_peer = end_of(ports[2]), access_peer = end_of(ports[3]);
     struct pollfd waits[3] = {{access, POLLIN, 0}, {core, POLLIN, 0}, {control, POLLIN, 0}};
     static char room[FRONT + LONGEST];
     while (!(waits[2].revents & POLLIN)) {
@@ -66,11 +74,11 @@ static double seconds(void) {
     return (double)now.tv_sec + 1e-9 * (double)now.tv_nsec;
 }
 
-/* load OUT_FD IN_FD PORT SECONDS, what to send to PORT on standard input: prints the packets that came back, those that
+/* load OUT_FD IN_FD END SECONDS, what to send to END on standard input: prints the packets that came back, those that
    did not, and the seconds */
 static int load(char **words) {
     int outward = atoi(words[0]), inward = atoi(words[1]);
-    struct sockaddr_in to = loopback(words[2]);
+    struct sockaddr_in to = end_of(words[2]);
     static char frame[LONGEST], rooms[BATCH][LONGEST];
     size_t length = fread(frame, 1, sizeof frame, stdin);
     struct iovec out = {frame, length}, ins[BATCH];
@@ -104,10 +112,10 @@ static int load(char **words) {
     return 0;
 }
 
-/* pace OUT_FD IN_FD PORT SECONDS RATE: the same, one frame after the other, RATE of them a second */
+/* pace OUT_FD IN_FD END SECONDS RATE: the same, one frame after the other, RATE of them a second */
 static int pace(char **words) {
     int outward = atoi(words[0]), inward = atoi(words[1]);
-    struct sockaddr_in to = loopback(words[2]);
+    struct sockaddr_in to = end_of(words[2]);
     static char frame[LONGEST], room[LONGEST];
     size_t length = fread(frame, 1, sizeof frame, stdin);
     long came = 0, sent = 0, most = (long)(atof(words[3]) * atof(words[4]));
@@ -137,7 +145,7 @@ int main(int count, char **words) {
         return load(words + 2);
     if (count == 7 && strcmp(words[1], "pace") == 0)
         return pace(words + 2);
-    fprintf(stderr, "usage: bench loop ACCESS CORE CORE_PEER ACCESS_PEER CONTROL | bench load OUT_FD IN_FD PORT SECONDS"
-                    " | bench pace OUT_FD IN_FD PORT SECONDS RATE\n");
+    fprintf(stderr, "usage: bench loop ACCESS CORE CORE_PEER ACCESS_PEER CONTROL | bench load OUT_FD IN_FD END SECONDS"
+                    " | bench pace OUT_FD IN_FD END SECONDS RATE\n");
     return 1;
 }

@@ -3,7 +3,7 @@ the loopback, in turns on the same machine. The numbers are of this machine and 
 
 Saturated: as many packets as come back, of a provisioned circuit, of one beside it that is metered, of a session that logged in and of
 one over an L2TP call, with 4 and with 64 shards; and what a metered packet costs to one that is not. The loop in C takes 22 octets off and
-puts them on in all of them.
+puts them on in all of them. Beside the call one of a real l2tpns, where there is one.
 Paced: 2,500 packets a second, with 1 and with 64 shards, and with many sessions beside the one circuit, in processor time a
 packet. Memory: what the program holds with many terms live."""
 
@@ -17,6 +17,7 @@ import subprocess
 import sys
 import tempfile
 
+import l2tpns
 from crowd import mac_of, open_sessions
 from gateway import BNG, Lab, frame, packet
 from lac import HELLO, IPV4, Call, Concentrator, logs_in_over, short
@@ -48,8 +49,9 @@ class Spent:
 Run = collections.namedtuple("Run", "pace used faults came lost")
 
 
-# Whose packets they are: the address, our socket for them and the gateway's end, how a packet is put, and what keeps the way open.
-Subscriber = collections.namedtuple("Subscriber", "address end to put keep")
+# Whose packets they are: the address, our socket for them and the gateway's end, how a packet is put, what keeps the way open, and what
+# the core sends for a packet to it.
+Subscriber = collections.namedtuple("Subscriber", "address end to put keep drawn", defaults=[lambda octets: octets])
 
 
 def at_port(lab, mac, session, address):
@@ -122,15 +124,33 @@ def over_call(lab, tunnel):
     return Subscriber("10.0.0.50", tunnel.end, "tunnel", lambda octets: front + octets, keep)
 
 
+@contextlib.contextmanager
+def beside():
+    """A running l2tpns with the subscriber of a call, or None where there is none; it says why."""
+    why = l2tpns.lacking()
+    with contextlib.ExitStack() as stack:
+        found = None
+        if why is None:
+            try:
+                lns = stack.enter_context(l2tpns.running())
+                put = l2tpns.has_a_subscriber(lns)
+                found = lns, Subscriber(l2tpns.ADDRESS, lns.caller.end, "tunnel", put, lns.caller.keep, l2tpns.drawn)
+            except (RuntimeError, OSError) as error:
+                why = error
+                stack.close()
+        if found is None:
+            print(f"\nNo rows of l2tpns: {why}")
+        yield found
+
+
 def measure(tool, lab, who, way, size, seconds, rate=None):
-    who.keep()
     before = Spent(lab.pid)
     if way == "up":
         ends, to = (who.end.fileno(), lab.core.fileno()), who.to
         octets = who.put(packet(who.address, length=size))
     else:
         ends, to = (lab.core.fileno(), who.end.fileno()), "core"
-        octets = packet("192.0.2.1", who.address, length=size)
+        octets = who.drawn(packet("192.0.2.1", who.address, length=size))
     command = [tool, "pace" if rate else "load", *map(str, ends), str(lab.ports[to]), str(seconds)]
     if rate:
         command.append(str(rate))
@@ -177,6 +197,19 @@ def weigh(results):
     print(f"        all         {metered / max(plain, 0.01):6.2f}")
 
 
+def weigh_calls(results):
+    """What a call of the gateway passes to what one of l2tpns does, where that was measured."""
+    if ("l2tpns", "up", SIZES[0]) not in results:
+        return
+    print("In the rows of l2tpns that stands in the place of bng. A call of bng to one of l2tpns, in packets for the same wall time, and for")
+    print("the same processor time:")
+    for way in ("up", "down"):
+        for size in SIZES:
+            ours, other = (results[kind, way, size][1] for kind in ("call", "l2tpns"))
+            pace, used = median(ours).pace / max(median(other).pace, 1), spent(other) / max(spent(ours), 0.01)
+            print(f"        {way:4} {size:6} {pace:6.2f} {used:6.2f}")
+
+
 def serve(lab):
     lab.start([BNG, "serve", lab.configuration], patience=BUILDING, stderr=None)
 
@@ -184,13 +217,16 @@ def serve(lab):
 def compare(tool, shards, rounds, seconds):
     """The gateway with so many shards beside the plain loop, in turns."""
     options = {"tunnels": True, "tables": METERED}
-    with Lab() as plain, Lab(f"shards = {shards}\necho = 0\n", **options) as ours, Concentrator(ours, 5) as tunnel:
+    with Lab() as plain, Lab(f"shards = {shards}\necho = 0\n", **options) as ours, Concentrator(ours, 5) as tunnel, contextlib.ExitStack() as stack:
         serve(ours)
         subscribers = {
             "circuit": circuit(ours), "metered": metered_circuit(ours), "session": logged_in(ours), "call": over_call(ours, tunnel)
         }
-        keep = subscribers["call"].keep
-        subscribers = {kind: who._replace(keep=keep) for kind, who in subscribers.items()}
+        labs = dict.fromkeys(subscribers, ours)
+        other = stack.enter_context(beside())
+        if other is not None:
+            labs["l2tpns"], subscribers["l2tpns"] = other
+        keeps = [who.keep for who in subscribers.values()]
         peers = [plain.core.getsockname()[1], plain.access.getsockname()[1]]
         ports = [plain.ports["access"], plain.ports["core"], *peers, plain.ports["control"]]
         plain.start([tool, "loop", *map(str, ports)], roles=["access", "core", "control"])
@@ -201,9 +237,11 @@ def compare(tool, shards, rounds, seconds):
         # Row by row in each turn, so that a slow minute of the machine falls on all rows alike.
         for turn in range(rounds + 1):
             for kind, way, size in results:
-                for lab, runs in zip((plain, ours), results[kind, way, size]):
+                for lab, runs in zip((plain, labs[kind]), results[kind, way, size]):
                     # The first turn warms up.
-                    who = subscribers[kind] if lab is ours else circuit(plain)
+                    who = circuit(plain) if lab is plain else subscribers[kind]
+                    for keep in keeps:
+                        keep()
                     run = measure(tool, lab, who, way, size, seconds if turn else 0.2)
                     if turn:
                         runs.append(run)
@@ -216,6 +254,7 @@ def compare(tool, shards, rounds, seconds):
         status, out, _ = ours.end()
         table(results)
         weigh(results)
+        weigh_calls(results)
         said = next(line for line in out.splitlines() if line.startswith("total "))
         print(f"The report says {said}, and in={octets['up']} out={octets['down']} came, {lost} packets lost on the way.")
         return status

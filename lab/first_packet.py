@@ -1,10 +1,23 @@
-"""Shows one packet of one subscriber on its way through the real gateway, over sockets of the loopback."""
+"""Shows one packet of one subscriber on its way through the real gateway, over sockets of the loopback, and then the gateway trying itself."""
 
+import subprocess
 import sys
 
 from gateway import BNG, Lab, frame, packet
 
 BUILDING = 4 * 3600
+
+# What each number of the line of `exercise` counts.
+NUMBERS = {
+    "subscribers": "scripted subscribers were served in memory, three over PPPoE and one over L2TP.",
+    "terms": "terms began: each subscriber logged in and got an address.",
+    "in_packets": "packets of the subscribers went to the core,",
+    "in_octets": "octets long together.",
+    "out_packets": "packets came back to the subscribers,",
+    "out_octets": "octets long together.",
+    "stops": "Stops were formed, one for each term, and the RADIUS server acknowledged each.",
+    "dropped": "items were dropped.",
+}
 
 
 def words(octets):
@@ -23,6 +36,15 @@ def show_header(octets):
     total, ttl, check = int.from_bytes(octets[2:4], "big"), octets[8], octets[10:12].hex()
     ends = " to ".join(".".join(map(str, octets[at:at + 4])) for at in (12, 16))
     return f"IPv4 of {total} octets, {ends}, TTL {ttl}, header checksum {check}"
+
+
+def show_exercise():
+    """Has the gateway serve four subscribers in memory, and says what each number of its line counts."""
+    done = subprocess.run([BNG, "exercise", "4"], capture_output=True, text=True, check=False)
+    line = done.stdout.rstrip("\n")
+    counts = [pair.partition("=") for pair in line.split()[1:]]
+    show("`bng exercise 4` prints:", [line, ""] + [f"{value:>6} {NUMBERS[name]}" for name, _, value in counts])
+    return done.returncode
 
 
 def main():
@@ -52,7 +74,7 @@ def main():
         show("The word `stop` goes to the control port. Its answer:", [repr(answer.decode()) if answer else "none"])
         status, out, _ = lab.end()
         show(f"The report, and then status {status}:", out.splitlines())
-        return status
+        return status or show_exercise()
 
 
 if __name__ == "__main__":

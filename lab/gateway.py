@@ -162,9 +162,9 @@ def udp(address=LOOPBACK, port=0):
     return end
 
 
-def bound_ports():
-    """The local UDP ports that are bound here, by the system's own list."""
-    with open("/proc/net/udp", encoding="ascii") as table:
+def bound_ports(process="self"):
+    """The local UDP ports that are bound in the network of a process, by default here, by the system's own list."""
+    with open(f"/proc/{process}/net/udp", encoding="ascii") as table:
         return {int(line.split()[1].split(":")[1], 16) for line in table.readlines()[1:]}
 
 

@@ -45,8 +45,9 @@ def text(tunnel, session, ns, nr, avps):
     return b"\xc8\x02" + b"".join(map(short, (12 + len(body), tunnel, session, ns, nr))) + body
 
 
-def read(octets):
-    """A control message of the gateway, whose header is the one that RFC 2661 asks for."""
+def read(octets, known=True):
+    """A control message of the gateway, whose header is the one that RFC 2661 asks for. Where `known` is not asked for, the AVPs may be such
+    as need not be known."""
     if octets[:2] != b"\xc8\x02" or int.from_bytes(octets[2:4], "big") != len(octets):
         raise RuntimeError(f"no control message: {octets.hex()}")
     tunnel, session, ns, nr = (int.from_bytes(octets[at:at + 2], "big") for at in (4, 6, 8, 10))
@@ -54,7 +55,8 @@ def read(octets):
     while at < len(octets):
         front = int.from_bytes(octets[at:at + 2], "big")
         length = front & 0x3FF
-        if front & 0xFC00 != 0x8000 or octets[at + 2:at + 4] != b"\0\0" or length < 6:
+        is_known = front & 0xFC00 == 0x8000 and octets[at + 2:at + 4] == b"\0\0"
+        if known and not is_known or length < 6:
             raise RuntimeError(f"no AVP that must be known: {octets[at:].hex()}")
         avps.append((int.from_bytes(octets[at + 4:at + 6], "big"), octets[at + 6:at + length]))
         at += length

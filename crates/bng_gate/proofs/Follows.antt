@@ -1,5 +1,5 @@
 -- What a turn leaves of the desk, by its round alone.
-use Rattle.std.proofs.Common.{◌≡◌, ℕ, List, [], ◌∷◌, map, Option, Some, None, refl, ap, ◌∙◌}
+use Rattle.std.proofs.Common.{◌≡◌, ℕ, ◌+◌, List, [], ◌∷◌, length, map, Option, Some, None, refl, ap, ◌∙◌}
 use Rattle.bng_base.specs.declared.book.Book.{Book}
 use Rattle.bng_base.specs.declared.item.Entry.{Entry}
 use Rattle.bng_base.specs.declared.item.Item.{Item}
@@ -40,6 +40,11 @@ abbrev pub stopped_left : Book → Option Round → Book
 stopped_left stopped None = stopped
 stopped_left stopped (Some round) = plus_book stopped (all_stopped (stops_of round))
 
+-- and how many there are
+abbrev pub stops_left : ℕ → Option Round → ℕ
+stops_left stops None = stops
+stops_left stops (Some round) = stops + length (stops_of round)
+
 -- the round was one of this desk, at some moment and of some items
 abbrev pub IsOf : Desk → Option Round → Type 0
 IsOf d None = Unit {0}
@@ -54,6 +59,7 @@ pub record Follows (d : Desk) (round : Option Round) (d' : Desk) : Type 0 where
   pub rules : d'.rules ≡ d.rules
   pub lines : d'.lines ≡ lines_left d.lines round
   pub stopped : d'.stopped_book ≡ stopped_left d.stopped_book round
+  pub stops : d'.stops ≡ stops_left d.stops round
 
 is_of : (d : Desk) (moment : ℕ) (items : List Item) (round : Option Round) → RoundOf d moment items round → IsOf d round
 is_of d moment items None h = tt
@@ -84,6 +90,10 @@ stopped_there : (d : Desk) (items : List Item) (round : Option Round) → (after
 stopped_there d items None = refl
 stopped_there d items (Some round) = refl
 
+stops_there : (d : Desk) (items : List Item) (round : Option Round) → (after_round d items round).stops ≡ stops_left d.stops round
+stops_there d items None = refl
+stops_there d items (Some round) = refl
+
 pub step_follows : (d d' : Desk) (t : Option Turn) → Step d t d' → Follows d (round_in t) d'
 step_follows d d' None step = record {
   is_round = tt;
@@ -93,6 +103,7 @@ step_follows d d' None step = record {
   rules = ap (λ (x : Desk). x.rules) step;
   lines = ap (λ (x : Desk). x.lines) step;
   stopped = ap (λ (x : Desk). x.stopped_book) step;
+  stops = ap (λ (x : Desk). x.stops) step;
 }
 step_follows d d' (Some t) step = record {
   is_round = is_of d t.moment (items_of d t) t.round step.1;
@@ -102,6 +113,7 @@ step_follows d d' (Some t) step = record {
   rules = ap (λ (x : Desk). x.rules) step.5 ∙ rules_after d (items_of d t) t.round;
   lines = ap (λ (x : Desk). x.lines) step.5 ∙ lines_there d (items_of d t) t.round;
   stopped = ap (λ (x : Desk). x.stopped_book) step.5 ∙ stopped_there d (items_of d t) t.round;
+  stops = ap (λ (x : Desk). x.stops) step.5 ∙ stops_there d (items_of d t) t.round;
 }
 
 pub end_follows : (d d' : Desk) (t : Late) → LateStep d t d' → Follows d (end_round_in t) d'
@@ -113,6 +125,7 @@ end_follows d d' (Ends None) step = record {
   rules = ap (λ (x : Desk). x.rules) step;
   lines = ap (λ (x : Desk). x.lines) step;
   stopped = ap (λ (x : Desk). x.stopped_book) step;
+  stops = ap (λ (x : Desk). x.stops) step;
 }
 end_follows d d' (Ends (Some t)) step = record {
   is_round = is_of d t.moment (ending_items d) t.round step.1;
@@ -122,6 +135,7 @@ end_follows d d' (Ends (Some t)) step = record {
   rules = ap (λ (x : Desk). x.rules) step.5 ∙ rules_after d (ending_items d) t.round;
   lines = ap (λ (x : Desk). x.lines) step.5 ∙ lines_there d (ending_items d) t.round;
   stopped = ap (λ (x : Desk). x.stopped_book) step.5 ∙ stopped_there d (ending_items d) t.round;
+  stops = ap (λ (x : Desk). x.stops) step.5 ∙ stops_there d (ending_items d) t.round;
 }
 end_follows d d' (Waits t) step = record {
   is_round = tt;
@@ -131,6 +145,7 @@ end_follows d d' (Waits t) step = record {
   rules = ap (λ (x : Desk). x.rules) step.after;
   lines = ap (λ (x : Desk). x.lines) step.after;
   stopped = ap (λ (x : Desk). x.stopped_book) step.after;
+  stops = ap (λ (x : Desk). x.stops) step.after;
 }
 
 -- a chain, seen by what each of its links has

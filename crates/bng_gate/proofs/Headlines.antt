@@ -1,13 +1,13 @@
 -- The headline of a run, from its turns.
-use Rattle.std.proofs.Common.{◌≡◌, ◌⊎◌, inl, inr, ℕ, Bool, List, [], ◌∷◌, length, map, Option, refl, sym, ap, subst, ◌∙◌, arith}
-use Rattle.std.specs.Prelude.{◌↔◌, zip}
+use Rattle.std.proofs.Common.{◌≡◌, ◌≤◌, ◌+◌, ◌⊎◌, inl, inr, ℕ, Bool, List, [], ◌∷◌, length, map, Option, refl, sym, ap, subst, ◌∙◌, arith}
+use Rattle.std.specs.Prelude.{◌↔◌, sum, zip}
 use Rattle.std.specs.List.{AllByRecursion, AllZip, Contains, sum_by}
 use Rattle.bng_base.specs.declared.book.Book.{Book}
 use Rattle.bng_base.specs.declared.book.Profile.{Profile}
 use Rattle.bng_base.specs.declared.outside.Datagram.{Datagram}
 use Rattle.bng_base.specs.declared.outside.Heard.{Heard}
 use Rattle.bng_base.specs.Chain.{Chain}
-use Rattle.bng_base.specs.Told.{PlantTold, Grows, GrowsIfTold}
+use Rattle.bng_base.specs.Told.{PlantTold, TraceTold, Grows, GrowsIfTold}
 use Rattle.bng_billing.specs.Calls.{StopsAreAcknowledged}
 use Rattle.bng_billing.proofs.Stops.{stops_acknowledged}
 use Rattle.bng_config.specs.declared.config.Config.{Config}
@@ -35,12 +35,13 @@ use Rattle.bng_desk.specs.declared.drops.Drops.{Drops}
 use Rattle.bng_desk.specs.declared.line.Line.{Line}
 use Rattle.bng_desk.specs.Accounting.{FormedRecord}
 use Rattle.bng_desk.specs.Counting.{by_number}
-use Rattle.bng_desk.specs.Model.{Desk, all_stopped as all_say, by_profile, carried_on, all_carried, line_after, live_of, plus_book, state_of, total_of, traffic_by}
+use Rattle.bng_desk.specs.Model.{Desk, all_stopped as all_say, by_profile, carried_on, all_carried, line_after, live_of, live_terms, plus_book, state_of, sums_of, total_of, traffic_by}
 use Rattle.bng_desk.specs.Opening.{billing_rules, line_of, opened_shards}
 use Rattle.bng_desk.specs.Report.{report_text}
 use Rattle.bng_desk.specs.Round.{view_of, views_of}
 use Rattle.bng_gate.specs.declared.texts.Refusal.{Refusal}
 use Rattle.bng_gate.specs.declared.texts.Refusal.TheVariants.{Usage, Refused, CannotOpen, OutOfMemory, TraceFailed, OutputFailed}
+use Rattle.bng_gate.specs.Exercise.{Exercised, IsPlayed, Prints, exercise_seed, exercise_text, line_by, line_over, peers_beside, records_told}
 use Rattle.bng_gate.specs.Granted.{Granted, held_of, stages_of}
 use Rattle.bng_gate.specs.Recorded.{Recorded, formed_of}
 use Rattle.bng_gate.specs.Replied.{AreReplied}
@@ -49,38 +50,43 @@ use Rattle.bng_gate.specs.Unanswered.{unanswered_of, NamesStops}
 use Rattle.bng_gate.specs.Headline.{AreStopped, HaveTerms, calls_in_run, Headline, AddsUpTo, IsSafe, IsQuiet, StopsAccount, WasSafe, all_profile_traffic, all_terms_of, all_traffic, terms_of_run, total_in}
 use Rattle.bng_gate.specs.Rounds.{rounds_in, rounds_of, plant_of, on_data, drops_of_run}
 use Rattle.bng_gate.specs.Unchanged.{NothingIsInvented, lived_in}
-use Rattle.bng_gate.specs.Run.{World, turns_most, outside, Prepares, Course, Runs, report_of, IsReady, IsUntouched, WantsToServe, Why, IsUnwritten, RunEnds}
+use Rattle.bng_gate.specs.Run.{World, outside, turns_most, Prepares, Concludes, Course, Runs, report_of, IsReady, IsUntouched, WantsToServe, Why, IsUnwritten, ServeEnds}
 use Rattle.bng_gate.proofs.AddressedLive.{live_addressed}
 use Rattle.bng_gate.proofs.Addressing.{all_addressed}
 use Rattle.bng_gate.proofs.Agreed.{agreed}
 use Rattle.bng_gate.proofs.Changing.{changed_of}
 use Rattle.bng_gate.proofs.Drops.{all_dropped}
+use Rattle.bng_gate.proofs.Exercising.{keeps_rules}
 use Rattle.bng_gate.proofs.Follows.{Follows, run_follows}
 use Rattle.bng_gate.proofs.Going.{Shows, balanced_left, books_left, rows_left, shows, stands_itself, wire_left}
 use Rattle.bng_gate.proofs.Invented.{AllWork, nothing_invented, opened_works, stages_invent_nothing}
 use Rattle.bng_gate.proofs.Keys.{IsOurs}
 use Rattle.bng_gate.proofs.Leaving.{HasNoRows, HasNoTerms, IsEmpty, all_stopped, ended_empty, rows_gone, rows_say_none, shards_say_none, terms_gone}
-use Rattle.bng_gate.proofs.Lines.{lines_gone, one_worker, report_told, rules_gone, stopped_gone, tallies_gone}
+use Rattle.bng_gate.proofs.Lines.{lines_gone, one_worker, report_told, rules_gone, stopped_gone, stops_gone, tallies_gone}
 use Rattle.bng_gate.proofs.Lived.{IsLiveDesk, opened_live}
 use Rattle.bng_gate.proofs.LoginsGranted.{logins_granted}
 use Rattle.bng_gate.proofs.Openings.{opens}
 use Rattle.bng_gate.proofs.Owning.{sends_ours}
 use Rattle.bng_gate.proofs.Passing.{IsKnown}
 use Rattle.bng_gate.proofs.Recording.{Said, all_said, recorded_of}
+use Rattle.bng_gate.proofs.Refusals.{none_left as none_unanswered}
 use Rattle.bng_gate.proofs.Reporting.{GoesLive, reports_go_on}
 use Rattle.bng_gate.proofs.Replying.{replies_of}
 use Rattle.bng_gate.proofs.OnAcct.{all_else}
 use Rattle.bng_gate.proofs.OnCoa.{all_beside_coa}
 use Rattle.bng_gate.proofs.Staging.{stages_acknowledged, stages_heard, stages_requested, stages_taken, stages_sent}
+use Rattle.bng_gate.proofs.States.{ended_of}
 use Rattle.bng_gate.proofs.Stopping.{run_causes, run_causes_known, run_stays, run_terms}
+use Rattle.bng_gate.proofs.Summing.{none_live as none_there, stops_counted, terms_counted}
 use Rattle.bng_gate.proofs.Telling.{sent_are, taken_are, unsent_failed}
 use Rattle.bng_gate.proofs.Traffic.{live_none, plus_none, stopped_same, stops_account, total_same, traffic_same}
 use Rattle.bng_gate.proofs.Under.{all_add_up, under_same}
 
-module _ (text : List ℕ) (config : Config) (read : IsRead text config) (seed : List ℕ) (old new : World) (course : Course config seed (outside old) (outside new)) where
-  rules : KeepsRules config
-  rules = read_keeps text config read
+-- each term that began has a Stop, or is there
+abbrev CountsEach : Desk → Type 0
+CountsEach d = (sums_of d).terms ≡ (sums_of d).stops + live_terms d.shards
 
+module _ (config : Config) (rules : KeepsRules config) (most : ℕ) (seed : List ℕ) (old new : World) (course : Course config most seed (outside old) (outside new)) where
   -- the desk as the engine sees it, at the opening and at the end
   abbrev start : DeskView ShardState Handled
   start = view_of course.opening.shards course.opening.pool course.opening.tallies
@@ -191,18 +197,18 @@ module _ (text : List ℕ) (config : Config) (read : IsRead text config) (seed :
 
   granted : Granted config seed course.turns course.endings
   granted =
-      logins_granted config turns_most seed course.begins.bound.now course.begins.bound.wall course.opening course.over course.last course.turns course.endings rules course.begins.is_opened course.run course.ending
+      logins_granted config most seed course.begins.bound.now course.begins.bound.wall course.opening course.over course.last course.turns course.endings rules course.begins.is_opened course.run course.ending
       course.few_turns course.few_endings
 
   replied : AreReplied config seed course.turns
-  replied = replies_of config turns_most seed course.begins.bound.now course.begins.bound.wall course.opening course.over course.turns course.begins.is_opened course.run
+  replied = replies_of config most seed course.begins.bound.now course.begins.bound.wall course.opening course.over course.turns course.begins.is_opened course.run
 
   recorded : (r : Recorded config course.begins.bound.wall course.begins.is_opened.starts course.turns course.endings course.last (plant_of course.turns course.endings).taken sent) × (r.interims ≡ said.interims)
   recorded =
-      recorded_of config turns_most seed course.begins.bound.now course.begins.bound.wall course.opening course.over course.last course.turns course.endings course.begins.is_opened course.run course.ending
+      recorded_of config most seed course.begins.bound.now course.begins.bound.wall course.opening course.over course.last course.turns course.endings course.begins.is_opened course.run course.ending
       (all_else (Contains (all_terms_of config rounds)) (sends_of rounds) ours) said.interims said.say
 
-  pub safe_of : IsSafe config seed old new course
+  pub safe_of : IsSafe config most seed old new course
   safe_of = record {
     heard = (plant_of course.turns course.endings).heard;
     heard_grew = subst (λ (x : Option (List Heard)). GrowsIfTold x new.plant.heard (plant_of course.turns course.endings).heard) course.begins.bound.binds.heard course.told.plant.heard;
@@ -234,7 +240,7 @@ module _ (text : List ℕ) (config : Config) (read : IsRead text config) (seed :
     replied = replied;
     granted = granted;
     recorded = recorded.0;
-    changed = changed_of config turns_most seed course.begins.bound.now course.begins.bound.wall course.opening course.over course.last course.turns course.endings course.begins.is_opened course.run course.ending
+    changed = changed_of config most seed course.begins.bound.now course.begins.bound.wall course.opening course.over course.last course.turns course.endings course.begins.is_opened course.run course.ending
         (all_beside_coa (Contains (all_terms_of config rounds)) (sends_of rounds) ours);
     interims = subst (λ (is : List (List FormedRecord)). Chain ReportsLive (nothing_yet start) (zip rounds is) goes.history) (sym recorded.1) goes.live;
     unsent = record {
@@ -303,62 +309,127 @@ module _ (text : List ℕ) (config : Config) (read : IsRead text config) (seed :
         ∙ report_told sum empty_book sum one ps us (stops_of rounds) (map line_of config.statics) (all_traffic config sent) (by_number d.drops)
         ∙ ap (λ (x : Drops). report_by sum empty_book sum one ps us (map line_of config.statics) (all_traffic config sent) x) drops
 
-    -- no Stop is open exactly where each was acknowledged
-    answered : (unanswered_of course.last ≡ []) ↔ StopsAreAcknowledged (calls_in_run config seed old new course)
-    answered =
-        stops_acknowledged (billing_rules config course.begins.bound.wall) recorded.0.opened course.last.billing (calls_in_run config seed old new course) recorded.0.is_new recorded.0.calls
-        (agreed config turns_most seed course.begins.bound.now course.begins.bound.wall course.opening course.over course.last course.turns course.endings course.begins.is_opened course.run course.ending ended)
+    -- the sums of the desk, by what was sent and by the Stops
+    all_total : (sums_of course.last).total ≡ total_in sent
+    all_total =
+        ap (λ (b : Book). plus_book b (live_of course.last.shards)) stopped_all_say ∙ ap (λ (b : Book). plus_book (total_in sent) b) none_live ∙ plus_none (total_in sent)
 
-module _ (text : List ℕ) (config : Config) (read : IsRead text config) (status : ℕ) (seed : List ℕ) (old new : World) (run : Runs config seed (outside old) (outside new) old.out new.out)
+    all_stops : (sums_of course.last).stops ≡ length (stops_of rounds)
+    all_stops = omega (arith, stops_gone course.opening course.last (rounds_in course.turns course.endings) follows, ap (λ (d : Desk). d.stops) course.begins.is_opened.desk)
+
+    all_terms : CountsEach course.last → (sums_of course.last).terms ≡ length (all_terms_of config rounds)
+    all_terms each =
+        omega (
+          arith,
+          each,
+          all_stops,
+          none_there course.last.shards goes.history.shards shown none_left,
+          stops_counted rounds start goes.history goes.run,
+          terms_counted goes.history.shards (terms_of_run config rounds) stopped_all,
+        )
+
+    -- and so what an exercise says
+    line : (subscribers : ℕ) → CountsEach course.last → line_by subscribers course.last ≡ line_over subscribers config course.turns course.endings
+    line subscribers each =
+        let d = course.last in
+        let terms = length (all_terms_of config rounds) in
+        let stops = length (stops_of rounds) in
+        ap (λ (n : ℕ). exercise_text subscribers n (sums_of d).total (sums_of d).stops (sum (by_number d.drops))) (all_terms each)
+        ∙ ap (λ (b : Book). exercise_text subscribers terms b (sums_of d).stops (sum (by_number d.drops))) all_total
+        ∙ ap (λ (n : ℕ). exercise_text subscribers terms (total_in sent) n (sum (by_number d.drops))) all_stops
+        ∙ ap (λ (x : Drops). exercise_text subscribers terms (total_in sent) stops (sum (by_number x))) drops
+
+    -- no Stop is open exactly where each was acknowledged
+    answered : (unanswered_of course.last ≡ []) ↔ StopsAreAcknowledged (calls_in_run config most seed old new course)
+    answered =
+        stops_acknowledged (billing_rules config course.begins.bound.wall) recorded.0.opened course.last.billing (calls_in_run config most seed old new course) recorded.0.is_new recorded.0.calls
+        (agreed config most seed course.begins.bound.now course.begins.bound.wall course.opening course.over course.last course.turns course.endings course.begins.is_opened course.run course.ending ended)
+
+module _ (config : Config) (rules : KeepsRules config) (most status : ℕ) (seed : List ℕ) (old new : World) (run : Runs config most seed (outside old) (outside new) old.out new.out)
     (none : status ≡ 0 → unanswered_of run.completes.course.last ≡ []) (some : status ≡ 6 → NamesStops run.completes.course.last old.err new.err) where
-  abbrev turned : Course config seed (outside old) (outside new)
+  abbrev turned : Course config most seed (outside old) (outside new)
   turned = run.completes.course
 
-  headline_of : Headline config status old new
+  headline_of : Headline config most status old new
   unfolding safe_of
   headline_of = record {
     seed = seed;
     run = run;
-    safe = safe_of text config read seed old new turned;
-    stopped = stopped_all text config read seed old new turned run.ended;
-    exact = exact text config read seed old new turned run.ended;
-    printed = subst (λ (text : List ℕ). Grows old.out.bytes new.out.bytes text) (report text config read seed old new turned run.ended) run.reports.printed;
-    profiles_add_up = add_up text config read seed old new turned run.ended;
-    acknowledged = λ s. (answered text config read seed old new turned run.ended).0 (none s);
-    unacknowledged = λ s. let names = some s in (λ all. names.some ((answered text config read seed old new turned run.ended).1 all), names);
+    safe = safe_of config rules most seed old new turned;
+    stopped = stopped_all config rules most seed old new turned run.ended;
+    exact = exact config rules most seed old new turned run.ended;
+    printed = subst (λ (text : List ℕ). Grows old.out.bytes new.out.bytes text) (report config rules most seed old new turned run.ended) run.reports.printed;
+    profiles_add_up = add_up config rules most seed old new turned run.ended;
+    acknowledged = λ s. (answered config rules most seed old new turned run.ended).0 (none s);
+    unacknowledged = λ s. let names = some s in (λ all. names.some ((answered config rules most seed old new turned run.ended).1 all), names);
   }
 
 -- with status 0 or 6
-pub headline : (words : List (List ℕ)) (old new : World) (status : ℕ) → RunEnds words old new status → (status ≡ 0) ⊎ (status ≡ 6) → (config : Config) × Prepares words old.files new.files config × Headline config status old new
-headline words old new status r (inl s) =
+pub headline : (most : ℕ) (old new : World) (status : ℕ) → ServeEnds most old new status → (status ≡ 0) ⊎ (status ≡ 6) → (config : Config) × Prepares old.files new.files config × Headline config most status old new
+headline most old new status r (inl s) =
     let x = r.served s in
     let prepares = x.run.ready.prepares in
-    (x.run.config, prepares, headline_of prepares.text x.run.config prepares.read status x.run.seed old new x.run.runs (λ _. x.acknowledged) (λ six. absurd (omega (arith, s, six))))
-headline words old new status r (inr s) =
+    (x.run.config, prepares, headline_of x.run.config (read_keeps prepares.text x.run.config prepares.read) most status x.run.seed old new x.run.runs (λ _. x.acknowledged) (λ six. absurd (omega (arith, s, six))))
+headline most old new status r (inr s) =
     let x = r.unanswered s in
     let prepares = x.run.ready.prepares in
-    (x.run.config, prepares, headline_of prepares.text x.run.config prepares.read status x.run.seed old new x.run.runs (λ none. absurd (omega (arith, s, none))) (λ _. x.names))
+    (x.run.config, prepares, headline_of x.run.config (read_keeps prepares.text x.run.config prepares.read) most status x.run.seed old new x.run.runs (λ none. absurd (omega (arith, s, none))) (λ _. x.names))
+
+-- An exercise that came to its line ------------------------------------------------------------------------------------------
+
+module _ (subscribers workers : ℕ) (some : 1 ≤ workers) (few : workers ≤ 16) (old new : World) (status : ℕ) (d : Desk) (played : IsPlayed workers old.trace new.trace d)
+    (prints : Prints subscribers d old.out new.out) (concludes : Concludes d old.err new.err status) where
+  abbrev played_course : Course played.config turns_most exercise_seed (outside (peers_beside 0 old)) (outside (peers_beside played.last new))
+  played_course = played.completes.completes.course
+
+  played_ended : state_of played_course.last ≡ Ended
+  played_ended = ended_of (state_of played_course.last) played.completes.completes.whole.over (λ is. prints.unstarved (ap (λ (x : Desk). state_of x) (sym played.completes.last) ∙ is))
+
+  pub exercised_of : Exercised subscribers workers status old new
+  unfolding safe_of
+  exercised_of =
+      let rules = keeps_rules workers some few played.config played.is_exercise in
+      let before = peers_beside 0 old in
+      let after = peers_beside played.last new in
+      record {
+        config = played.config;
+        is_exercise = played.is_exercise;
+        last = played.last;
+        course = played_course;
+        whole = played.completes.completes.whole;
+        ended = played_ended;
+        traced = subst (λ (t : TraceTold). Grows t.rounds new.trace.rounds (records_told played_course.turns played_course.endings)) played_course.untraced played_course.told.rounds;
+        safe = safe_of played.config rules turns_most exercise_seed before after played_course;
+        stopped = stopped_all played.config rules turns_most exercise_seed before after played_course played_ended;
+        exact = exact played.config rules turns_most exercise_seed before after played_course played_ended;
+        printed = subst (λ (text : List ℕ). Grows old.out.bytes new.out.bytes text)
+            (line played.config rules turns_most exercise_seed before after played_course played_ended subscribers
+            (subst CountsEach (sym played.completes.last) prints.each_term))
+            (subst (λ (x : Desk). Grows old.out.bytes new.out.bytes (line_by subscribers x)) (sym played.completes.last) prints.printed);
+        acknowledged = λ s. (answered played.config rules turns_most exercise_seed before after played_course played_ended).0
+            (subst (λ (x : Desk). unanswered_of x ≡ []) (sym played.completes.last) (none_unanswered d old.err new.err status concludes s));
+      }
 
 -- Where a run came to no report, it was quiet, or its turns were safe ----------------------------------------------------------
 
-module _ (words : List (List ℕ)) (old new : World) where
+module _ (most : ℕ) (old new : World) where
   abbrev QuietOrSafe : Type 0
-  QuietOrSafe = IsQuiet old new ⊎ WasSafe words old new
+  QuietOrSafe = IsQuiet old new ⊎ WasSafe most old new
 
   untouched : IsUntouched old new → QuietOrSafe
   untouched u = inl (record { heard = ap (λ (p : PlantTold). p.heard) u.plant; taken = ap (λ (p : PlantTold). p.taken) u.plant; sent = ap (λ (p : PlantTold). p.sent) u.plant })
 
-  turned_safe : (config : Config) (seed : List ℕ) → IsReady words old new config seed → Course config seed (outside old) (outside new) → QuietOrSafe
+  turned_safe : (config : Config) (seed : List ℕ) → IsReady old new config seed → Course config most seed (outside old) (outside new) → QuietOrSafe
   turned_safe config seed ready course =
       let prepares = ready.prepares in
-      inr (record { config = config; prepares = prepares; seed = seed; course = course; safe = safe_of prepares.text config prepares.read seed old new course })
+      inr (record { config = config; prepares = prepares; seed = seed; course = course; safe = safe_of config (read_keeps prepares.text config prepares.read) most seed old new course })
 
-  wants_safe : (config : Config) (seed : List ℕ) → IsReady words old new config seed → WantsToServe config seed (outside old) (outside new) → QuietOrSafe
+  wants_safe : (config : Config) (seed : List ℕ) → IsReady old new config seed → WantsToServe config most seed (outside old) (outside new) → QuietOrSafe
   wants_safe config seed ready (inl w) = inl (record { heard = w.0.binds.heard; taken = w.0.binds.taken; sent = w.0.binds.sent })
   wants_safe config seed ready (inr c) = turned_safe config seed ready c.course
 
-  why_safe : (refusal : Refusal) → Why words old new refusal → QuietOrSafe
-  why_safe Usage w = untouched w.untouched
+  why_safe : (refusal : Refusal) → Why most old new refusal → QuietOrSafe
+  why_safe Usage w = absurd w
   why_safe (Refused fault) w = untouched w.untouched
   why_safe (CannotOpen what) w = inl (record { heard = w.heard; taken = w.taken; sent = w.sent })
   why_safe OutOfMemory (inl w) = untouched w.untouched
@@ -367,13 +438,13 @@ module _ (words : List (List ℕ)) (old new : World) where
   why_safe TraceFailed w = turned_safe w.config w.seed w.ready w.fails.course
   why_safe OutputFailed w = turned_safe w.config w.seed w.ready w.fails.completes.course
 
-  unwritten_safe : IsUnwritten words old new → QuietOrSafe
+  unwritten_safe : IsUnwritten most old new → QuietOrSafe
   unwritten_safe (inl r) = why_safe TraceFailed r.why
   unwritten_safe (inr (inl r)) = why_safe OutputFailed r.why
   unwritten_safe (inr (inr (inl f))) = why_safe f.refusal f.why
   unwritten_safe (inr (inr (inr f))) = turned_safe f.run.config f.run.seed f.run.ready f.run.runs.completes.course
 
   -- with status 4 or 5
-  pub safe : (status : ℕ) → RunEnds words old new status → (status ≡ 4) ⊎ (status ≡ 5) → IsQuiet old new ⊎ WasSafe words old new
+  pub safe : (status : ℕ) → ServeEnds most old new status → (status ≡ 4) ⊎ (status ≡ 5) → IsQuiet old new ⊎ WasSafe most old new
   safe status r (inl s) = why_safe OutOfMemory (r.starved s).why
   safe status r (inr s) = unwritten_safe (r.unwritten s)

@@ -65,4 +65,10 @@ pub mod Lived
 pub mod PassingOn
 pub mod Silent
 pub mod Invented
+pub mod Joining
+pub mod Summing
+pub mod Exercising
+pub mod Refusals
 pub mod Headlines
+pub mod Played
+pub mod Commanding

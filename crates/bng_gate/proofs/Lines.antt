@@ -1,5 +1,5 @@
 -- What the desk says of the Stops with an address, and of all, is what the Stops of all rounds say.
-use Rattle.std.proofs.Common.{◌≡◌, ℕ, ◌+◌, Bool, true, false, cond, List, [], ◌∷◌, ◌++◌, codes, length, map, Option, Some, None, refl, sym, ap, ◌∙◌, add-zero, arith}
+use Rattle.std.proofs.Common.{◌≡◌, ℕ, ◌+◌, Bool, true, false, cond, List, [], ◌∷◌, ◌++◌, codes, length, map, Option, Some, None, refl, sym, ap, ◌∙◌, add-zero, arith, length-append}
 use Rattle.std.specs.List.{flat_map}
 use Rattle.std.proofs.lemmas.List.Sums.{sum_by-append, sum_by-cons}
 use Rattle.bng_base.specs.declared.address.Ip4.{Ip4}
@@ -104,6 +104,15 @@ stopped_gone d d' (Some round ∷ rounds) run =
     stopped_gone run.0 d' rounds run.2
     ∙ ap (λ (t : Book). plus_book t (all_stopped rest)) (run.1.stopped ∙ ap (λ (ss : List Stop). plus_book d.stopped_book (all_stopped ss)) (round_stops round.shards))
     ∙ all_more d.stopped_book (stops_in (map turn_in round.shards)) rest
+
+-- and how many they are
+pub stops_gone : (d d' : Desk) (rounds : List (Option Round)) → Chain Follows d rounds d' → d'.stops ≡ d.stops + length (stops_of (flat_map turns_of rounds))
+stops_gone d d' [] run = omega (arith, ap (λ (x : Desk). x.stops) run)
+stops_gone d d' (None ∷ rounds) run = omega (arith, stops_gone run.0 d' rounds run.2, run.1.stops)
+stops_gone d d' (Some round ∷ rounds) run =
+    let here = stops_in (map turn_in round.shards) in
+    let rest = stops_of (flat_map turns_of rounds) in
+    omega (arith, stops_gone run.0 d' rounds run.2, run.1.stops, ap (λ (ss : List Stop). length ss) (round_stops round.shards), length-append here rest)
 
 -- Workers --------------------------------------------------------------------------------------------------------------
 

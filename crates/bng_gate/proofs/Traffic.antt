@@ -127,7 +127,7 @@ nothing_in Packets true = refl
 nothing_in Packets false = refl
 
 -- The total: what the seats tell is what the Stops say, where no row says anything
-none_stopped : (f : Stop → ℕ) (vs : List (ShardView ShardState Handled)) → sum_by (λ h. sum_by f h.stops) (map nothing_yet vs) ≡ 0
+pub none_stopped : (f : Stop → ℕ) (vs : List (ShardView ShardState Handled)) → sum_by (λ h. sum_by f h.stops) (map nothing_yet vs) ≡ 0
 none_stopped f [] = refl
 none_stopped f (v ∷ vs) = omega (arith, sum_by-cons (λ (h : ShardHistory ShardState). sum_by f h.stops) (nothing_yet v) (map nothing_yet vs), none_stopped f vs)
 

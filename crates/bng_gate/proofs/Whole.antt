@@ -18,17 +18,17 @@ pub both_noted : (a b : Bool) → a ≡ false → b ≡ false → (a || b) ≡ f
 both_noted a b x y = cc
 
 -- What was made of an opened desk.
-module _ (config : Config) (seed : List ℕ) (old between new : Outside) (opening last : Desk) (begins : Begins config seed old.plant between.plant old.clock between.clock opening) (untraced : between.trace ≡ old.trace) where
-  all_turns : opening.rounds ≡ turns_most
+module _ (config : Config) (most : ℕ) (few : most ≤ turns_most) (seed : List ℕ) (old between new : Outside) (opening last : Desk) (begins : Begins config most seed old.plant between.plant old.clock between.clock opening) (untraced : between.trace ≡ old.trace) where
+  all_turns : opening.rounds ≡ most
   all_turns = ap (λ (d : Desk). d.rounds) begins.is_opened.desk
 
-  pub ends_all : (turns : List Made) → EndsServing opening.rounds turns → EndsServing turns_most turns
+  pub ends_all : (turns : List Made) → EndsServing opening.rounds turns → EndsServing most turns
   ends_all turns ends = subst (λ (n : ℕ). EndsServing n turns) all_turns ends
 
   pub few_turns : (turns : List Made) → length turns ≤ opening.rounds → length turns ≤ turns_most
-  few_turns turns within = subst (λ (n : ℕ). length turns ≤ n) all_turns within
+  few_turns turns within = omega (arith, within, all_turns, few)
 
-  abbrev pub completes_of : MakesTurns opening last between new → Completes config seed old new
+  abbrev pub completes_of : MakesTurns opening last between new → Completes config most seed old new
   completes_of made = record {
     course = record {
       opening_outside = between;
@@ -52,14 +52,14 @@ module _ (config : Config) (seed : List ℕ) (old between new : Outside) (openin
     };
   }
 
-  pub completes_to : MakesTurns opening last between new → CompletesTo config seed old new last
+  pub completes_to : MakesTurns opening last between new → CompletesTo config most seed old new last
   completes_to made = record { completes = completes_of made; last = refl }
 
   rose_here : Rose between.trace.faults new.trace.faults → Rose old.trace.faults new.trace.faults
   rose_here rose = subst (λ (t : TraceTold). Rose t.faults new.trace.faults) untraced rose
 
   -- a round was not noted
-  pub fails_to_note : FailsTurning opening last between new → FailsToNote config seed old new
+  pub fails_to_note : FailsTurning opening last between new → FailsToNote config most seed old new
   fails_to_note (inl f) =
       let turns = f.turns ++ f.fault ∷ [] in
       record {
@@ -121,11 +121,11 @@ module _ (config : Config) (seed : List ℕ) (old between new : Outside) (openin
       }
 
 -- What was told of a run whose turns came to their end.
-module _ (config : Config) (seed : List ℕ) (old new : Outside) (d : Desk) (c : CompletesTo config seed old new d) (out out' : SinkTold) where
+module _ (config : Config) (most : ℕ) (seed : List ℕ) (old new : Outside) (d : Desk) (c : CompletesTo config most seed old new d) (out out' : SinkTold) where
   pub unstarved : ¬ (state_of d ≡ Starved) → ¬ (state_of c.completes.course.last ≡ Starved)
   unstarved none is = none (ap (λ (x : Desk). state_of x) (sym c.last) ∙ is)
 
-  abbrev pub runs_of : Reports d out out' → Runs config seed old new out out'
+  abbrev pub runs_of : Reports d out out' → Runs config most seed old new out out'
   runs_of reports = record {
     completes = c.completes;
     ended = ended_of (state_of c.completes.course.last) c.completes.whole.over (unstarved reports.unstarved);
@@ -133,7 +133,7 @@ module _ (config : Config) (seed : List ℕ) (old new : Outside) (d : Desk) (c :
   }
 
   -- the report was not written
-  pub unprinted_of : (refusal : Refusal) → IsUnreported d out out' refusal → IsUnserved config seed old new out out' refusal
+  pub unprinted_of : (refusal : Refusal) → IsUnreported d out out' refusal → IsUnserved config most seed old new out out' refusal
   unprinted_of Usage w = absurd w
   unprinted_of (Refused fault) w = absurd w
   unprinted_of (CannotOpen what) w = absurd w

@@ -203,7 +203,7 @@ pub record StopsAccount (stops : List Stop) (sent : List Datagram) : Type 0 wher
   pub all_output : (q : Quantity) → stopped_where q is_any false stops ≡ told_of pppoe_reader q is_output sent
 
 -- What holds of the turns that a run made, whatever frames and datagrams, repeats and moments it met.
-pub record IsSafe (config : Config) (seed : List ℕ) (old new : World) (course : Course config seed (outside old) (outside new)) : Type 0 where
+pub record IsSafe (config : Config) (most : ℕ) (seed : List ℕ) (old new : World) (course : Course config most seed (outside old) (outside new)) : Type 0 where
   -- What was heard, taken and sent was so in these turns, one after another.
   pub heard : List Heard
   pub heard_grew : GrowsIfTold old.plant.heard new.plant.heard heard
@@ -283,16 +283,16 @@ pub record IsSafe (config : Config) (seed : List ℕ) (old new : World) (course 
   pub unsent : HasCauses old.plant.faults new.plant.faults (count_by not_sent (sends_of (rounds_of course.turns course.endings)) + count_by is_unsent (requests_of course.turns course.endings) + count_by is_unsent (records_of course.turns course.endings) + count_by is_lost (replies_of course.turns course.endings))
 
 -- the calls of accounting in a run
-abbrev pub calls_in_run : (config : Config) (seed : List ℕ) (old new : World) → Course config seed (outside old) (outside new) → List BillingCall
-calls_in_run config seed old new course = calls_of course.begins.is_opened.starts course.turns course.endings
+abbrev pub calls_in_run : (config : Config) (most : ℕ) (seed : List ℕ) (old new : World) → Course config most seed (outside old) (outside new) → List BillingCall
+calls_in_run config most seed old new course = calls_of course.begins.is_opened.starts course.turns course.endings
 
 -- What holds of a run that ended with its report, with status 0 or 6.
-pub record Headline (config : Config) (status : ℕ) (old new : World) : Type 0 where
+pub record Headline (config : Config) (most status : ℕ) (old new : World) : Type 0 where
   -- The run was turns of serving from the opening on, and turns of the ending, until no session was left, and of the grace, until it was
   -- over.
   pub seed : List ℕ
-  pub run : Runs config seed (outside old) (outside new) old.out new.out
-  pub safe : IsSafe config seed old new run.completes.course
+  pub run : Runs config most seed (outside old) (outside new) old.out new.out
+  pub safe : IsSafe config most seed old new run.completes.course
   -- Each term, of a circuit or of a subscriber that logged in, has one Stop. What the Stops say, in octets and in packets, is exactly what
   -- was sent: whoever reads the sent octets alone finds for each address and for each circuit that the Stops with it sum to its packets.
   pub stopped : AllZip AreStopped safe.history.shards (terms_of_run config (rounds_of run.completes.course.turns run.completes.course.endings))
@@ -305,8 +305,8 @@ pub record Headline (config : Config) (status : ℕ) (old new : World) : Type 0 
   pub profiles_add_up : AddsUpTo (total_in safe.sent) (all_profile_traffic config (rounds_of run.completes.course.turns run.completes.course.endings))
   -- With status 0 each Stop that was formed was acknowledged by a datagram that was heard later. With status 6 some was not, and the
   -- lines of those that were not were written.
-  pub acknowledged : status ≡ 0 → StopsAreAcknowledged (calls_in_run config seed old new run.completes.course)
-  pub unacknowledged : status ≡ 6 → ¬ StopsAreAcknowledged (calls_in_run config seed old new run.completes.course) × NamesStops run.completes.course.last old.err new.err
+  pub acknowledged : status ≡ 0 → StopsAreAcknowledged (calls_in_run config most seed old new run.completes.course)
+  pub unacknowledged : status ≡ 6 → ¬ StopsAreAcknowledged (calls_in_run config most seed old new run.completes.course) × NamesStops run.completes.course.last old.err new.err
 
 -- nothing was heard or sent
 pub record IsQuiet (old new : World) : Type 0 where
@@ -315,9 +315,9 @@ pub record IsQuiet (old new : World) : Type 0 where
   pub sent : new.plant.sent ≡ old.plant.sent
 
 -- the configuration was read, and these turns were made of it
-pub record WasSafe (words : List (List ℕ)) (old new : World) : Type 0 where
+pub record WasSafe (most : ℕ) (old new : World) : Type 0 where
   pub config : Config
-  pub prepares : Prepares words old.files new.files config
+  pub prepares : Prepares old.files new.files config
   pub seed : List ℕ
-  pub course : Course config seed (outside old) (outside new)
-  pub safe : IsSafe config seed old new course
+  pub course : Course config most seed (outside old) (outside new)
+  pub safe : IsSafe config most seed old new course

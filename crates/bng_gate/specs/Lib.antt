@@ -1,4 +1,3 @@
-pub mod Words
 pub mod Texts
 pub mod Saying
 pub mod Serving
@@ -12,3 +11,6 @@ pub mod Recorded
 pub mod Unchanged
 pub mod Changed
 pub mod Headline
+pub mod Check
+pub mod Exercise
+pub mod Commands

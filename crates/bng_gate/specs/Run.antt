@@ -22,7 +22,6 @@ use Rattle.bng_gate.specs.declared.texts.Opening.{Opening}
 use Rattle.bng_gate.specs.declared.texts.Opening.TheVariants.{Configuration, Seed, Control as ControlOpening, Core as CoreOpening, Access as AccessOpening, Auth as AuthOpening, Acct as AcctOpening, Tunnel as TunnelOpening, Coa as CoaOpening}
 use Rattle.bng_gate.specs.declared.texts.Refusal.{Refusal}
 use Rattle.bng_gate.specs.declared.texts.Refusal.TheVariants.{Usage, Refused, CannotOpen, OutOfMemory, TraceFailed, OutputFailed}
-use Rattle.bng_gate.specs.Words.{Serves as ServesFile}
 use Rattle.bng_gate.specs.Texts.{refusal_text, status_of}
 use Rattle.bng_gate.specs.Saying.{FailsToSay}
 use Rattle.bng_gate.specs.Unanswered.{unanswered_of, NamesStops, FailsToName}
@@ -44,60 +43,49 @@ turns_most = 2 ^ 40
 
 -- The configuration ---------------------------------------------------------------------------------------------------------
 
--- the words serve a file with this text, which was read
-pub record Opens (words : List (List ℕ)) (old new : FilesTold) (text : List ℕ) : Type 0 where
-  pub name : List ℕ
-  pub command : ServesFile words name
+-- a file with this text was read
+pub record Opens (old new : FilesTold) (text : List ℕ) : Type 0 where
   pub content : Grows old.contents new.contents (text ∷ [])
   pub unfailed : new.faults ≡ old.faults
 
--- the words serve a file with a text that is this configuration
-pub record Prepares (words : List (List ℕ)) (old new : FilesTold) (config : Config) : Type 0 where
+-- its text is this configuration
+pub record Prepares (old new : FilesTold) (config : Config) : Type 0 where
   pub text : List ℕ
-  pub opens : Opens words old new text
+  pub opens : Opens old new text
   pub read : IsRead text config
 
--- the words serve a file that could not be read
-pub record FailsToRead (words : List (List ℕ)) (old new : FilesTold) : Type 0 where
-  pub name : List ℕ
-  pub command : ServesFile words name
+-- a file could not be read
+pub record FailsToRead (old new : FilesTold) : Type 0 where
   pub rose : Rose old.faults new.faults
   pub contents : new.contents ≡ old.contents
 
--- the words serve no file, and none was read
-pub record IsNoCommand (words : List (List ℕ)) (old new : FilesTold) : Type 0 where
-  pub none : (name : List ℕ) → ¬ ServesFile words name
-  pub unread : new ≡ old
-
--- the words serve a file with a text that has this fault
-pub record IsFaulty (words : List (List ℕ)) (old new : FilesTold) (fault : Fault) : Type 0 where
+-- a file was read, and its text has this fault
+pub record IsFaulty (old new : FilesTold) (fault : Fault) : Type 0 where
   pub text : List ℕ
-  pub opens : Opens words old new text
+  pub opens : Opens old new text
   pub broken : HasFault text fault
 
--- the words serve a file, and memory was wanted for its text or for what the text says; no read failed
-pub record WantsToRead (words : List (List ℕ)) (old new : FilesTold) : Type 0 where
-  pub name : List ℕ
-  pub command : ServesFile words name
+-- memory was wanted for the text of a file, or for what the text says; no read failed
+pub record WantsToRead (old new : FilesTold) : Type 0 where
   pub contents : (new.contents ≡ old.contents) ⊎ ((text : List ℕ) × Grows old.contents new.contents (text ∷ []))
   pub unfailed : new.faults ≡ old.faults
 
 -- why no configuration was read
-abbrev pub IsUnprepared : List (List ℕ) → FilesTold → FilesTold → Refusal → Type 0
-IsUnprepared words old new Usage = IsNoCommand words old new
-IsUnprepared words old new (Refused fault) = IsFaulty words old new fault
-IsUnprepared words old new (CannotOpen Configuration) = FailsToRead words old new
-IsUnprepared words old new (CannotOpen Seed) = ⊥
-IsUnprepared words old new (CannotOpen ControlOpening) = ⊥
-IsUnprepared words old new (CannotOpen CoreOpening) = ⊥
-IsUnprepared words old new (CannotOpen (AccessOpening number)) = ⊥
-IsUnprepared words old new (CannotOpen AuthOpening) = ⊥
-IsUnprepared words old new (CannotOpen AcctOpening) = ⊥
-IsUnprepared words old new (CannotOpen TunnelOpening) = ⊥
-IsUnprepared words old new (CannotOpen CoaOpening) = ⊥
-IsUnprepared words old new OutOfMemory = WantsToRead words old new
-IsUnprepared words old new TraceFailed = ⊥
-IsUnprepared words old new OutputFailed = ⊥
+abbrev pub IsUnprepared : FilesTold → FilesTold → Refusal → Type 0
+IsUnprepared old new Usage = ⊥
+IsUnprepared old new (Refused fault) = IsFaulty old new fault
+IsUnprepared old new (CannotOpen Configuration) = FailsToRead old new
+IsUnprepared old new (CannotOpen Seed) = ⊥
+IsUnprepared old new (CannotOpen ControlOpening) = ⊥
+IsUnprepared old new (CannotOpen CoreOpening) = ⊥
+IsUnprepared old new (CannotOpen (AccessOpening number)) = ⊥
+IsUnprepared old new (CannotOpen AuthOpening) = ⊥
+IsUnprepared old new (CannotOpen AcctOpening) = ⊥
+IsUnprepared old new (CannotOpen TunnelOpening) = ⊥
+IsUnprepared old new (CannotOpen CoaOpening) = ⊥
+IsUnprepared old new OutOfMemory = WantsToRead old new
+IsUnprepared old new TraceFailed = ⊥
+IsUnprepared old new OutputFailed = ⊥
 
 -- The binds -----------------------------------------------------------------------------------------------------------------
 
@@ -219,9 +207,9 @@ pub record FailsToSeed (old new : EntropyTold) : Type 0 where
   pub seeds : new.seeds ≡ old.seeds
 
 -- why there is nothing to serve: no configuration was read, and no seed asked for; or one was read, and no seed was given
-abbrev pub IsUnready : List (List ℕ) → FilesTold → FilesTold → EntropyTold → EntropyTold → Refusal → Type 0
-IsUnready words old new entropy entropy' refusal =
-    (IsUnprepared words old new refusal × (entropy' ≡ entropy)) ⊎ ((refusal ≡ CannotOpen Seed) × ((config : Config) × Prepares words old new config × FailsToSeed entropy entropy'))
+abbrev pub IsUnready : FilesTold → FilesTold → EntropyTold → EntropyTold → Refusal → Type 0
+IsUnready old new entropy entropy' refusal =
+    (IsUnprepared old new refusal × (entropy' ≡ entropy)) ⊎ ((refusal ≡ CannotOpen Seed) × ((config : Config) × Prepares old new config × FailsToSeed entropy entropy'))
 
 -- The turns -----------------------------------------------------------------------------------------------------------------
 
@@ -235,9 +223,9 @@ pub record IsBound (config : Config) (plant plant' : PlantTold) (clock clock' : 
   pub last : clock'.last ≡ now
 
 -- then this desk was opened
-pub record Begins (config : Config) (seed : List ℕ) (plant plant' : PlantTold) (clock clock' : ClockTold) (opening : Desk) : Type 0 where
+pub record Begins (config : Config) (most : ℕ) (seed : List ℕ) (plant plant' : PlantTold) (clock clock' : ClockTold) (opening : Desk) : Type 0 where
   pub bound : IsBound config plant plant' clock clock'
-  pub is_opened : IsOpened config turns_most seed bound.now bound.wall opening
+  pub is_opened : IsOpened config most seed bound.now bound.wall opening
 
 -- why no desk was opened
 abbrev pub IsUnbegun : Config → PlantTold → PlantTold → ClockTold → ClockTold → Refusal → Type 0
@@ -250,10 +238,10 @@ IsUnbegun config plant plant' clock clock' OutputFailed = ⊥
 
 -- The turns of a run from its opening on: those of serving, and then those of the ending and of the grace, each from the desk that the
 -- one before left, and no more than a run makes. What is told grew by theirs, one after another, and by nothing else.
-pub record Course (config : Config) (seed : List ℕ) (old new : Outside) : Type 0 where
+pub record Course (config : Config) (most : ℕ) (seed : List ℕ) (old new : Outside) : Type 0 where
   pub opening_outside : Outside
   pub opening : Desk
-  pub begins : Begins config seed old.plant opening_outside.plant old.clock opening_outside.clock opening
+  pub begins : Begins config most seed old.plant opening_outside.plant old.clock opening_outside.clock opening
   pub untraced : opening_outside.trace ≡ old.trace
   pub turns : List Made
   pub over : Desk
@@ -267,25 +255,25 @@ pub record Course (config : Config) (seed : List ℕ) (old new : Outside) : Type
 
 -- The turns came to their end: those of serving to `stop` or to the last of all, those after them to a desk with no session left whose
 -- grace is over, or to one that starved. The trace took each round.
-pub record IsWhole (turns : List Made) (endings : List MadeEnd) (last : Desk) : Type 0 where
-  pub ends : EndsServing turns_most turns
+pub record IsWhole (most : ℕ) (turns : List Made) (endings : List MadeEnd) (last : Desk) : Type 0 where
+  pub ends : EndsServing most turns
   pub over : (state_of last ≡ Ended) ⊎ (state_of last ≡ Starved)
   pub noted : AreNoted (joined (run_stretch turns) (ending_stretch endings))
 
 -- The last turn is one of serving, and the first whose round the trace did not take. None before it took `stop`.
-pub record BreaksServing (turns : List Made) (endings : List MadeEnd) : Type 0 where
+pub record BreaksServing (most : ℕ) (turns : List Made) (endings : List MadeEnd) : Type 0 where
   pub before : List Made
   pub fault : Made
   pub are : turns ≡ before ++ fault ∷ []
   pub none : endings ≡ []
   pub noted : AreNoted (run_stretch before)
   pub unnoted : ¬ AreNoted (made_stretch fault)
-  pub within : length before < turns_most
+  pub within : length before < most
   pub none_before : list_any took_stop before ≡ false
 
 -- The turns of serving came to their end, and the last one of the ending is the first whose round the trace did not take.
-pub record BreaksEnding (turns : List Made) (endings : List MadeEnd) : Type 0 where
-  pub ends : EndsServing turns_most turns
+pub record BreaksEnding (most : ℕ) (turns : List Made) (endings : List MadeEnd) : Type 0 where
+  pub ends : EndsServing most turns
   pub served : AreNoted (run_stretch turns)
   pub before : List MadeEnd
   pub fault : MadeEnd
@@ -294,19 +282,19 @@ pub record BreaksEnding (turns : List Made) (endings : List MadeEnd) : Type 0 wh
   pub unnoted : ¬ AreNoted (made_end_stretch fault)
 
 -- a run whose turns came to their end
-pub record Completes (config : Config) (seed : List ℕ) (old new : Outside) : Type 0 where
-  pub course : Course config seed old new
-  pub whole : IsWhole course.turns course.endings course.last
+pub record Completes (config : Config) (most : ℕ) (seed : List ℕ) (old new : Outside) : Type 0 where
+  pub course : Course config most seed old new
+  pub whole : IsWhole most course.turns course.endings course.last
 
 -- and this desk was left
-pub record CompletesTo (config : Config) (seed : List ℕ) (old new : Outside) (d : Desk) : Type 0 where
-  pub completes : Completes config seed old new
+pub record CompletesTo (config : Config) (most : ℕ) (seed : List ℕ) (old new : Outside) (d : Desk) : Type 0 where
+  pub completes : Completes config most seed old new
   pub last : completes.course.last ≡ d
 
 -- a run that came to a round that the trace did not take, and made no turn after it
-pub record FailsToNote (config : Config) (seed : List ℕ) (old new : Outside) : Type 0 where
-  pub course : Course config seed old new
-  pub breaks : BreaksServing course.turns course.endings ⊎ BreaksEnding course.turns course.endings
+pub record FailsToNote (config : Config) (most : ℕ) (seed : List ℕ) (old new : Outside) : Type 0 where
+  pub course : Course config most seed old new
+  pub breaks : BreaksServing most course.turns course.endings ⊎ BreaksEnding most course.turns course.endings
   pub rose : Rose old.trace.faults new.trace.faults
 
 -- The report ----------------------------------------------------------------------------------------------------------------
@@ -335,30 +323,30 @@ IsUnreported last out out' TraceFailed = ⊥
 IsUnreported last out out' OutputFailed = FailsToReport last out out'
 
 -- The run came to its end with no session left and its grace over, and the report of the last desk was written.
-pub record Runs (config : Config) (seed : List ℕ) (old new : Outside) (out out' : SinkTold) : Type 0 where
-  pub completes : Completes config seed old new
+pub record Runs (config : Config) (most : ℕ) (seed : List ℕ) (old new : Outside) (out out' : SinkTold) : Type 0 where
+  pub completes : Completes config most seed old new
   pub ended : state_of completes.course.last ≡ Ended
   pub reports : Reports completes.course.last out out'
 
 -- The run came to its end with no session left and its grace over, and a front of the report was written.
-pub record FailsToPrint (config : Config) (seed : List ℕ) (old new : Outside) (out out' : SinkTold) : Type 0 where
-  pub completes : Completes config seed old new
+pub record FailsToPrint (config : Config) (most : ℕ) (seed : List ℕ) (old new : Outside) (out out' : SinkTold) : Type 0 where
+  pub completes : Completes config most seed old new
   pub ended : state_of completes.course.last ≡ Ended
   pub fails : FailsToReport completes.course.last out out'
 
 -- Memory was wanted: for the desk, before any turn; or once the turns had come to their end, for the report or since the desk
 -- starved.
-abbrev pub WantsToServe : Config → List ℕ → Outside → Outside → Type 0
-WantsToServe config seed old new = (IsBound config old.plant new.plant old.clock new.clock × (new.trace ≡ old.trace)) ⊎ Completes config seed old new
+abbrev pub WantsToServe : Config → ℕ → List ℕ → Outside → Outside → Type 0
+WantsToServe config most seed old new = (IsBound config old.plant new.plant old.clock new.clock × (new.trace ≡ old.trace)) ⊎ Completes config most seed old new
 
 -- why a configuration was not served to its report
-abbrev pub IsUnserved : Config → List ℕ → Outside → Outside → SinkTold → SinkTold → Refusal → Type 0
-IsUnserved config seed old new out out' Usage = ⊥
-IsUnserved config seed old new out out' (Refused fault) = ⊥
-IsUnserved config seed old new out out' (CannotOpen what) = FailsAt config old.plant new.plant what × (new.clock ≡ old.clock) × (new.trace ≡ old.trace) × (out' ≡ out)
-IsUnserved config seed old new out out' OutOfMemory = WantsToServe config seed old new × (out' ≡ out)
-IsUnserved config seed old new out out' TraceFailed = FailsToNote config seed old new × (out' ≡ out)
-IsUnserved config seed old new out out' OutputFailed = FailsToPrint config seed old new out out'
+abbrev pub IsUnserved : Config → ℕ → List ℕ → Outside → Outside → SinkTold → SinkTold → Refusal → Type 0
+IsUnserved config most seed old new out out' Usage = ⊥
+IsUnserved config most seed old new out out' (Refused fault) = ⊥
+IsUnserved config most seed old new out out' (CannotOpen what) = FailsAt config old.plant new.plant what × (new.clock ≡ old.clock) × (new.trace ≡ old.trace) × (out' ≡ out)
+IsUnserved config most seed old new out out' OutOfMemory = WantsToServe config most seed old new × (out' ≡ out)
+IsUnserved config most seed old new out out' TraceFailed = FailsToNote config most seed old new × (out' ≡ out)
+IsUnserved config most seed old new out out' OutputFailed = FailsToPrint config most seed old new out out'
 
 -- the line of a refusal was written, or the sink failed and the status is 5
 abbrev pub Told : SinkTold → SinkTold → Refusal → ℕ → Type 0
@@ -387,157 +375,151 @@ pub record IsUntouched (old new : World) : Type 0 where
   pub out : new.out ≡ old.out
 
 -- the configuration was read, and a seed was given
-pub record IsReady (words : List (List ℕ)) (old new : World) (config : Config) (seed : List ℕ) : Type 0 where
-  pub prepares : Prepares words old.files new.files config
+pub record IsReady (old new : World) (config : Config) (seed : List ℕ) : Type 0 where
+  pub prepares : Prepares old.files new.files config
   pub seeds : Seeds old.entropy new.entropy seed
 
 -- the configuration was read, and the run was its turns and its report
-pub record IsRun (words : List (List ℕ)) (old new : World) : Type 0 where
+pub record IsRun (most : ℕ) (old new : World) : Type 0 where
   pub config : Config
   pub seed : List ℕ
-  pub ready : IsReady words old new config seed
-  pub runs : Runs config seed (outside old) (outside new) old.out new.out
+  pub ready : IsReady old new config seed
+  pub runs : Runs config most seed (outside old) (outside new) old.out new.out
 
-abbrev pub last_of : (words : List (List ℕ)) (old new : World) → IsRun words old new → Desk
-last_of words old new run = run.runs.completes.course.last
+abbrev pub last_of : (most : ℕ) (old new : World) → IsRun most old new → Desk
+last_of most old new run = run.runs.completes.course.last
 
 -- and each Stop was acknowledged
-pub record IsServed (words : List (List ℕ)) (old new : World) : Type 0 where
-  pub run : IsRun words old new
-  pub acknowledged : unanswered_of (last_of words old new run) ≡ []
+pub record IsServed (most : ℕ) (old new : World) : Type 0 where
+  pub run : IsRun most old new
+  pub acknowledged : unanswered_of (last_of most old new run) ≡ []
   pub silent : new.err ≡ old.err
 
 -- or some Stop was not, and the lines of those were written
-pub record IsUnanswered (words : List (List ℕ)) (old new : World) : Type 0 where
-  pub run : IsRun words old new
-  pub names : NamesStops (last_of words old new run) old.err new.err
+pub record IsUnanswered (most : ℕ) (old new : World) : Type 0 where
+  pub run : IsRun most old new
+  pub names : NamesStops (last_of most old new run) old.err new.err
 
 -- or a front of these lines
-pub record IsUnnamed (words : List (List ℕ)) (old new : World) : Type 0 where
-  pub run : IsRun words old new
-  pub fails : FailsToName (last_of words old new run) old.err new.err
-
--- the words are no command
-pub record IsUsage (words : List (List ℕ)) (old new : World) : Type 0 where
-  pub command : IsNoCommand words old.files new.files
-  pub untouched : IsUntouched old new
-  pub unseeded : new.entropy ≡ old.entropy
+pub record IsUnnamed (most : ℕ) (old new : World) : Type 0 where
+  pub run : IsRun most old new
+  pub fails : FailsToName (last_of most old new run) old.err new.err
 
 -- the configuration breaks a rule, and this is the first
-pub record IsRefused (words : List (List ℕ)) (old new : World) (fault : Fault) : Type 0 where
-  pub faulty : IsFaulty words old.files new.files fault
+pub record IsRefused (old new : World) (fault : Fault) : Type 0 where
+  pub faulty : IsFaulty old.files new.files fault
   pub untouched : IsUntouched old new
   pub unseeded : new.entropy ≡ old.entropy
 
 -- the file could not be read
-pub record IsUnread (words : List (List ℕ)) (old new : World) : Type 0 where
-  pub fails : FailsToRead words old.files new.files
+pub record IsUnread (old new : World) : Type 0 where
+  pub fails : FailsToRead old.files new.files
   pub untouched : IsUntouched old new
   pub unseeded : new.entropy ≡ old.entropy
 
 -- no seed was given
-pub record IsUnseeded (words : List (List ℕ)) (old new : World) : Type 0 where
+pub record IsUnseeded (old new : World) : Type 0 where
   pub config : Config
-  pub prepares : Prepares words old.files new.files config
+  pub prepares : Prepares old.files new.files config
   pub fails : FailsToSeed old.entropy new.entropy
   pub untouched : IsUntouched old new
 
 -- a role could not be bound, by what is asked of the binds
-pub record IsUnbound (words : List (List ℕ)) (old new : World) (Fails : Config → PlantTold → PlantTold → Type 0) : Type 0 where
+pub record IsUnbound (old new : World) (Fails : Config → PlantTold → PlantTold → Type 0) : Type 0 where
   pub config : Config
   pub seed : List ℕ
-  pub ready : IsReady words old new config seed
+  pub ready : IsReady old new config seed
   pub fails : Fails config old.plant new.plant
   pub clock : new.clock ≡ old.clock
   pub trace : new.trace ≡ old.trace
   pub out : new.out ≡ old.out
 
 -- what is named could not be opened
-abbrev pub Fails : List (List ℕ) → World → World → Opening → Type 0
-Fails words old new Configuration = IsUnread words old new
-Fails words old new Seed = IsUnseeded words old new
-Fails words old new ControlOpening = IsUnbound words old new (λ config p p'. FailsToBind config 0 p p')
-Fails words old new CoreOpening = IsUnbound words old new (λ config p p'. FailsToBind config 1 p p')
-Fails words old new (AccessOpening number) = IsUnbound words old new (λ config p p'. FailsToBindPort config number p p')
-Fails words old new AuthOpening = IsUnbound words old new (λ config p p'. FailsToBind config (2 + length config.access) p p')
-Fails words old new AcctOpening = IsUnbound words old new (λ config p p'. FailsToBind config (3 + length config.access) p p')
-Fails words old new TunnelOpening = IsUnbound words old new (λ config p p'. FailsToBindTunnel config p p')
-Fails words old new CoaOpening = IsUnbound words old new (λ config p p'. FailsToBindCoa config p p')
+abbrev pub Fails : World → World → Opening → Type 0
+Fails old new Configuration = IsUnread old new
+Fails old new Seed = IsUnseeded old new
+Fails old new ControlOpening = IsUnbound old new (λ config p p'. FailsToBind config 0 p p')
+Fails old new CoreOpening = IsUnbound old new (λ config p p'. FailsToBind config 1 p p')
+Fails old new (AccessOpening number) = IsUnbound old new (λ config p p'. FailsToBindPort config number p p')
+Fails old new AuthOpening = IsUnbound old new (λ config p p'. FailsToBind config (2 + length config.access) p p')
+Fails old new AcctOpening = IsUnbound old new (λ config p p'. FailsToBind config (3 + length config.access) p p')
+Fails old new TunnelOpening = IsUnbound old new (λ config p p'. FailsToBindTunnel config p p')
+Fails old new CoaOpening = IsUnbound old new (λ config p p'. FailsToBindCoa config p p')
 
 -- what is named could not be opened, and no receive, send or wait was made
-pub record IsUnopened (words : List (List ℕ)) (old new : World) (what : Opening) : Type 0 where
-  pub fails : Fails words old new what
+pub record IsUnopened (old new : World) (what : Opening) : Type 0 where
+  pub fails : Fails old new what
   pub heard : new.plant.heard ≡ old.plant.heard
   pub taken : new.plant.taken ≡ old.plant.taken
   pub sent : new.plant.sent ≡ old.plant.sent
   pub out : new.out ≡ old.out
 
 -- memory was wanted for the configuration, which alone was asked for
-pub record WantsConfiguration (words : List (List ℕ)) (old new : World) : Type 0 where
-  pub wants : WantsToRead words old.files new.files
+pub record WantsConfiguration (old new : World) : Type 0 where
+  pub wants : WantsToRead old.files new.files
   pub untouched : IsUntouched old new
   pub unseeded : new.entropy ≡ old.entropy
 
 -- the configuration was read, and memory was wanted for the desk, or once the turns had come to their end
-pub record WantsService (words : List (List ℕ)) (old new : World) : Type 0 where
+pub record WantsService (most : ℕ) (old new : World) : Type 0 where
   pub config : Config
   pub seed : List ℕ
-  pub ready : IsReady words old new config seed
-  pub wants : WantsToServe config seed (outside old) (outside new)
+  pub ready : IsReady old new config seed
+  pub wants : WantsToServe config most seed (outside old) (outside new)
   pub out : new.out ≡ old.out
 
 -- the trace did not take a round, and no report was written
-pub record IsUnnoted (words : List (List ℕ)) (old new : World) : Type 0 where
+pub record IsUnnoted (most : ℕ) (old new : World) : Type 0 where
   pub config : Config
   pub seed : List ℕ
-  pub ready : IsReady words old new config seed
-  pub fails : FailsToNote config seed (outside old) (outside new)
+  pub ready : IsReady old new config seed
+  pub fails : FailsToNote config most seed (outside old) (outside new)
   pub out : new.out ≡ old.out
 
 -- the report could not be written
-pub record IsUnprinted (words : List (List ℕ)) (old new : World) : Type 0 where
+pub record IsUnprinted (most : ℕ) (old new : World) : Type 0 where
   pub config : Config
   pub seed : List ℕ
-  pub ready : IsReady words old new config seed
-  pub fails : FailsToPrint config seed (outside old) (outside new) old.out new.out
+  pub ready : IsReady old new config seed
+  pub fails : FailsToPrint config most seed (outside old) (outside new) old.out new.out
 
 -- why a run came to no report, or for want of memory not to the lines after it
-abbrev pub Why : List (List ℕ) → World → World → Refusal → Type 0
-Why words old new Usage = IsUsage words old new
-Why words old new (Refused fault) = IsRefused words old new fault
-Why words old new (CannotOpen what) = IsUnopened words old new what
-Why words old new OutOfMemory = WantsConfiguration words old new ⊎ (WantsService words old new ⊎ IsRun words old new)
-Why words old new TraceFailed = IsUnnoted words old new
-Why words old new OutputFailed = IsUnprinted words old new
+abbrev pub Why : ℕ → World → World → Refusal → Type 0
+Why most old new Usage = ⊥
+Why most old new (Refused fault) = IsRefused old new fault
+Why most old new (CannotOpen what) = IsUnopened old new what
+Why most old new OutOfMemory = WantsConfiguration old new ⊎ (WantsService most old new ⊎ IsRun most old new)
+Why most old new TraceFailed = IsUnnoted most old new
+Why most old new OutputFailed = IsUnprinted most old new
 
 -- so it was, and the line that says so was written
-pub record Refuses (words : List (List ℕ)) (old new : World) (refusal : Refusal) : Type 0 where
-  pub why : Why words old new refusal
+pub record Refuses (most : ℕ) (old new : World) (refusal : Refusal) : Type 0 where
+  pub why : Why most old new refusal
   pub told : Grows old.err.bytes new.err.bytes (refusal_text refusal)
 
 -- so it was, and the line that says so could not be written whole
-pub record FailsToTell (words : List (List ℕ)) (old new : World) : Type 0 where
+pub record FailsToTell (most : ℕ) (old new : World) : Type 0 where
   pub refusal : Refusal
-  pub why : Why words old new refusal
+  pub why : Why most old new refusal
   pub fails : FailsToSay old.err new.err (refusal_text refusal)
 
 -- Status 5: the trace, `out` or `err` failed.
-abbrev pub IsUnwritten : List (List ℕ) → World → World → Type 0
-IsUnwritten words old new = Refuses words old new TraceFailed ⊎ (Refuses words old new OutputFailed ⊎ (FailsToTell words old new ⊎ IsUnnamed words old new))
+abbrev pub IsUnwritten : ℕ → World → World → Type 0
+IsUnwritten most old new = Refuses most old new TraceFailed ⊎ (Refuses most old new OutputFailed ⊎ (FailsToTell most old new ⊎ IsUnnamed most old new))
 
 -- at most one seed was asked for
 abbrev pub SeedsOnce : EntropyTold → EntropyTold → Type 0
 SeedsOnce old new = (new ≡ old) ⊎ (FailsToSeed old new ⊎ ((seed : List ℕ) × Seeds old new seed))
 
 -- What each status says of a run.
-pub record RunEnds (words : List (List ℕ)) (old new : World) (status : ℕ) : Type 0 where
-  pub served : status ≡ 0 → IsServed words old new
-  pub usage : status ≡ 1 → Refuses words old new Usage
-  pub refused : status ≡ 2 → (fault : Fault) × Refuses words old new (Refused fault)
-  pub unopened : status ≡ 3 → (what : Opening) × Refuses words old new (CannotOpen what)
-  pub starved : status ≡ 4 → Refuses words old new OutOfMemory
-  pub unwritten : status ≡ 5 → IsUnwritten words old new
-  pub unanswered : status ≡ 6 → IsUnanswered words old new
+pub record ServeEnds (most : ℕ) (old new : World) (status : ℕ) : Type 0 where
+  pub served : status ≡ 0 → IsServed most old new
+  pub no_usage : ¬ (status ≡ 1)
+  pub refused : status ≡ 2 → (fault : Fault) × Refuses most old new (Refused fault)
+  pub unopened : status ≡ 3 → (what : Opening) × Refuses most old new (CannotOpen what)
+  pub starved : status ≡ 4 → Refuses most old new OutOfMemory
+  pub unwritten : status ≡ 5 → IsUnwritten most old new
+  pub unanswered : status ≡ 6 → IsUnanswered most old new
   pub no_other : status ≤ 6
   pub seeds : SeedsOnce old.entropy new.entropy
 

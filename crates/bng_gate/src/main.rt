@@ -3,7 +3,11 @@
 
 #[cfg(test)]
 mod asserts;
+mod checking;
+mod commands;
+mod exercise;
 mod laws;
+mod progress;
 mod saying;
 mod serving;
 mod start;
@@ -11,13 +15,14 @@ mod start;
 mod tests;
 mod texts;
 mod top;
-mod words;
 
+use crate::commands::run;
+use crate::progress::Progress;
 use crate::start::{FILE_MOST, out_of_memory, raise_threshold};
-use crate::top::run;
 use bng_real::{
     RealClock, RealEntropy, RealFiles, RealGate, RealPlant, RealTrace, StandardSink, words_of,
 };
+use std::io::IsTerminal;
 use std::process::ExitCode;
 
 fn main(rt: HostRuntime) -> ExitCode {
@@ -34,6 +39,8 @@ fn main(rt: HostRuntime) -> ExitCode {
     let mut files = RealFiles::new(&rt, FILE_MOST);
     let mut clock = RealClock::new(&rt);
     let mut entropy = RealEntropy::new(&rt);
+    let shows = is_exercise(words.as_slice()) && rt.stderr().is_terminal();
+    let mut trace = Progress::new(RealTrace, StandardSink::new(rt.stderr()), shows);
     let status = run(
         &rt,
         alloc,
@@ -42,10 +49,19 @@ fn main(rt: HostRuntime) -> ExitCode {
         &mut plant,
         &mut clock,
         &mut entropy,
-        &mut RealTrace,
+        &mut trace,
         &mut out,
         &mut err,
         &RealGate,
     );
+    trace.clear();
     ExitCode::from(status)
+}
+
+// Whether the words are those of an exercise, which shows how far it is.
+fn is_exercise(words: &[String]) -> bool {
+    match words {
+        [command, ..] => command.as_str() == "exercise",
+        [] => false,
+    }
 }

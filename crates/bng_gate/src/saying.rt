@@ -6,7 +6,8 @@ ghost use Rattle.bng_gate.specs.Texts.{line_text};
 use crate::texts::Line;
 use bng_plant::{Sink, Wrote};
 
-fn say_text<X: Sink>(sink: &mut X, text: &[u8]) -> Wrote
+/// Writes a text.
+pub(crate) fn say_text<X: Sink>(sink: &mut X, text: &[u8]) -> Wrote
     ensures { Says (X.told sink.old) (X.told sink.new) text.now result }
 {
     sink.write(text)

@@ -1,6 +1,6 @@
 //! Whole runs over the outside in memory.
 use crate::asserts::{assert_holds, assert_same};
-use crate::top::run;
+use crate::commands::run;
 use bng_base::{Ip4, Peer, Role};
 use bng_plant::{
     Arrival, MemoryClock, MemoryEntropy, MemoryFile, MemoryFiles, MemoryPlant, MemorySink, NoTrace,
@@ -20,6 +20,7 @@ mod counting;
 mod disconnects;
 mod discovery;
 mod established;
+mod exercises;
 mod forwarding;
 mod host;
 mod limits;

@@ -1,21 +1,14 @@
-//! The top call.
-ghost use Rattle.std.specs.Prelude.{◌≡◌, ◌+◌, ◌≤◌, ◌⊎◌, ℕ, List, [], ◌∷◌, false, IsSome, OnOk, OnErr, IfNone, IfOk, IfErr, IfSome, length};
-ghost use Rattle.bng_base.specs.Told.{Grows, SinkTold};
-ghost use Rattle.bng_config.specs.declared.config.Config.{Config as Settings};
-ghost use Rattle.bng_config.specs.declared.fault.Fault.{Fault as Rule};
-ghost use Rattle.bng_config.specs.Configuration.{HasFault};
+//! How a configuration is served, from its file to its report.
+ghost use Rattle.std.specs.Prelude.{◌≡◌, ◌+◌, ◌≤◌, false, OnOk, OnErr, IfNone, IfOk, IfErr, IfSome, length};
+ghost use Rattle.bng_base.specs.Told.{SinkTold};
 ghost use Rattle.bng_config.specs.Rules.{KeepsRules};
-ghost use Rattle.bng_gate.specs.Headline.{Headline, IsQuiet, WasSafe};
-ghost use Rattle.bng_gate.specs.Words.{Serves};
-ghost use Rattle.bng_gate.specs.Words.{texts as words_of};
-ghost use Rattle.bng_gate.specs.Run.{Prepares, IsUnprepared, Binds, binds_most, BindsPorts, FailsAtPort, BindsEnd, FailsAtEnd, FailsAt, Seeds, FailsToSeed, IsUnserved, Told, RunEnds, IsUnfailed, IsFaultless};
+ghost use Rattle.bng_gate.specs.Run.{Prepares, IsUnprepared, Binds, binds_most, BindsPorts, FailsAtPort, BindsEnd, FailsAtEnd, FailsAt, Seeds, FailsToSeed, IsUnserved, Told, ServeEnds, turns_most};
 ghost use Rattle.bng_gate.specs.Run.{binds_before_coa, coa_local as local_of, Begins, IsUnbegun, Reports, IsUnreported, IsUnready, CompletesTo, Concludes, Tells};
 ghost use Rattle.bng_gate.specs.Serving.{MakesTurns, FailsTurning};
 
 use crate::saying::say;
 use crate::serving::{TraceFault, finish, has_starved, serve};
 use crate::texts::{self, Opening, Refusal};
-use crate::words;
 use bng_base::{AccessPort, Peer, Role};
 use bng_config::{Config, ConfigError};
 use bng_desk::{Desk, DeskError};
@@ -25,7 +18,7 @@ use std::sync::Wait;
 use std::thread::Threads;
 
 /// Done.
-const DONE: u8 = 0;
+pub(crate) const DONE: u8 = 0;
 
 /// A text could not be written.
 const OUTPUT_FAILED: u8 = 5;
@@ -33,18 +26,12 @@ const OUTPUT_FAILED: u8 = 5;
 /// Some Stop was not acknowledged.
 const UNANSWERED: u8 = 6;
 
-/// The most turns that a run makes.
-const TURNS_MOST: u64 = 1 << 40;
-
-// Reads the configuration that the words name.
-fn prepare<F: Files>(alloc: Global, words: &Vec<String>, files: &mut F) -> Result<Config, Refusal>
-    ensures prepared { IfOk result (λ config. Prepares (words_of words.now.items) (F.told files.old) (F.told files.new) config) }
+/// Reads the configuration of the file of this name.
+pub(crate) fn prepare<F: Files>(alloc: Global, name: &str, files: &mut F) -> Result<Config, Refusal>
+    ensures prepared { IfOk result (λ config. Prepares (F.told files.old) (F.told files.new) config) }
     ensures keeps { IfOk result (λ config. KeepsRules config) }
-    ensures refused { IfErr result (λ refusal. IsUnprepared (words_of words.now.items) (F.told files.old) (F.told files.new) refusal) }
+    ensures refused { IfErr result (λ refusal. IsUnprepared (F.told files.old) (F.told files.new) refusal) }
 {
-    let Some(name) = words::read(words) else {
-        return Err(Refusal::Usage);
-    };
     let text = match files.read(alloc, name) {
         Ok(text) => text,
         Err(FileError::Failed) => return Err(Refusal::CannotOpen(Opening::Configuration)),
@@ -190,31 +177,38 @@ fn draw_seed<E: Entropy>(entropy: &mut E) -> Option<[u8; 32]>
     }
 }
 
-// What is served: the configuration, and the seed of the random octets.
+/// What is served: the configuration, for how many rounds at most, and the seed of the random octets.
 #[derive(Drop)]
-struct Ready {
-    config: Config,
-    seed: [u8; 32],
+pub(crate) struct Ready {
+    pub config: Config,
+    pub rounds: u64,
+    pub seed: [u8; 32],
 }
 
-// Reads the configuration that the words name, and then asks for a seed.
+// Reads the configuration of the file of this name, and then asks for a seed.
 fn make_ready<E: Entropy, F: Files>(
     alloc: Global,
-    words: &Vec<String>,
+    name: &str,
+    rounds: u64,
     files: &mut F,
     entropy: &mut E,
 ) -> Result<Ready, Refusal>
-    ensures prepared { IfOk result (λ ready. Prepares (words_of words.now.items) (F.told files.old) (F.told files.new) ready.config) }
+    ensures prepared { IfOk result (λ ready. Prepares (F.told files.old) (F.told files.new) ready.config) }
     ensures seeded { IfOk result (λ ready. Seeds (E.told entropy.old) (E.told entropy.new) ready.seed) }
+    ensures rounds { IfOk result (λ ready. ready.rounds ≡ rounds) }
     ensures keeps { IfOk result (λ ready. KeepsRules ready.config) }
-    ensures refused { IfErr result (λ refusal. IsUnready (words_of words.now.items) (F.told files.old) (F.told files.new) (E.told entropy.old) (E.told entropy.new) refusal) }
+    ensures refused { IfErr result (λ refusal. IsUnready (F.told files.old) (F.told files.new) (E.told entropy.old) (E.told entropy.new) refusal) }
 {
-    let config = match prepare(alloc, words, files) {
+    let config = match prepare(alloc, name, files) {
         Ok(config) => config,
         Err(refusal) => return Err(refusal),
     };
     match draw_seed(entropy) {
-        Some(seed) => Ok(Ready { config, seed }),
+        Some(seed) => Ok(Ready {
+            config,
+            rounds,
+            seed,
+        }),
         None => Err(Refusal::CannotOpen(Opening::Seed)),
     }
 }
@@ -223,12 +217,15 @@ fn make_ready<E: Entropy, F: Files>(
 pub(crate) fn open_desk<P: Plant, C: Clock>(
     alloc: Global,
     config: Config,
+    rounds: u64,
     seed: [u8; 32],
     plant: &mut P,
     clock: &mut C,
 ) -> Result<Desk, Refusal>
     requires rules { KeepsRules config }
-    ensures opened { IfOk result (λ desk. Begins config seed (P.told plant.old) (P.told plant.new) (C.told clock.old) (C.told clock.new) desk) }
+    requires some_round { 1 ≤ rounds }
+    requires few_rounds { rounds ≤ turns_most }
+    ensures opened { IfOk result (λ desk. Begins config rounds seed (P.told plant.old) (P.told plant.new) (C.told clock.old) (C.told clock.new) desk) }
     ensures refused { IfErr result (λ refusal. IsUnbegun config (P.told plant.old) (P.told plant.new) (C.told clock.old) (C.told clock.new) refusal) }
 {
     if let Err(what) = bind_all(&config, plant) {
@@ -236,7 +233,7 @@ pub(crate) fn open_desk<P: Plant, C: Clock>(
     }
     let now = clock.now();
     let wall = clock.wall();
-    match Desk::open(alloc, config, TURNS_MOST, seed, now, wall) {
+    match Desk::open(alloc, config, rounds, seed, now, wall) {
         Ok(desk) => Ok(desk),
         Err(DeskError::OutOfMemory) => Err(Refusal::OutOfMemory),
     }
@@ -287,8 +284,8 @@ fn report<O: Sink>(alloc: Global, desk: &Desk, out: &mut O) -> Result<(), Refusa
     }
 }
 
-// Opens a desk and makes its turns, and gives the desk that is left.
-fn serve_all<R, P: Plant, C: Clock, T: Trace, G>(
+/// Opens a desk and makes its turns, and gives the desk that is left.
+pub(crate) fn serve_all<R, P: Plant, C: Clock, T: Trace, G>(
     rt: &R,
     alloc: Global,
     ready: Ready,
@@ -301,16 +298,22 @@ where
     R: Threads + Wait + Sync,
     G: Gate + Sync,
     requires rules { KeepsRules ready.config }
-    ensures served { IfOk result (λ desk. CompletesTo ready.config ready.seed
+    requires some_round { 1 ≤ ready.rounds }
+    requires few_rounds { ready.rounds ≤ turns_most }
+    ensures served { IfOk result (λ desk. CompletesTo ready.config ready.rounds ready.seed
         (record { plant = P.told plant.old; clock = C.told clock.old; trace = T.told trace.old })
         (record { plant = P.told plant.new; clock = C.told clock.new; trace = T.told trace.new }) desk) }
-    ensures refused { IfErr result (λ refusal. (out : SinkTold) → IsUnserved ready.config ready.seed
+    ensures refused { IfErr result (λ refusal. (out : SinkTold) → IsUnserved ready.config ready.rounds ready.seed
         (record { plant = P.told plant.old; clock = C.told clock.old; trace = T.told trace.old })
         (record { plant = P.told plant.new; clock = C.told clock.new; trace = T.told trace.new })
         out out refusal) }
 {
-    let Ready { config, seed } = ready;
-    let mut desk = match open_desk(alloc, config, seed, plant, clock) {
+    let Ready {
+        config,
+        rounds,
+        seed,
+    } = ready;
+    let mut desk = match open_desk(alloc, config, rounds, seed, plant, clock) {
         Ok(desk) => desk,
         Err(refusal) => return Err(refusal),
     };
@@ -320,8 +323,8 @@ where
     Ok(desk)
 }
 
-// Writes the line of a refusal, and answers its status. Where that fails, the status is another.
-fn refuse<X: Sink>(err: &mut X, refusal: Refusal) -> u8
+/// Writes the line of a refusal, and answers its status. Where that fails, the status is another.
+pub(crate) fn refuse<X: Sink>(err: &mut X, refusal: Refusal) -> u8
     ensures { Told (X.told err.old) (X.told err.new) refusal result }
 {
     match say(err, &texts::line_of(&refusal)) {
@@ -330,8 +333,8 @@ fn refuse<X: Sink>(err: &mut X, refusal: Refusal) -> u8
     }
 }
 
-// Writes a line for each Stop that was not acknowledged, and answers the status of a run that came to its report.
-fn conclude<X: Sink>(alloc: Global, desk: &Desk, err: &mut X) -> u8
+/// Writes a line for each Stop that was not acknowledged, and answers the status of a run that came to its report.
+pub(crate) fn conclude<X: Sink>(alloc: Global, desk: &Desk, err: &mut X) -> u8
     ensures { Concludes desk.now (X.told err.old) (X.told err.new) result }
 {
     let mut text = Vec::new(alloc);
@@ -357,12 +360,22 @@ fn tell<O: Sink, X: Sink>(alloc: Global, desk: &Desk, out: &mut O, err: &mut X) 
     }
 }
 
-/// The program: reads the words, serves, and answers the status with which it ends. The words stand without the
-/// program's name.
-pub fn run<R, P: Plant, C: Clock, E: Entropy, F: Files, T: Trace, O: Sink, X: Sink, G>(
+/// Serves by the configuration of the file of this name for so many rounds at most, and answers the status.
+pub(crate) fn serve_file<
+    R,
+    P: Plant,
+    C: Clock,
+    E: Entropy,
+    F: Files,
+    T: Trace,
+    O: Sink,
+    X: Sink,
+    G,
+>(
     rt: &R,
     alloc: Global,
-    words: &Vec<String>,
+    name: &str,
+    rounds: u64,
     files: &mut F,
     plant: &mut P,
     clock: &mut C,
@@ -375,50 +388,14 @@ pub fn run<R, P: Plant, C: Clock, E: Entropy, F: Files, T: Trace, O: Sink, X: Si
 where
     R: Threads + Wait + Sync,
     G: Gate + Sync,
-
-    // What each status says of the run.
-    ensures ends { RunEnds (words_of words.now.items)
+    requires some_round { 1 ≤ rounds }
+    requires few_rounds { rounds ≤ turns_most }
+    ensures { ServeEnds rounds
         (record { files = F.told files.old; plant = P.told plant.old; clock = C.told clock.old; entropy = E.told entropy.old; trace = T.told trace.old; out = O.told out.old; err = X.told err.old })
         (record { files = F.told files.new; plant = P.told plant.new; clock = C.told clock.new; entropy = E.told entropy.new; trace = T.told trace.new; out = O.told out.new; err = X.told err.new })
         result }
-
-    // With status 0 or 6: no two live sessions ever held one address; the packets sent, their circuits and addresses; each term
-    // has its Stop, and the Stops say exactly what was sent; and the octets and drops printed. With status 0 each Stop was
-    // acknowledged; with status 6 the lines of those that were not were written.
-    ensures headline { (result ≡ 0) ⊎ (result ≡ 6) → (config : Settings) × Prepares (words_of words.now.items) (F.told files.old) (F.told files.new) config × Headline config result
-        (record { files = F.told files.old; plant = P.told plant.old; clock = C.told clock.old; entropy = E.told entropy.old; trace = T.told trace.old; out = O.told out.old; err = X.told err.old })
-        (record { files = F.told files.new; plant = P.told plant.new; clock = C.told clock.new; entropy = E.told entropy.new; trace = T.told trace.new; out = O.told out.new; err = X.told err.new }) }
-
-    // With status 4 or 5: nothing was heard or sent, or what the headline says of the turns holds of those that were made.
-    ensures safe { (result ≡ 4) ⊎ (result ≡ 5) → IsQuiet
-        (record { files = F.told files.old; plant = P.told plant.old; clock = C.told clock.old; entropy = E.told entropy.old; trace = T.told trace.old; out = O.told out.old; err = X.told err.old })
-        (record { files = F.told files.new; plant = P.told plant.new; clock = C.told clock.new; entropy = E.told entropy.new; trace = T.told trace.new; out = O.told out.new; err = X.told err.new })
-        ⊎ WasSafe (words_of words.now.items)
-        (record { files = F.told files.old; plant = P.told plant.old; clock = C.told clock.old; entropy = E.told entropy.old; trace = T.told trace.old; out = O.told out.old; err = X.told err.old })
-        (record { files = F.told files.new; plant = P.told plant.new; clock = C.told clock.new; entropy = E.told entropy.new; trace = T.told trace.new; out = O.told out.new; err = X.told err.new }) }
-
-    // Status 4 comes where no read, seed or note failed.
-    ensures unfailed { result ≡ 4 → IsUnfailed
-        (record { files = F.told files.old; plant = P.told plant.old; clock = C.told clock.old; entropy = E.told entropy.old; trace = T.told trace.old; out = O.told out.old; err = X.told err.old })
-        (record { files = F.told files.new; plant = P.told plant.new; clock = C.told clock.new; entropy = E.told entropy.new; trace = T.told trace.new; out = O.told out.new; err = X.told err.new }) }
-
-    // Words that are no command give status 1, if the line can be written.
-    ensures no_command { ((name : List ℕ) → ¬ Serves (words_of words.now.items) name) → (result ≡ 1) ⊎ (result ≡ 5) }
-
-    // A configuration that was read and has a fault gives status 2, if there is memory and the line can be written.
-    ensures faulty { IsSome (F.told files.old).contents → (text : List ℕ) (fault : Rule) → Grows (F.told files.old).contents (F.told files.new).contents (text ∷ []) → HasFault text fault
-        → (result ≡ 2) ⊎ (result ≡ 4) ⊎ (result ≡ 5) }
-
-    // Where no count rose, words that serve a configuration without a fault give status 0, or 6 where a Stop was not acknowledged, if
-    // there is memory.
-    ensures complete { (name : List ℕ) → Serves (words_of words.now.items) name
-        → ((text : List ℕ) (fault : Rule) → Grows (F.told files.old).contents (F.told files.new).contents (text ∷ []) → ¬ HasFault text fault)
-        → IsFaultless
-        (record { files = F.told files.old; plant = P.told plant.old; clock = C.told clock.old; entropy = E.told entropy.old; trace = T.told trace.old; out = O.told out.old; err = X.told err.old })
-        (record { files = F.told files.new; plant = P.told plant.new; clock = C.told clock.new; entropy = E.told entropy.new; trace = T.told trace.new; out = O.told out.new; err = X.told err.new })
-        → (result ≡ 0) ⊎ (result ≡ 4) ⊎ (result ≡ 6) }
 {
-    let ready = match make_ready(alloc, words, files, entropy) {
+    let ready = match make_ready(alloc, name, rounds, files, entropy) {
         Ok(ready) => ready,
         Err(refusal) => return refuse(err, refusal),
     };

@@ -34,7 +34,7 @@ fn sums_count_octets_packets_terms_stops_and_drops(rt: HostRuntime) -> Result<()
     let mut plant = MemoryPlant::new(alloc, packets(alloc)?, Vec::new(alloc), 64)?;
     let mut clock = MemoryClock::new(alloc, 10, 1_700_000_000, 64)?;
     let mut trace = NoTrace;
-    let Ok(mut desk) = open_desk(alloc, config, SEED, &mut plant, &mut clock) else {
+    let Ok(mut desk) = open_desk(alloc, config, 1 << 40, SEED, &mut plant, &mut clock) else {
         panic!(rt; "no desk")
     };
     serve(
