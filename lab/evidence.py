@@ -31,6 +31,11 @@ class Checks:
     def all_right(self):
         return all(self.results)
 
+    def conclude(self):
+        """Says how many there were. The status."""
+        print(f"\n{self.results.count(True)} right, {self.results.count(False)} wrong")
+        return 0 if self.all_right() else 1
+
 
 class Sums:
     """What goes one way through Linux's PPP interface, in packets and in octets after the PPP protocol: `octets` are those of
@@ -59,11 +64,12 @@ def compare_session(checks, cable, start, stop, user, group):
         checks.same(f"{name} of the Start and of the Stop", (start.says(name), stop.says(name)), (value, value))
     checks.same("Acct-Session-Id of the Stop is that of the Start", stop.says("Acct-Session-Id"), start.says("Acct-Session-Id"))
     checks.same("Acct-Terminate-Cause of the Stop", stop.says("Acct-Terminate-Cause"), cable.cause)
-    ends = [(False, pppoe.CHAP, pppoe.SUCCESS), (cable.hangs_up, pppoe.LCP, pppoe.TERMINATE_REQUEST)]
+    name, end = cable.end_of_time()
+    ends = [(False, pppoe.CHAP, pppoe.SUCCESS), end]
     if all(end in cable.moments for end in ends):
         since, until = (cable.moments[end] for end in ends)
         said = stop.number("Acct-Session-Time")
-        what = f"Acct-Session-Time {said} is within 1 s of the {until - since:.1f} s from the Success to the Terminate-Request"
+        what = f"Acct-Session-Time {said} is within 1 s of the {until - since:.1f} s from the Success to the {name}"
         checks.same(what, said is not None and abs(said - (until - since)) <= 1, True)
 
 

@@ -69,7 +69,7 @@ class Desk(Office):
 
     def start(self):
         """The record of the machine's Start, or None."""
-        return next(iter(provider.records_of(self.read(), qemu_subscriber.MAC, "Start")), None)
+        return next(iter(self.records(self.read(), "Start")), None)
 
     def ask(self, kind, request):
         """Has radclient ask for a change, while frames are carried on, and shows what it says."""
@@ -101,7 +101,7 @@ class Desk(Office):
         if "disconnect" not in self.asked and evidence.found(self.console, evidence.COUNTED):
             self.ask("disconnect", f"Framed-IP-Address = {self.start().says('Framed-IP-Address')}")
 
-    def compare(self, checks, report):
+    def compare(self, checks, report, records):
         for client in self.clients:
             client.join()
         checks.same("answers to radclient", self.answers, ["CoA-ACK", "Disconnect-ACK"])

@@ -96,12 +96,12 @@ def write_record(request):
     return read_record("\n\t".join(["A record", *(attribute_line(*attribute) for attribute in request.attributes)]))
 
 
-def records_of(records, mac, status):
-    """Those of a MAC with this Acct-Status-Type; one that was sent again, and so was written twice, counts once."""
+def records_of(records, name, value, status):
+    """Those that have this value of an attribute, with this Acct-Status-Type; one that was sent again, and so was written twice, counts once."""
     found = {
         record.says("Acct-Session-Id"): record
         for record in records
-        if (record.says("Calling-Station-Id"), record.says("Acct-Status-Type")) == (mac, status)
+        if (record.says(name), record.says("Acct-Status-Type")) == (value, status)
     }
     return list(found.values())
 

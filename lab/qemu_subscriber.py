@@ -51,8 +51,10 @@ class Cable:
     behind the core and, where `lab` asks us, the RADIUS server. Of the IPv4 packets the first of each direction is printed.
     `read` reads the records of accounting that there are."""
 
-    # What the lab has beside what all have; whether the subscriber hangs up by itself, and the cause that its Stop has then.
-    options = {}
+    # How the machine dials, and where; what the lab has beside what all have; whether the subscriber hangs up by itself, and the
+    # cause that its Stop has then.
+    dialer = machine.PPPOE
+    place, options = "on the access port", {}
     hangs_up, cause = True, "User-Request"
 
     def __init__(self, lab, far, read):
@@ -64,6 +66,18 @@ class Cable:
         self.sums = {True: evidence.Sums(), False: evidence.Sums()}
         self.hosts = core.Hosts(GOODS)
         self.console = []
+
+    def close(self):
+        """Closes the sockets that this kind of cable has for itself."""
+
+    def ends(self):
+        """Our sockets, and what is done where something comes to one."""
+        return {
+            self.far: lambda: self.carry(self.far.recv(65535), True),
+            self.lab.access: lambda: self.carry(self.lab.access.recv(65535), False),
+            self.lab.radius: self.let_in,
+            self.lab.core: self.reply,
+        }
 
     def show(self, who, text):
         print(f"{time.monotonic() - self.began:6.1f} s  {who:10}  {text}", flush=True)
@@ -86,8 +100,12 @@ class Cable:
         if frame.ethertype == pppoe.DISCOVERY:
             self.moments.setdefault((is_up, pppoe.DISCOVERY, frame.code), time.monotonic())
             return True
-        is_first = self.sums[is_up].add(frame.payload)
-        packet = pppoe.read_packet(frame.payload)
+        return self.keep_payload(frame.payload, is_up)
+
+    def keep_payload(self, payload, is_up):
+        """The same of what a session carries."""
+        is_first = self.sums[is_up].add(payload)
+        packet = pppoe.read_packet(payload)
         if packet is not None and packet.protocol != pppoe.IPV4:
             self.moments.setdefault((is_up, packet.protocol, packet.code), time.monotonic())
         return is_first
@@ -122,8 +140,16 @@ class Cable:
         """What the gateway has to say."""
         return {**STEPS, **(HUNG_UP if self.hangs_up else DISCONNECTED), **OVER}
 
-    def compare(self, checks, report):
-        """Compares what is known of nothing but this kind of session."""
+    def end_of_time(self):
+        """What ends the Acct-Session-Time, and whether the subscriber sends it, of which kind it is, and its code."""
+        return "Terminate-Request", (self.hangs_up, pppoe.LCP, pppoe.TERMINATE_REQUEST)
+
+    def records(self, records, status):
+        """Those of the machine with this Acct-Status-Type."""
+        return provider.records_of(records, "Calling-Station-Id", MAC, status)
+
+    def compare(self, checks, report, records):
+        """Compares what is known of nothing but this kind of session, with its Start and its Stop."""
 
     def came(self, is_up, kind, code):
         """Whether the subscriber (`is_up`) or the gateway sent this."""
@@ -148,12 +174,7 @@ def converse(cable, computer):
     """Carries frames until the machine ends. Once it has had all that it wanted, its session is ended."""
     end = cable.began + PATIENCE
     console, told = b"", False
-    ends = {
-        cable.far: lambda: cable.carry(cable.far.recv(65535), True),
-        cable.lab.access: lambda: cable.carry(cable.lab.access.recv(65535), False),
-        cable.lab.radius: cable.let_in,
-        cable.lab.core: cable.reply,
-    }
+    ends = cable.ends()
     while (left := end - time.monotonic()) > 0:
         ready, _, _ = select.select([*ends, computer.stdout], [], [], left)
         for socket in filter(ends.get, ready):
@@ -170,8 +191,8 @@ def converse(cable, computer):
     cable.show("lab", f"{PATIENCE} seconds are over")
 
 
-def conclude(cable, records, report):
-    """Says how far it came, and compares what is known of the session. Whether all of it is right."""
+def conclude(cable, records, report, checks):
+    """Says how far it came, and compares what is known of the session."""
     steps = cable.steps()
     for name, step in steps.items():
         print(f"{name + ' of the gateway:':38}{'came' if cable.came(False, *step) else 'did not come'}")
@@ -179,20 +200,18 @@ def conclude(cable, records, report):
         print(f"{name + ':':38}{'Opened on both sides' if cable.is_opened(protocol) else 'not Opened'}")
     came = all(cable.came(False, *step) for step in steps.values()) and cable.is_opened(pppoe.LCP) and cable.is_opened(pppoe.IPCP)
     print("\nThe session, as the provider's server of accounting has it:")
-    starts, stops = (provider.records_of(records, MAC, status) for status in ("Start", "Stop"))
+    starts, stops = (cable.records(records, status) for status in ("Start", "Stop"))
     for record in starts + stops:
         provider.show(record)
     print("\nWhat was compared:")
-    checks = evidence.Checks()
-    checks.same("Starts and Stops of the machine's MAC", (len(starts), len(stops)), (1, 1))
-    if not checks.all_right():
-        return False
+    checks.same("what had to come came", came, True)
+    checks.same("Starts and Stops of the machine", (len(starts), len(stops)), (1, 1))
+    if (len(starts), len(stops)) != (1, 1):
+        return
     evidence.compare_session(checks, cable, starts[0], stops[0], USER.decode(), GROUP)
     evidence.compare_traffic(checks, cable, stops[0], report)
     evidence.compare_uses(checks, cable, machine.PINGS, hashlib.md5(GOODS).hexdigest(), NAMES)
-    cable.compare(checks, report)
-    print(f"\n{checks.results.count(True)} right, {checks.results.count(False)} wrong")
-    return came and checks.all_right()
+    cable.compare(checks, report, (starts[0], stops[0]))
 
 
 def serve_radius(parties):
@@ -202,9 +221,9 @@ def serve_radius(parties):
     return parties.enter_context(freeradius.Server(parties.enter_context(Lab()).folder))
 
 
-def attempt(command, kind=Cable):
-    """Whether a subscriber at the gateway that this starts has all that it is to have, and all is counted right, over a cable of
-    this kind."""
+def attempt(command, checks, kind=Cable):
+    """Compares whether a subscriber at the gateway that this starts has all that it is to have, and all is counted right, over a
+    cable of this kind."""
     with contextlib.ExitStack() as parties:
         server = serve_radius(parties)
         ours = Lab(keys=f'dns = ["{NAMES}"]\n', server=server and server.port, keeper=server and server.keeper, **kind.options)
@@ -215,8 +234,9 @@ def attempt(command, kind=Cable):
         lab.start(command(lab.configuration), STARTING)
         read = lambda: provider.read_file(server.records()) if server else [provider.write_record(one) for one in lab.records]
         cable = kind(lab, far, read)
-        print(f"Boots a Linux with pppd on the access port, for {PATIENCE} seconds at most", flush=True)
-        computer = machine.boot(lab.folder, MAC, cable.near, far.getsockname()[1])
+        parties.callback(cable.close)
+        print(f"Boots a Linux with pppd {cable.place}, for {PATIENCE} seconds at most", flush=True)
+        computer = machine.boot(lab.folder, cable.dialer, MAC, cable.near, far.getsockname()[1])
         try:
             converse(cable, computer)
         finally:
@@ -228,24 +248,32 @@ def attempt(command, kind=Cable):
         records = read()
     if server:
         server.show()
-    return conclude(cable, records, out) and status == 0
+    conclude(cable, records, out, checks)
+    checks.same("status of the gateway", status, 0)
 
 
-def run(name, *kind):
+def judge(command, kind):
+    """The status of one attempt, with what was compared in numbers."""
+    checks = evidence.Checks()
+    attempt(command, checks, kind)
+    return checks.conclude()
+
+
+def run(name, kind=Cable):
     """Tries it under this name, where there is all that it needs. The status."""
-    lacking = machine.lacking()
+    lacking = machine.lacking(kind.dialer)
     if lacking:
         print(f"{name}: skipped, since there is no {', no '.join(lacking)}")
         print(f"To install: apt-get install --no-install-recommends {' '.join(lacking)}")
         return 0
     if is_built():
-        return 0 if attempt(lambda configuration: [PROGRAM, "serve", configuration], *kind) else 1
+        return judge(lambda configuration: [PROGRAM, "serve", configuration], kind)
     if shutil.which("rt") is None:
         print(f"{name}: skipped, since the program is not built and there is no rt")
         return 0
     print(f"{name}: the built program is missing or older than its sources: runs under rt try")
     os.chdir(CRATE)
-    return 0 if attempt(lambda configuration: tried(configuration, STARTING), *kind) else 1
+    return judge(lambda configuration: tried(configuration, STARTING), kind)
 
 
 def main(name, *kind):

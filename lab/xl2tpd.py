@@ -1,5 +1,6 @@
 """Lets a real xl2tpd, as an access concentrator, bring a tunnel and a call up at the real program, once without a secret and once with
-one, and hang up. Where there is a pppd that may open /dev/ppp, it logs in over the call, and packets go both ways."""
+one, and hang up. Where there is a pppd that may open /dev/ppp, it logs in over the call, and packets go both ways. Then the same
+in an emulated machine, where a pppd has whole sessions."""
 
 import os
 import select
@@ -10,6 +11,8 @@ import subprocess
 import sys
 import time
 
+import machine
+import qemu_call
 import radius
 from evidence import Checks
 from gateway import CRATE, LOOPBACK, PROGRAM, Lab, is_built, tried, udp
@@ -20,20 +23,6 @@ from radius import ACCESS_ACCEPT, FRAMED
 PATIENCE = 30
 STARTING = 300
 ADDRESS, FAR = "10.0.0.50", "192.0.2.1"
-
-GLOBAL = """\
-[global]
-listen-addr = {address}
-port = {port}
-auth file = {folder}/secrets
-[lac gateway]
-lns = 127.0.0.1:{tunnel}
-challenge = {challenge}
-autodial = yes
-redial = no
-length bit = yes
-pppoptfile = {folder}/options
-"""
 
 OPTIONS = """\
 user {user}
@@ -59,8 +48,9 @@ class Concentrator:
     def __init__(self, lab, address, challenge):
         with udp(address) as end:
             port = end.getsockname()[1]
-        words = {"address": address, "port": port, "folder": lab.folder, "tunnel": lab.ports["tunnel"], "challenge": challenge}
-        configuration = lab.write("xl2tpd.conf", GLOBAL.format(**words))
+        gateway = f"{LOOPBACK}:{lab.ports['tunnel']}"
+        words = {"address": address, "port": port, "folder": lab.folder, "gateway": gateway, "challenge": challenge}
+        configuration = lab.write("xl2tpd.conf", qemu_call.CONFIGURATION.format(**words))
         lab.write("secrets", f"* * {SECRET.decode()}\n")
         lab.write("options", OPTIONS.format(user=USER.decode(), password=PASSWORD.decode()))
         control, pid = (os.path.join(lab.folder, name) for name in ("xl2tpd.control", "xl2tpd.pid"))
@@ -142,9 +132,15 @@ def brings_up(checks, command, address, challenge, what):
 
 
 def attempt(checks, command):
-    """Both of them. What the gateway said on standard error."""
+    """Both of them, here and in the machine. What the gateway said on standard error here."""
     said = brings_up(checks, command, LOOPBACK, "no", "an xl2tpd without a secret")
-    return said + brings_up(checks, command, SHARING, "yes", "an xl2tpd with a secret")
+    said += brings_up(checks, command, SHARING, "yes", "an xl2tpd with a secret")
+    if not (lacking := machine.lacking(qemu_call.Call.dialer)):
+        qemu_call.attempt(command, checks)
+    else:
+        print(f"xl2tpd: no session in an emulated machine, since there is no {', no '.join(lacking)}")
+        print(f"To install: apt-get install --no-install-recommends {' '.join(lacking)}")
+    return said
 
 
 def main():
@@ -153,22 +149,23 @@ def main():
         print("To install: apt-get install --no-install-recommends xl2tpd ppp")
         return 0
     if not may_open_ppp():
-        print("xl2tpd: no pppd may open /dev/ppp here, so tunnels and calls are tried alone")
+        print("xl2tpd: no pppd may open /dev/ppp here, so tunnels and calls are tried alone on this machine")
     checks = Checks()
     if is_built():
         said = attempt(checks, lambda configuration: [PROGRAM, "serve", configuration])
         checks.same("nothing is said on standard error", said, "")
-        return 0 if checks.all_right() else 1
+        return checks.conclude()
     if shutil.which("rt") is None:
         print("xl2tpd: skipped, since the program is not built and there is no rt")
         return 0
     print("xl2tpd: the built program is missing or older than its sources: runs under rt try")
     os.chdir(CRATE)
     attempt(checks, lambda configuration: tried(configuration, STARTING))
-    return 0 if checks.all_right() else 1
+    return checks.conclude()
 
 
 if __name__ == "__main__":
+    signal.signal(signal.SIGTERM, lambda *_: sys.exit(143))
     try:
         sys.exit(main())
     except (RuntimeError, OSError, subprocess.SubprocessError) as error:

@@ -25,7 +25,7 @@ use Rattle.bng_coa.specs.declared.request.Request.{Request}
 use Rattle.bng_coa.specs.declared.rules.Admitted.{Admitted}
 use Rattle.bng_coa.specs.declared.rules.Admitted.TheVariants.{New, Repeat, InHand, Ignored}
 use Rattle.bng_coa.specs.declared.rules.ChangeVerdict.{ChangeVerdict}
-use Rattle.bng_coa.specs.Admission.{Admits, Keeps}
+use Rattle.bng_coa.specs.Admission.{Admits, Keeps, WhenNew}
 use Rattle.bng_coa.specs.Replies.{IsAnswered}
 use Rattle.bng_coa.specs.Requests.{is_in_hand, is_numbered}
 use Rattle.bng_coa.specs.State.{State as CoaState}
@@ -168,11 +168,12 @@ begun_with all reads now wall p p' c c' d d' i kept i' r none r' quiet reads_are
 -- A datagram of Coa, by what it is -----------------------------------------------------------------------------------------
 
 -- what was read of its octets
-pub admitted_as : (now wall : ℕ) (from : Peer) (cut : Bool) (bytes octets : List ℕ) (admitted : Admitted) (target : ℕ) (c c' : CoaState) → bytes ≡ octets → Admits c from bytes now wall admitted → Keeps c c' from bytes now admitted → TargetOf admitted octets target
+pub admitted_as : (now wall : ℕ) (from : Peer) (cut : Bool) (bytes octets : List ℕ) (admitted : Admitted) (target : ℕ) (c c' : CoaState) → bytes ≡ octets → Admits c from bytes now wall admitted → Keeps c c' from bytes now admitted → WhenNew admitted (λ n. n < 2 ^ 32) → TargetOf admitted octets target
     → AdmitsOne now wall c (record { arrival = record { from = from; cut = cut; octets = octets }; admitted = admitted; target = target }) c'
-admitted_as now wall from cut bytes octets admitted target c c' same answer keeps named = record {
+admitted_as now wall from cut bytes octets admitted target c c' same answer keeps low named = record {
   admits = subst (λ (os : List ℕ). Admits c from os now wall admitted) same answer;
   keeps = subst (λ (os : List ℕ). Keeps c c' from os now admitted) same keeps;
+  number = low;
   target = named;
 }
 

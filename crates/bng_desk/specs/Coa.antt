@@ -1,5 +1,5 @@
 -- What a turn does with requests for changes (RFC 5176 sections 2.1 to 2.3): the datagrams that are taken, and the replies that are sent.
-use Rattle.std.specs.Prelude.{◌≡◌, ◌⊎◌, ℕ, ◌^◌, ◌≤◌, nat_le, Bool, not, List, [], ◌∷◌, ◌++◌, Option, Some, None, find, map, count_by, option_to_list, if◌then◌else◌}
+use Rattle.std.specs.Prelude.{◌≡◌, ◌⊎◌, ℕ, ◌^◌, ◌<◌, ◌≤◌, nat_le, Bool, not, List, [], ◌∷◌, ◌++◌, Option, Some, None, find, map, count_by, option_to_list, if◌then◌else◌}
 use Rattle.std.specs.List.{flat_map}
 use Rattle.bng_base.specs.declared.address.Peer.{Peer}
 use Rattle.bng_base.specs.declared.item.Item.{Item}
@@ -15,7 +15,7 @@ use Rattle.bng_base.specs.Stretch.{PlantStretch}
 use Rattle.bng_coa.specs.declared.request.Request.{Request}
 use Rattle.bng_coa.specs.declared.rules.Admitted.{Admitted}
 use Rattle.bng_coa.specs.declared.rules.Admitted.TheVariants.{New, Repeat, InHand, Ignored}
-use Rattle.bng_coa.specs.Admission.{Admits, IsRequestIn, Keeps}
+use Rattle.bng_coa.specs.Admission.{Admits, IsRequestIn, Keeps, WhenNew}
 use Rattle.bng_coa.specs.Leads.{lead_of, target_of}
 use Rattle.bng_coa.specs.Replies.{IsAnswered}
 use Rattle.bng_coa.specs.Requests.{is_in_hand, is_numbered}
@@ -54,10 +54,11 @@ TargetOf InHand octets target = target ≡ 0
 TargetOf (Ignored cause) octets target = target ≡ 0
 
 -- A datagram was taken at this moment and this second on the wall: a request is new, repeated or in hand, or the datagram is passed over
--- for the first cause that holds.
+-- for the first cause that holds. The number of a new one has 32 bits, as those of answers have.
 pub record AdmitsOne (now wall : ℕ) (c : State) (q : Requested) (c' : State) : Type 0 where
   pub admits : Admits c q.arrival.from q.arrival.octets now wall q.admitted
   pub keeps : Keeps c c' q.arrival.from q.arrival.octets now q.admitted
+  pub number : WhenNew q.admitted (λ n. n < 2 ^ 32)
   pub target : TargetOf q.admitted q.arrival.octets q.target
 
 -- so these datagrams, one after the other

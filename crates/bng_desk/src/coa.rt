@@ -50,7 +50,8 @@ fn target_of(bytes: &[u8]) -> u16
 // A new request as an item.
 fn change(number: u32, target: u16, from: Peer, cut: bool, frame: Frame, random: [u8; 16]) -> Item
     requires { frame.headroom ≡ 64 }
-    ensures { result ≡ record (change_item (record { from = from; cut = cut; octets = frame.payload }) number target) { random = random } }
+    ensures low { number < 2 ^ 32 }
+    ensures item { result ≡ record (change_item (record { from = from; cut = cut; octets = frame.payload }) number target) { random = random } }
 {
     Item {
         kind: ItemKind::Change,

@@ -73,7 +73,7 @@ step_closed : (d d' : Desk) (t : Option Turn) → Step d t d' → d'.closed ≡ 
 step_closed d d' None step = ap (λ (u : Desk). u.closed) step
 step_closed d d' (Some t) step = ap (λ (u : Desk). u.closed) step.5 ∙ kept_closed d (items_of d t) t.round
 
-run_closed : (d d' : Desk) (turns : List Made) → Run d turns d' → d'.closed ≡ d.closed
+pub run_closed : (d d' : Desk) (turns : List Made) → Run d turns d' → d'.closed ≡ d.closed
 run_closed d d' [] run = ap (λ (u : Desk). u.closed) run
 run_closed d d' (m ∷ turns) run = run_closed run.0 d' turns run.2 ∙ step_closed d run.0 m.turn run.1.1
 

@@ -48,7 +48,7 @@ one_first n x rs q r is apart rest false zero e found there = absurd (clash (is_
 one_first n x rs q r is apart rest false (suc j) e found there = rest j found there
 
 -- of requests that are apart one alone is in hand under a number
-one_found : (n : ℕ) (rs : List Request) (i : ℕ) (q r : Request) → IsDistinct share_number rs → find (is_numbered n) rs ≡ Some q → slice_get rs i ≡ Some r → is_numbered n r ≡ true → q ≡ r
+pub one_found : (n : ℕ) (rs : List Request) (i : ℕ) (q r : Request) → IsDistinct share_number rs → find (is_numbered n) rs ≡ Some q → slice_get rs i ≡ Some r → is_numbered n r ≡ true → q ≡ r
 unfolding IsDistinct
 one_found n [] i q r d found there is = absurd (none-some r there)
 one_found n (x ∷ rs) i q r d found there is = one_first n x rs q r is d.0 (λ j f t. one_found n rs j q r d.1 f t is) (is_numbered n x) i refl found there
@@ -60,7 +60,7 @@ module _ (P Q : Request → Type 0) (n : ℕ) (weaker : (r : Request) → is_num
       (weaker r (not_true (is_numbered n r) (λ there. clash (share_number x r) (shares_both n x.stage r.stage is there) apart.0)) all.0, rest_weaker x rs is apart.1 all.1)
 
   -- all others are in hand under other numbers
-  settled_all : (rs : List Request) (i : ℕ) (x y : Request) → slice_get rs i ≡ Some x → is_numbered n x ≡ true → IsDistinct share_number rs → AllByRecursion P rs → Q y → AllByRecursion Q (slice_set rs i y)
+  pub settled_all : (rs : List Request) (i : ℕ) (x y : Request) → slice_get rs i ≡ Some x → is_numbered n x ≡ true → IsDistinct share_number rs → AllByRecursion P rs → Q y → AllByRecursion Q (slice_set rs i y)
   unfolding IsDistinct
   settled_all [] i x y there is d all here = absurd (none-some x there)
   settled_all (z ∷ rs) zero x y there is d all here =
@@ -74,11 +74,11 @@ all_without : (P : Request → Type 0) (o : Option ℕ) (rs : List Request) → 
 all_without P None rs all = all
 all_without P (Some i) rs all = removed P rs i all
 
-all_room : (P : Request → Type 0) (b : Bool) (rs : List Request) → AllByRecursion P rs → AllByRecursion P (cond b rs (without (position is_answered rs) rs))
+pub all_room : (P : Request → Type 0) (b : Bool) (rs : List Request) → AllByRecursion P rs → AllByRecursion P (cond b rs (without (position is_answered rs) rs))
 all_room P true rs all = all
 all_room P false rs all = all_without P (position is_answered rs) rs all
 
-all_weaker : (P Q : Request → Type 0) → ((r : Request) → P r → Q r) → (rs : List Request) → AllByRecursion P rs → AllByRecursion Q rs
+pub all_weaker : (P Q : Request → Type 0) → ((r : Request) → P r → Q r) → (rs : List Request) → AllByRecursion P rs → AllByRecursion Q rs
 all_weaker P Q weaker [] all = tt
 all_weaker P Q weaker (r ∷ rs) all = (weaker r all.0, all_weaker P Q weaker rs all.1)
 
@@ -87,19 +87,19 @@ all_weaker P Q weaker (r ∷ rs) all = (weaker r all.0, all_weaker P Q weaker rs
 module _ (secret : List ℕ) (calls : List CoaCall) where
   -- Before the call of this place a datagram of this sender, with these octets in front, was taken as a new request under this number, and
   -- since then no reply was given under it.
-  record Source (k n : ℕ) (from : Peer) (packet : List ℕ) : Type 0 where
-    place : ℕ
-    earlier : place < k
-    moment : ℕ
-    wall : ℕ
-    asked : Requested
-    taken : slice_get calls place ≡ Some (Taken moment wall asked)
-    new : asked.admitted ≡ New n
-    sender : from ≡ asked.arrival.from
-    octets : packet ≡ take (length_in asked.arrival.octets) asked.arrival.octets
-    first : (j : ℕ) (g : Given) (s : CoaSend) → place < j → j < k → slice_get calls j ≡ Some (Replied g) → g.send ≡ Some s → g.answer.ask ≡ n → ⊥
+  pub record Source (k n : ℕ) (from : Peer) (packet : List ℕ) : Type 0 where
+    pub place : ℕ
+    pub earlier : place < k
+    pub moment : ℕ
+    pub wall : ℕ
+    pub asked : Requested
+    pub taken : slice_get calls place ≡ Some (Taken moment wall asked)
+    pub new : asked.admitted ≡ New n
+    pub sender : from ≡ asked.arrival.from
+    pub octets : packet ≡ take (length_in asked.arrival.octets) asked.arrival.octets
+    pub first : (j : ℕ) (g : Given) (s : CoaSend) → place < j → j < k → slice_get calls j ≡ Some (Replied g) → g.send ≡ Some s → g.answer.ask ≡ n → ⊥
 
-  abbrev SourceAt : ℕ → Peer → Stage → Type 0
+  abbrev pub SourceAt : ℕ → Peer → Stage → Type 0
   SourceAt k from (InHand n packet) = Source k n from packet
   SourceAt k from (Answered reply) = Unit {0}
 
@@ -107,13 +107,13 @@ module _ (secret : List ℕ) (calls : List CoaCall) where
   HasSource k r = SourceAt k r.key.from r.stage
 
   -- how the requests stand before the call of a place
-  record Stands (k : ℕ) (c : CoaState) : Type 0 where
-    by : c.secret ≡ secret
-    apart : IsApart c.requests
-    sources : AllByRecursion (HasSource k) c.requests
+  pub record Stands (k : ℕ) (c : CoaState) : Type 0 where
+    pub by : c.secret ≡ secret
+    pub apart : IsApart c.requests
+    pub sources : AllByRecursion (HasSource k) c.requests
 
   -- the call of a place gives no reply under this number
-  abbrev IsNone : (k n : ℕ) → Type 0
+  abbrev pub IsNone : (k n : ℕ) → Type 0
   IsNone k n = (g : Given) (s : CoaSend) → slice_get calls k ≡ Some (Replied g) → g.send ≡ Some s → g.answer.ask ≡ n → ⊥
 
   before_or : (k n x : ℕ) → IsNone k n → ((j : ℕ) (g : Given) (s : CoaSend) → x < j → j < k → slice_get calls j ≡ Some (Replied g) → g.send ≡ Some s → g.answer.ask ≡ n → ⊥)
@@ -123,7 +123,7 @@ module _ (secret : List ℕ) (calls : List CoaCall) where
       let here : j ≡ k = omega (arith, before, ltb-false j k e) in
       none g s (subst (λ (i : ℕ). slice_get calls i ≡ Some (Replied g)) here there) sends is
 
-  later : (k n : ℕ) (from : Peer) (packet : List ℕ) → IsNone k n → Source k n from packet → Source (k + 1) n from packet
+  pub later : (k n : ℕ) (from : Peer) (packet : List ℕ) → IsNone k n → Source k n from packet → Source (k + 1) n from packet
   later k n from packet none h = record {
     place = h.place;
     earlier = omega (arith, h.earlier);
@@ -137,6 +137,10 @@ module _ (secret : List ℕ) (calls : List CoaCall) where
     first = λ j g s after before there sends is. before_or k n h.place none h.first j g s (ltb j k) refl after before there sends is;
   }
 
+  pub later_place : (k n : ℕ) (from : Peer) (packet : List ℕ) (none : IsNone k n) (h : Source k n from packet) → (later k n from packet none h).place ≡ h.place
+  unfolding later
+  later_place k n from packet none h = refl
+
   later_at : (k : ℕ) (from : Peer) (s : Stage) → ((n : ℕ) → is_numbered_at n s ≡ true → IsNone k n) → SourceAt k from s → SourceAt (k + 1) from s
   later_at k from (InHand n packet) none h = later k n from packet (none n ((Decides-eqb n n).1 refl)) h
   later_at k from (Answered reply) none h = tt
@@ -149,11 +153,30 @@ module _ (secret : List ℕ) (calls : List CoaCall) where
   as_before k c c' none same stands =
       subst (Stands (k + 1)) (sym same) (record { by = stands.by; apart = stands.apart; sources = all_later k none c.requests stands.sources })
 
-  none_taken : (k moment wall : ℕ) (q : Requested) → slice_get calls k ≡ Some (Taken moment wall q) → (n : ℕ) → IsNone k n
+  pub none_taken : (k moment wall : ℕ) (q : Requested) → slice_get calls k ≡ Some (Taken moment wall q) → (n : ℕ) → IsNone k n
   none_taken k moment wall q there n g s other sends is = let e : Taken moment wall q ≡ Replied g = same_Some (Taken moment wall q) (Replied g) (sym there ∙ other) in cc
 
-  same_given : (k : ℕ) (g h : Given) → slice_get calls k ≡ Some (Replied g) → slice_get calls k ≡ Some (Replied h) → g ≡ h
+  pub same_given : (k : ℕ) (g h : Given) → slice_get calls k ≡ Some (Replied g) → slice_get calls k ≡ Some (Replied h) → g ≡ h
   same_given k g h there other = let e : Replied g ≡ Replied h = same_Some (Replied g) (Replied h) (sym there ∙ other) in cc
+
+  -- a request that is taken as new comes from this very call
+  pub source_new : (k moment wall n : ℕ) (q : Requested) → slice_get calls k ≡ Some (Taken moment wall q) → q.admitted ≡ New n → Source (k + 1) n q.arrival.from (take (length_in q.arrival.octets) q.arrival.octets)
+  source_new k moment wall n q there is = record {
+    place = k;
+    earlier = omega arith;
+    moment = moment;
+    wall = wall;
+    asked = q;
+    taken = there;
+    new = is;
+    sender = refl;
+    octets = refl;
+    first = λ j g s after before at sends same. omega (arith, after, before);
+  }
+
+  pub new_place : (k moment wall n : ℕ) (q : Requested) (there : slice_get calls k ≡ Some (Taken moment wall q)) (is : q.admitted ≡ New n) → (source_new k moment wall n q there is).place ≡ k
+  unfolding source_new
+  new_place k moment wall n q there is = refl
 
   takes : (k moment wall : ℕ) (q : Requested) (a : Admitted) (c c' : CoaState) → slice_get calls k ≡ Some (Taken moment wall q) → q.admitted ≡ a → Keeps c c' q.arrival.from q.arrival.octets moment a → Stands k c → Stands (k + 1) c'
   takes k moment wall q (New number) c c' there is h stands =
@@ -162,18 +185,7 @@ module _ (secret : List ℕ) (calls : List CoaCall) where
       let packet = take (length_in q.arrival.octets) q.arrival.octets in
       let r : Request = record { key = key; admitted_at = moment; stage = InHand number packet } in
       let held = filter (is_held moment) c.requests in
-      let new : Source (k + 1) number q.arrival.from packet = record {
-        place = k;
-        earlier = omega arith;
-        moment = moment;
-        wall = wall;
-        asked = q;
-        taken = there;
-        new = is;
-        sender = refl;
-        octets = refl;
-        first = λ j g s after before at sends is. omega (arith, after, before);
-      } in
+      let new = source_new k moment wall number q there is in
       let old : AllByRecursion (HasSource (k + 1)) (with_room held) =
       all_room (HasSource (k + 1)) (ltb (length held) 256) held (filtered (HasSource (k + 1)) (is_held moment) c.requests (all_later k none c.requests stands.sources)) in
       record {
@@ -207,21 +219,21 @@ module _ (secret : List ℕ) (calls : List CoaCall) where
             c.requests settled.place x y settled.stands settled.numbered stands.apart.numbers stands.sources tt);
       }
 
-  call_stands : (k : ℕ) (c c' : CoaState) (call : CoaCall) → slice_get calls k ≡ Some call → DoesCoa c call c' → Stands k c → Stands (k + 1) c'
+  pub call_stands : (k : ℕ) (c c' : CoaState) (call : CoaCall) → slice_get calls k ≡ Some call → DoesCoa c call c' → Stands k c → Stands (k + 1) c'
   call_stands k c c' (Taken moment wall q) there does stands = takes k moment wall q q.admitted c c' there refl does.keeps stands
   call_stands k c c' (Replied g) there does stands = gives k g g.send c c' there refl does stands
 
   -- the reply to a request in hand is that to the datagram that brought it
-  reply_at : (k : ℕ) (g : Given) (s : CoaSend) (c c' : CoaState) → GivesTo c g.answer (Some s) c' → Stands k c → IsReplyTo secret calls k g.answer s.reply
-  reply_at k g s c c' (q, found, to, frame, answered, octets) stands =
-      let settled = answered.settled in
+  pub reply_from : (k : ℕ) (g : Given) (s : CoaSend) (c c' : CoaState) (h : GivesTo c g.answer (Some s) c') → Stands k c → (n : ℕ) (packet : List ℕ) → h.4.settled.request.stage ≡ InHand n packet
+      → Source k n h.4.settled.request.key.from packet → IsReplyTo secret calls k g.answer s.reply
+  reply_from k g s c c' h stands n packet e source =
+      let settled = h.4.settled in
       let x = settled.request in
-      let replied = answered.replied in
-      let one : q ≡ x = one_found g.answer.ask c.requests settled.place q x stands.apart.numbers found settled.stands settled.numbered in
-      let number : replied.number ≡ g.answer.ask =
-      (Decides-eqb replied.number g.answer.ask).0 (ap (is_numbered_at g.answer.ask) (sym replied.in_hand) ∙ settled.numbered) in
-      let source : Source k replied.number x.key.from replied.octets =
-      subst (SourceAt k x.key.from) replied.in_hand (at (HasSource k) c.requests settled.place x settled.stands stands.sources) in
+      let replied = h.4.replied in
+      let one : h.0 ≡ x = one_found g.answer.ask c.requests settled.place h.0 x stands.apart.numbers h.1 settled.stands settled.numbered in
+      let number : n ≡ g.answer.ask = (Decides-eqb n g.answer.ask).0 (ap (is_numbered_at g.answer.ask) (sym e) ∙ settled.numbered) in
+      let both : InHand n packet ≡ InHand replied.number replied.octets = sym e ∙ replied.in_hand in
+      let same : packet ≡ replied.octets = cc in
       record {
         place = source.place;
         earlier = source.earlier;
@@ -229,13 +241,25 @@ module _ (secret : List ℕ) (calls : List CoaCall) where
         wall = source.wall;
         asked = source.asked;
         taken = source.taken;
-        new = source.new ∙ ap (λ (n : ℕ). New n) number;
+        new = source.new ∙ ap (λ (m : ℕ). New m) number;
         packet = replied.packet;
-        reads = subst (IsRadius replied.packet) source.octets replied.reads;
-        octets = octets ∙ replied.payload ∙ ap (reply_octets replied.packet g.answer.verdict) stands.by;
-        to = to ∙ ap (λ (r : Request). r.key.from) one ∙ source.sender;
-        first = λ j h t after before there sends is. source.first j h t after before there sends (is ∙ sym number);
+        reads = subst (IsRadius replied.packet) (sym same ∙ source.octets) replied.reads;
+        octets = h.5 ∙ replied.payload ∙ ap (reply_octets replied.packet g.answer.verdict) stands.by;
+        to = h.2 ∙ ap (λ (r : Request). r.key.from) one ∙ source.sender;
+        first = λ j x t after before there sends is. source.first j x t after before there sends (is ∙ sym number);
       }
+
+  pub reply_place : (k : ℕ) (g : Given) (s : CoaSend) (c c' : CoaState) (h : GivesTo c g.answer (Some s) c') (stands : Stands k c) (n : ℕ) (packet : List ℕ) (e : h.4.settled.request.stage ≡ InHand n packet)
+      (source : Source k n h.4.settled.request.key.from packet) → (reply_from k g s c c' h stands n packet e source).place ≡ source.place
+  unfolding reply_from
+  reply_place k g s c c' h stands n packet e source = refl
+
+  reply_at : (k : ℕ) (g : Given) (s : CoaSend) (c c' : CoaState) → GivesTo c g.answer (Some s) c' → Stands k c → IsReplyTo secret calls k g.answer s.reply
+  reply_at k g s c c' h stands =
+      let settled = h.4.settled in
+      let replied = h.4.replied in
+      reply_from k g s c c' h stands replied.number replied.octets replied.in_hand
+      (subst (SourceAt k settled.request.key.from) replied.in_hand (at (HasSource k) c.requests settled.place settled.request settled.stands stands.sources))
 
   pub replies_answer : (c c' : CoaState) → c.secret ≡ secret → c.requests ≡ [] → Chain DoesCoa c calls c' → (k : ℕ) (g : Given) (s : CoaSend) → slice_get calls k ≡ Some (Replied g) → g.send ≡ Some s → IsReplyTo secret calls k g.answer s.reply
   replies_answer c c' by none run k g s there sends =

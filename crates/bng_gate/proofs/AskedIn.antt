@@ -66,7 +66,7 @@ module _ (P : Request → Type 0) where
   any_kept false x xs kept passes rest (inl here) = absurd (let no : false ≡ true = passes here in cc)
   any_kept false x xs kept passes rest (inr there) = rest there
 
-  any_filter : (p : Request → Bool) → ((x : Request) → P x → p x ≡ true) → (xs : List Request) → AnyOf P xs → AnyOf P (filter p xs)
+  pub any_filter : (p : Request → Bool) → ((x : Request) → P x → p x ≡ true) → (xs : List Request) → AnyOf P xs → AnyOf P (filter p xs)
   any_filter p passes [] h = h
   any_filter p passes (x ∷ xs) h = any_kept (p x) x xs (filter p xs) (passes x) (any_filter p passes xs) h
 
@@ -83,7 +83,7 @@ module _ (P : Request → Type 0) where
       let first = passes_at is_answered xs i e in
       any_remove xs i first.element first.is (never first.element first.passes) h
 
-  any_room : ((x : Request) → is_answered x ≡ true → P x → ⊥) → (b : Bool) (xs : List Request) → AnyOf P xs → AnyOf P (cond b xs (without (position is_answered xs) xs))
+  pub any_room : ((x : Request) → is_answered x ≡ true → P x → ⊥) → (b : Bool) (xs : List Request) → AnyOf P xs → AnyOf P (cond b xs (without (position is_answered xs) xs))
   any_room never true xs h = h
   any_room never false xs h = any_without never (position is_answered xs) xs refl h
 
@@ -298,7 +298,7 @@ module _ (secret : List ℕ) where
   gives_secret g None c c' h = ap (λ (s : CoaState). s.secret) h.1
   gives_secret g (Some s) c c' (q, found, to, frame, answered, octets) = answered.secret
 
-  gives_apart : (g : Given) (o : Option CoaSend) (c c' : CoaState) → GivesTo c g.answer o c' → IsApart c.requests → IsApart c'.requests
+  pub gives_apart : (g : Given) (o : Option CoaSend) (c c' : CoaState) → GivesTo c g.answer o c' → IsApart c.requests → IsApart c'.requests
   gives_apart g None c c' h apart = subst (λ (s : CoaState). IsApart s.requests) (sym h.1) apart
   gives_apart g (Some s) c c' (q, found, to, frame, answered, octets) apart =
       run_apart (Settles g.answer.ask frame.payload ∷ []) c.requests c'.requests (c'.requests, answered.settled, refl) apart

@@ -13,14 +13,11 @@ use Rattle.bng_base.specs.declared.item.ItemKind.TheVariants as kind
 use Rattle.bng_base.specs.declared.item.Loose.{Loose}
 use Rattle.bng_base.specs.declared.outside.Datagram.{Datagram}
 use Rattle.bng_base.specs.declared.outside.Role.TheVariants.{Coa}
-use Rattle.bng_base.specs.declared.settings.CoaPart.{CoaPart}
 use Rattle.bng_base.specs.Chain.{Chain}
 use Rattle.bng_base.proofs.ChainLaws.{chain_append}
 use Rattle.bng_coa.specs.State.{State as CoaState}
-use Rattle.bng_coa.proofs.Standing.{IsApart, none_apart}
-use Rattle.bng_config.specs.declared.config.Config.{Config}
+use Rattle.bng_coa.proofs.Standing.{IsApart}
 use Rattle.bng_engine.specs.Journals.{after, AreSteps}
-use Rattle.bng_engine.specs.Laws.{sends_of}
 use Rattle.bng_engine.specs.Views.{ShardView}
 use Rattle.bng_shard.specs.declared.changes.Answer.{Answer}
 use Rattle.bng_shard.specs.declared.rules.Rules.{Rules}
@@ -30,22 +27,18 @@ use Rattle.bng_shard.specs.State.{State}
 use Rattle.bng_desk.specs.Coa.{AdmitsAll, AdmitsOne, AnswersLooseKind, AreLooseAnswers, CoaReplies, CoaReply, CoaSend, Given, GivesAnswer, Requested, SettlesCoa, answers_in, repeats_of, shard_answers}
 use Rattle.bng_desk.specs.Items.{DataReading, all_loose, kept_of, stays}
 use Rattle.bng_desk.specs.Model.{Desk}
-use Rattle.bng_desk.specs.Opening.{IsOpened, coa_of}
 use Rattle.bng_desk.specs.Reading.{taken_in}
 use Rattle.bng_desk.specs.Round.{Round}
 use Rattle.bng_desk.specs.Turn.{Turn, Step, RoundOf, CoaTurn, after_round, answers_of, data_roles, ending_items, items_of, loose_of}
-use Rattle.bng_gate.specs.Changed.{Changed, DoesCoa, IsOfNoShard, IsOfShard, IsVerdict, Repeats, RepeatsNone, Replied, Taken, asked_by, coa_calls_in, coa_calls_of, coa_end_calls_in, end_given_in, given_in, given_of}
-use Rattle.bng_gate.specs.Granted.{Held, Stage, end_stage_in, held_of, round_of_end, round_of_turn, stage_in, stages_of}
-use Rattle.bng_gate.specs.Rounds.{plant_of, rounds_of}
+use Rattle.bng_gate.specs.Changed.{DoesCoa, IsOfNoShard, IsOfShard, IsVerdict, Repeats, RepeatsNone, Replied, Taken, asked_by, coa_calls_in, coa_calls_of, coa_end_calls_in, end_given_in, given_in, given_of}
+use Rattle.bng_gate.specs.Granted.{Held, Stage, end_stage_in, held_of, items_of_end, items_of_turn, round_of_end, round_of_turn, stage_in, stages_of}
 use Rattle.bng_gate.specs.Serving.{Made, MadeEnd, Late, Ends, Waits, LateStep, Goes, GoesEnding, Run, EndRun}
-use Rattle.bng_gate.proofs.AskedBy.{replies_answer}
 use Rattle.bng_gate.proofs.AskedIn.{ItemIn, Replies, all_apart, all_hand, all_secret, end_items, given_apart, given_replies, given_secret, items_hand, loose_items, only_hand, turn_items}
+use Rattle.bng_gate.proofs.Awaiting.{Covers, end_covers, kept_covers, none_covers, settled_none, turn_covers}
 use Rattle.bng_gate.proofs.Entries.{entry_holds}
 use Rattle.bng_gate.proofs.Follows.{chain_map}
-use Rattle.bng_gate.proofs.OnCoa.{IsBesideCoa, replies_sent}
 use Rattle.bng_gate.proofs.Places.{chain_end, in_both, link_at, mapped_at, of_first}
 use Rattle.bng_gate.proofs.Reaching.{IsMade, begun}
-use Rattle.bng_gate.proofs.Staging.{stages_requested}
 
 -- The calls -----------------------------------------------------------------------------------------------------------------------
 
@@ -61,22 +54,22 @@ turn_calls d t by =
     (admits_calls t.moment t.wall d.coa by.admitted t.requested by.admits)
     (gives_calls by.admitted t.coa t.replies.given by.settles.gives)
 
-step_calls : (d d' : Desk) (t : Option Turn) → Step d t d' → Chain DoesCoa d.coa (coa_calls_in t) d'.coa
+pub step_calls : (d d' : Desk) (t : Option Turn) → Step d t d' → Chain DoesCoa d.coa (coa_calls_in t) d'.coa
 step_calls d d' None step = ap (λ (x : Desk). x.coa) step
 step_calls d d' (Some t) step = subst (λ (c : CoaState). Chain DoesCoa d.coa (coa_calls_in (Some t)) c) (sym (ap (λ (x : Desk). x.coa) step.5)) (turn_calls d t step.4)
 
-end_step_calls : (d d' : Desk) (t : Late) → LateStep d t d' → Chain DoesCoa d.coa (coa_end_calls_in t) d'.coa
+pub end_step_calls : (d d' : Desk) (t : Late) → LateStep d t d' → Chain DoesCoa d.coa (coa_end_calls_in t) d'.coa
 end_step_calls d d' (Ends None) step = ap (λ (x : Desk). x.coa) step
 end_step_calls d d' (Ends (Some t)) step =
     subst (λ (c : CoaState). Chain DoesCoa d.coa (coa_end_calls_in (Ends (Some t))) c) (sym (ap (λ (x : Desk). x.coa) step.5)) (gives_calls d.coa t.coa t.replies.given step.4.gives)
 end_step_calls d d' (Waits t) step = ap (λ (x : Desk). x.coa) step.after
 
-run_calls : (d d' : Desk) (turns : List Made) → Run d turns d' → Chain DoesCoa d.coa (flat_map (λ m. coa_calls_in m.turn) turns) d'.coa
+pub run_calls : (d d' : Desk) (turns : List Made) → Run d turns d' → Chain DoesCoa d.coa (flat_map (λ m. coa_calls_in m.turn) turns) d'.coa
 run_calls d d' [] run = ap (λ (x : Desk). x.coa) run
 run_calls d d' (m ∷ turns) run =
     chain_append DoesCoa d.coa run.0.coa d'.coa (coa_calls_in m.turn) (flat_map (λ (x : Made). coa_calls_in x.turn) turns) (step_calls d run.0 m.turn run.1.1) (run_calls run.0 d' turns run.2)
 
-ending_calls : (d d' : Desk) (endings : List MadeEnd) → EndRun d endings d' → Chain DoesCoa d.coa (flat_map (λ m. coa_end_calls_in m.turn) endings) d'.coa
+pub ending_calls : (d d' : Desk) (endings : List MadeEnd) → EndRun d endings d' → Chain DoesCoa d.coa (flat_map (λ m. coa_end_calls_in m.turn) endings) d'.coa
 ending_calls d d' [] run = ap (λ (x : Desk). x.coa) run
 ending_calls d d' (m ∷ endings) run =
     chain_append DoesCoa d.coa run.0.coa d'.coa (coa_end_calls_in m.turn) (flat_map (λ (x : MadeEnd). coa_end_calls_in x.turn) endings) (end_step_calls d run.0 m.turn run.1.1) (ending_calls run.0 d' endings run.2)
@@ -126,7 +119,7 @@ ending_takes (m ∷ endings) =
     ∙ ap (λ (ds : List Datagram). ds ++ flat_map asked_by later) (end_takes m.desk m.turn)
     ∙ ap (λ (ds : List Datagram). (end_stage_in m.desk m.turn).requested ++ ds) (ending_takes endings)
 
-all_takes : (turns : List Made) (endings : List MadeEnd) → flat_map requested_in (stages_of turns endings) ≡ flat_map asked_by (coa_calls_of turns endings)
+pub all_takes : (turns : List Made) (endings : List MadeEnd) → flat_map requested_in (stages_of turns endings) ≡ flat_map asked_by (coa_calls_of turns endings)
 all_takes turns endings =
     let serving = map (λ (m : Made). stage_in m.desk m.turn) turns in
     let closing = map (λ (m : MadeEnd). end_stage_in m.desk m.turn) endings in
@@ -152,11 +145,11 @@ end_repeats d d' (Ends None) step = tt
 end_repeats d d' (Ends (Some t)) step = none_mapped (λ (s : CoaSend). s.reply) t.replies.repeated step.4.repeated
 end_repeats d d' (Waits t) step = tt
 
-run_repeats : (d d' : Desk) (turns : List Made) → Run d turns d' → AllByRecursion (λ m. Repeats m.turn) turns
+pub run_repeats : (d d' : Desk) (turns : List Made) → Run d turns d' → AllByRecursion (λ m. Repeats m.turn) turns
 run_repeats d d' [] run = tt
 run_repeats d d' (m ∷ turns) run = (step_repeats d run.0 m.turn run.1.1, run_repeats run.0 d' turns run.2)
 
-ending_repeats : (d d' : Desk) (endings : List MadeEnd) → EndRun d endings d' → AllByRecursion (λ m. RepeatsNone m.turn) endings
+pub ending_repeats : (d d' : Desk) (endings : List MadeEnd) → EndRun d endings d' → AllByRecursion (λ m. RepeatsNone m.turn) endings
 ending_repeats d d' [] run = tt
 ending_repeats d d' (m ∷ endings) run = (end_repeats d run.0 m.turn run.1.1, ending_repeats run.0 d' endings run.2)
 
@@ -261,9 +254,9 @@ loose_asked kind.Tick r i a h = absurd (let no : ◌≡◌ {A = Option Answer} (
 loose_asked kind.End r i a h = absurd (let no : ◌≡◌ {A = Option Answer} (Some a) None = h in cc)
 
 module _ (secret : List ℕ) (held : List Held) (k : ℕ) (d : Desk) (moment : ℕ) (items : List Item) (middle : CoaState) (all : All (ItemIn middle) items) where
-  of_shard : (round : Round) (g : Given) → Replies secret middle g → slice_get held k ≡ Some (record { desk = d; round = Some round }) → RoundOf d moment items (Some round) → IsInShard round.shards g.answer → IsOfShard secret held k g
+  of_shard : (round : Round) (g : Given) → Replies secret middle g → slice_get held k ≡ Some (record { desk = d; items = items; round = Some round }) → RoundOf d moment items (Some round) → IsInShard round.shards g.answer → IsOfShard secret held k g
   of_shard round g replies at is x =
-      let turn : Held = record { desk = d; round = Some round } in
+      let turn : Held = record { desk = d; items = items; round = Some round } in
       let made : IsMade turn = record { moment = moment; items = items; round = is } in
       let b = begun turn round x.place x.shard made refl x.at in
       let start = b.view.state in
@@ -297,18 +290,17 @@ module _ (secret : List ℕ) (held : List Held) (k : ℕ) (d : Desk) (moment : �
         replied = replies entry.handled.deed.entry.item (here asked.0) asked.1;
       }
 
-  of_none : (round : Round) (g : Given) → Replies secret middle g → slice_get held k ≡ Some (record { desk = d; round = Some round }) → RoundOf d moment items (Some round) → IsLoose d.rules (all_loose 0 (items ∷ []) round.whose) g.answer → IsOfNoShard secret held k g
+  of_none : (round : Round) (g : Given) → Replies secret middle g → slice_get held k ≡ Some (record { desk = d; items = items; round = Some round }) → RoundOf d moment items (Some round) → IsLoose d.rules (all_loose 0 (items ∷ []) round.whose) g.answer → IsOfNoShard secret held k g
   of_none round g replies at is x =
       let here : ItemIn middle x.item.item =
       All-contains (λ (l : Loose). ItemIn middle l.item) (all_loose 0 (items ∷ []) round.whose) x.item (loose_items (ItemIn middle) items round.whose (recursion_from_All (ItemIn middle) items all)) x.among in
       let asked = loose_asked x.item.item.kind d.rules x.item.item g.answer x.answer in
       record {
-        turn = record { desk = d; round = Some round };
+        turn = record { desk = d; items = items; round = Some round };
         at = at;
         round = round;
         opened = refl;
         moment = moment;
-        items = items;
         is_round = is;
         loose = x.item;
         among = x.among;
@@ -317,7 +309,7 @@ module _ (secret : List ℕ) (held : List Held) (k : ℕ) (d : Desk) (moment : �
       }
 
   -- what a turn answers is of its shards, or of loose items
-  verdict_in : (round : Option Round) (of_loose : List Answer) (g : Given) → Replies secret middle g → slice_get held k ≡ Some (record { desk = d; round = round }) → RoundOf d moment items round
+  verdict_in : (round : Option Round) (of_loose : List Answer) (g : Given) → Replies secret middle g → slice_get held k ≡ Some (record { desk = d; items = items; round = round }) → RoundOf d moment items round
       → AreLooseAnswers d.rules (loose_of items round) of_loose → Contains (of_loose ++ answers_of round) g.answer → IsVerdict secret held k g
   verdict_in None of_loose g replies at is are h =
       let nothing : of_loose ++ [] ≡ [] = append-nil of_loose ∙ are in
@@ -328,7 +320,7 @@ module _ (secret : List ℕ) (held : List Held) (k : ℕ) (d : Desk) (moment : �
   ]
 
   -- so does each reply that its settlement gives
-  settled_in : (round : Option Round) (repeats : List CoaReply) (q : CoaReplies) (c : CoaState) → slice_get held k ≡ Some (record { desk = d; round = round }) → RoundOf d moment items round
+  settled_in : (round : Option Round) (repeats : List CoaReply) (q : CoaReplies) (c : CoaState) → slice_get held k ≡ Some (record { desk = d; items = items; round = round }) → RoundOf d moment items round
       → SettlesCoa d.rules repeats (loose_of items round) (answers_of round) middle q c → middle.secret ≡ secret → IsApart middle.requests → (g : Given) → Contains q.given g → IsVerdict secret held k g
   settled_in round repeats q c at is by same apart g h =
       let replies = given_replies secret middle q.given middle c by.gives same (λ i hand. only_hand middle i apart hand) in
@@ -336,7 +328,7 @@ module _ (secret : List ℕ) (held : List Held) (k : ℕ) (d : Desk) (moment : �
       (subst (λ (xs : List Answer). Contains xs g.answer) by.answers (contains_mapped answer_in q.given g h))
 
 -- where the round was not opened no reply is given
-none_given : (r : Rules) (repeats : List CoaReply) (middle c : CoaState) (q : CoaReplies) → SettlesCoa r repeats [] [] middle q c → c ≡ middle
+pub none_given : (r : Rules) (repeats : List CoaReply) (middle c : CoaState) (q : CoaReplies) → SettlesCoa r repeats [] [] middle q c → c ≡ middle
 none_given r repeats middle c q by =
     let nothing : by.of_loose ++ [] ≡ [] = append-nil by.of_loose ∙ by.are_loose in
     subst (λ (given : List Given). Chain GivesAnswer middle given c) (none_mapped answer_in q.given (by.answers ∙ nothing)) by.gives
@@ -348,22 +340,30 @@ kept_in d items None repeats middle c q by all =
     subst (λ (s : CoaState). All (ItemIn s) (kept_of items)) (sym (none_given d.rules repeats middle c q by)) (All-filter (λ (i : Item). stays i.kind) (ItemIn middle) items all)
 kept_in d items (Some round) repeats middle c q by all = All-nil (ItemIn c)
 
+-- what is in hand is among what stays
+covers_in : (d : Desk) (moment : ℕ) (items : List Item) (round : Option Round) (repeats : List CoaReply) (middle c : CoaState) (q : CoaReplies) → RoundOf d moment items round
+    → SettlesCoa d.rules repeats (loose_of items round) (answers_of round) middle q c → IsApart middle.requests → Covers middle items → Covers c (after_round d items round).kept
+covers_in d moment items None repeats middle c q is by apart all = subst (λ (s : CoaState). Covers s (kept_of items)) (sym (none_given d.rules repeats middle c q by)) (kept_covers middle items all)
+covers_in d moment items (Some round) repeats middle c q is by apart all = none_covers c (settled_none d moment items round repeats middle c q is by apart all)
+
 module _ (turns : List Made) (endings : List MadeEnd) where
   abbrev held : List Held
   held = held_of turns endings
 
   module _ (secret : List ℕ) where
     -- between turns the requests of the items that stay are in hand
-    record Asks (d : Desk) : Type 0 where
-      by : d.coa.secret ≡ secret
-      apart : IsApart d.coa.requests
-      kept : All (ItemIn d.coa) d.kept
+    pub record Asks (d : Desk) : Type 0 where
+      pub by : d.coa.secret ≡ secret
+      pub apart : IsApart d.coa.requests
+      pub kept : All (ItemIn d.coa) d.kept
+      pub covers : Covers d.coa d.kept
 
-    asks_of : (d : Desk) (c : CoaState) (items : List Item) → d.coa ≡ c → d.kept ≡ items → c.secret ≡ secret → IsApart c.requests → All (ItemIn c) items → Asks d
-    asks_of d c items coa kept by apart all = record {
+    pub asks_of : (d : Desk) (c : CoaState) (items : List Item) → d.coa ≡ c → d.kept ≡ items → c.secret ≡ secret → IsApart c.requests → All (ItemIn c) items → Covers c items → Asks d
+    asks_of d c items coa kept by apart all covers = record {
       by = ap (λ (s : CoaState). s.secret) coa ∙ by;
       apart = subst (λ (s : CoaState). IsApart s.requests) (sym coa) apart;
       kept = subst (λ (s : CoaState). All (ItemIn s) d.kept) (sym coa) (subst (All (ItemIn c)) (sym kept) all);
+      covers = subst (λ (s : CoaState). Covers s d.kept) (sym coa) (subst (Covers c) (sym kept) covers);
     }
 
     turn_all : (d : Desk) (t : Turn) (by : CoaTurn d t) → map (λ (r : DataReading). r.role) t.readings ≡ data_roles d.rules → Asks d → All (ItemIn by.admitted) (items_of d t)
@@ -372,8 +372,8 @@ module _ (turns : List Made) (endings : List MadeEnd) where
         (All-weaker (ItemIn d.coa) (ItemIn by.admitted) (λ i h e. all_hand t.moment t.wall t.requested d.coa by.admitted by.admits i (h e)) d.kept asks.kept)
         (items_hand t.moment t.wall t.requested d.coa by.admitted by.admits)
 
-    step_asks : (d d' : Desk) (t : Option Turn) → Step d t d' → Asks d → Asks d'
-    step_asks d d' None step asks = asks_of d' d.coa d.kept (ap (λ (x : Desk). x.coa) step) (ap (λ (x : Desk). x.kept) step) asks.by asks.apart asks.kept
+    pub step_asks : (d d' : Desk) (t : Option Turn) → Step d t d' → Asks d → Asks d'
+    step_asks d d' None step asks = asks_of d' d.coa d.kept (ap (λ (x : Desk). x.coa) step) (ap (λ (x : Desk). x.kept) step) asks.by asks.apart asks.kept asks.covers
     step_asks d d' (Some t) step asks =
         let by = step.4 in
         let same = all_secret t.moment t.wall t.requested d.coa by.admitted by.admits ∙ asks.by in
@@ -381,18 +381,21 @@ module _ (turns : List Made) (endings : List MadeEnd) where
         (given_secret secret t.replies.given by.admitted t.coa by.settles.gives ∙ same)
         (given_apart secret t.replies.given by.admitted t.coa by.settles.gives (all_apart t.moment t.wall t.requested d.coa by.admitted by.admits asks.apart))
         (kept_in d (items_of d t) t.round (repeats_of t.requested) by.admitted t.coa t.replies by.settles (turn_all d t by step.0.roles asks))
+        (covers_in d t.moment (items_of d t) t.round (repeats_of t.requested) by.admitted t.coa t.replies step.1 by.settles (all_apart t.moment t.wall t.requested d.coa by.admitted by.admits asks.apart)
+        (turn_covers d t by.admitted by.admits asks.covers))
 
-    end_asks : (d d' : Desk) (t : Late) → LateStep d t d' → Asks d → Asks d'
-    end_asks d d' (Ends None) step asks = asks_of d' d.coa d.kept (ap (λ (x : Desk). x.coa) step) (ap (λ (x : Desk). x.kept) step) asks.by asks.apart asks.kept
-    end_asks d d' (Waits t) step asks = asks_of d' d.coa d.kept (ap (λ (x : Desk). x.coa) step.after) (ap (λ (x : Desk). x.kept) step.after) asks.by asks.apart asks.kept
+    pub end_asks : (d d' : Desk) (t : Late) → LateStep d t d' → Asks d → Asks d'
+    end_asks d d' (Ends None) step asks = asks_of d' d.coa d.kept (ap (λ (x : Desk). x.coa) step) (ap (λ (x : Desk). x.kept) step) asks.by asks.apart asks.kept asks.covers
+    end_asks d d' (Waits t) step asks = asks_of d' d.coa d.kept (ap (λ (x : Desk). x.coa) step.after) (ap (λ (x : Desk). x.kept) step.after) asks.by asks.apart asks.kept asks.covers
     end_asks d d' (Ends (Some t)) step asks =
         let by = step.4 in
         asks_of d' t.coa (after_round d (ending_items d) t.round).kept (ap (λ (x : Desk). x.coa) step.5) (ap (λ (x : Desk). x.kept) step.5)
         (given_secret secret t.replies.given d.coa t.coa by.gives ∙ asks.by)
         (given_apart secret t.replies.given d.coa t.coa by.gives asks.apart)
         (kept_in d (ending_items d) t.round [] d.coa t.coa t.replies by (end_items d.coa d asks.kept))
+        (covers_in d t.moment (ending_items d) t.round [] d.coa t.coa t.replies step.1 by asks.apart (end_covers d asks.covers))
 
-    serving : (k : ℕ) (d d' : Desk) (t : Option Turn) → slice_get held k ≡ Some (record { desk = d; round = round_of_turn t }) → Step d t d' → Asks d → (g : Given) → Contains (given_in t) g → IsVerdict secret held k g
+    serving : (k : ℕ) (d d' : Desk) (t : Option Turn) → slice_get held k ≡ Some (record { desk = d; items = items_of_turn d t; round = round_of_turn t }) → Step d t d' → Asks d → (g : Given) → Contains (given_in t) g → IsVerdict secret held k g
     serving k d d' None at step asks g h = absurd (none_there g h)
     serving k d d' (Some t) at step asks g h =
         let by = step.4 in
@@ -400,7 +403,7 @@ module _ (turns : List Made) (endings : List MadeEnd) where
         (all_secret t.moment t.wall t.requested d.coa by.admitted by.admits ∙ asks.by)
         (all_apart t.moment t.wall t.requested d.coa by.admitted by.admits asks.apart) g h
 
-    closing : (k : ℕ) (d d' : Desk) (t : Late) → slice_get held k ≡ Some (record { desk = d; round = round_of_end t }) → LateStep d t d' → Asks d → (g : Given) → Contains (end_given_in t) g → IsVerdict secret held k g
+    closing : (k : ℕ) (d d' : Desk) (t : Late) → slice_get held k ≡ Some (record { desk = d; items = items_of_end d t; round = round_of_end t }) → LateStep d t d' → Asks d → (g : Given) → Contains (end_given_in t) g → IsVerdict secret held k g
     closing k d d' (Ends None) at step asks g h = absurd (none_there g h)
     closing k d d' (Waits t) at step asks g h = absurd (none_there g h)
     closing k d d' (Ends (Some t)) at step asks g h =
@@ -408,10 +411,10 @@ module _ (turns : List Made) (endings : List MadeEnd) where
 
   -- the turn of this number by itself
   abbrev made_of : Made → Held
-  made_of m = record { desk = m.desk; round = round_of_turn m.turn }
+  made_of m = record { desk = m.desk; items = items_of_turn m.desk m.turn; round = round_of_turn m.turn }
 
   abbrev end_of : MadeEnd → Held
-  end_of m = record { desk = m.desk; round = round_of_end m.turn }
+  end_of m = record { desk = m.desk; items = items_of_end m.desk m.turn; round = round_of_end m.turn }
 
   held_second : (xs : List Made) (place : ℕ) (m : MadeEnd) → slice_get endings place ≡ Some m → slice_get (map made_of xs ++ map end_of endings) (length xs + place) ≡ Some (end_of m)
   held_second [] place m at = let e : place ≡ 0 + place = omega arith in subst (λ (i : ℕ). slice_get (map end_of endings) i ≡ Some (end_of m)) e (mapped_at end_of endings place m at)
@@ -423,47 +426,19 @@ module _ (turns : List Made) (endings : List MadeEnd) where
     over_asks : Asks secret over
     over_asks = chain_end Goes (λ n d. Asks secret d) turns (λ n d d' m at' goes asks. step_asks secret d d' m.turn goes.1 asks) opening over run opens
 
-    verdicts_of : (k : ℕ) (given : List Given) (g : Given) → slice_get (given_of turns endings) k ≡ Some given → Contains given g → IsVerdict secret held k g
+    pub verdicts_of : (k : ℕ) (given : List Given) (g : Given) → slice_get (given_of turns endings) k ≡ Some given → Contains given g → IsVerdict secret held k g
     verdicts_of k given g at h = elim (in_both (λ (m : Made). given_in m.turn) (λ (m : MadeEnd). end_given_in m.turn) turns endings k given at) [
       | inl f ↦
           let link = link_at Goes (λ n d. Asks secret d) turns (λ n d d' m at' goes asks. step_asks secret d d' m.turn goes.1 asks) opening over run opens k f.it f.at in
           let here : slice_get held k ≡ Some (made_of f.it) = of_first made_of end_of turns endings k f.it f.at in
           serving secret k link.before link.after f.it.turn
-          (subst (λ (d : Desk). slice_get held k ≡ Some (record { desk = d; round = round_of_turn f.it.turn })) link.is.0 here)
+          (subst (λ (d : Desk). slice_get held k ≡ Some (record { desk = d; items = items_of_turn d f.it.turn; round = round_of_turn f.it.turn })) link.is.0 here)
           link.is.1 link.holds g (subst (λ (gs : List Given). Contains gs g) (sym f.is) h)
       | inr e ↦
           let link = link_at GoesEnding (λ n d. Asks secret d) endings (λ n d d' m at' goes asks. end_asks secret d d' m.turn goes.1 asks) over last ending over_asks e.place e.it e.at in
           let there : slice_get held (length turns + e.place) ≡ Some (end_of e.it) = held_second turns e.place e.it e.at in
           let here : slice_get held k ≡ Some (end_of e.it) = ap (slice_get held) e.past ∙ there in
           closing secret k link.before link.after e.it.turn
-          (subst (λ (d : Desk). slice_get held k ≡ Some (record { desk = d; round = round_of_end e.it.turn })) link.is.0 here)
+          (subst (λ (d : Desk). slice_get held k ≡ Some (record { desk = d; items = items_of_end d e.it.turn; round = round_of_end e.it.turn })) link.is.0 here)
           link.is.1 link.holds g (subst (λ (gs : List Given). Contains gs g) (sym e.is) h)
     ]
-
--- at the opening no request is in hand
-none_opened : (part : Option CoaPart) → (coa_of part).requests ≡ []
-none_opened None = refl
-none_opened (Some part) = refl
-
--- All turns -------------------------------------------------------------------------------------------------------------------------
-
-pub changed_of : (config : Config) (rounds : ℕ) (seed : List ℕ) (now wall : ℕ) (opening over last : Desk) (turns : List Made) (endings : List MadeEnd) → IsOpened config rounds seed now wall opening → Run opening turns over → EndRun over endings last
-    → AllByRecursion IsBesideCoa (sends_of (rounds_of turns endings)) → Changed config turns endings last (plant_of turns endings).taken (plant_of turns endings).sent
-changed_of config rounds seed now wall opening over last turns endings is run ending elsewhere =
-    let calls = flat_map (λ (m : Made). coa_calls_in m.turn) turns in
-    let closes = flat_map (λ (m : MadeEnd). coa_end_calls_in m.turn) endings in
-    let from : opening.coa ≡ coa_of config.coa = ap (λ (d : Desk). d.coa) is.desk in
-    let done : Chain DoesCoa (coa_of config.coa) (coa_calls_of turns endings) last.coa =
-    subst (λ (c : CoaState). Chain DoesCoa c (coa_calls_of turns endings) last.coa) from
-    (chain_append DoesCoa opening.coa over.coa last.coa calls closes (run_calls opening over turns run) (ending_calls over last endings ending)) in
-    record {
-      calls = done;
-      answered = replies_answer (coa_of config.coa).secret (coa_calls_of turns endings) (coa_of config.coa) last.coa refl (none_opened config.coa) done;
-      requests = stages_requested opening over turns endings run ∙ all_takes turns endings;
-      replies = replies_sent turns endings elsewhere;
-      repeated = All-from_recursion (λ m. Repeats m.turn) turns (run_repeats opening over turns run);
-      repeated_none = All-from_recursion (λ m. RepeatsNone m.turn) endings (ending_repeats over last endings ending);
-      verdicts = verdicts_of turns endings (coa_of config.coa).secret opening over last run ending
-          (asks_of turns endings (coa_of config.coa).secret opening (coa_of config.coa) [] from (ap (λ (d : Desk). d.kept) is.desk) refl
-          (subst IsApart (sym (none_opened config.coa)) none_apart) (All-nil (ItemIn (coa_of config.coa))));
-    }

@@ -47,7 +47,7 @@ use Rattle.bng_desk.proofs.GatherLaws.{auth_few}
 use Rattle.bng_desk.proofs.LoginLaws.{timeouts_length}
 use Rattle.bng_desk.proofs.Staying.{IsStaying, counted as count_kind, counted_append, counted_drawn, counted_none, each_weaker, few_asked, serving_stays}
 use Rattle.bng_desk.proofs.TakeLaws.{taken_within}
-use Rattle.bng_gate.specs.Granted.{Held, HandledIn, held_of, round_of_end, round_of_turn}
+use Rattle.bng_gate.specs.Granted.{Held, HandledIn, held_of, items_of_end, items_of_turn, round_of_end, round_of_turn}
 use Rattle.bng_gate.specs.Serving.{Made, MadeEnd, Late, Ends, Waits, LateStep, Run, EndRun, endings_most}
 use Rattle.bng_gate.proofs.Follows.{left_after, step_follows, end_follows}
 use Rattle.bng_gate.proofs.HeldRuns.{HasCount}
@@ -397,7 +397,7 @@ turn_served d d' t step low =
     }
 
 abbrev held_in : Made → Held
-held_in m = record { desk = m.desk; round = round_of_turn m.turn }
+held_in m = record { desk = m.desk; items = items_of_turn m.desk m.turn; round = round_of_turn m.turn }
 
 run_counts : (d over : Desk) (turns : List Made) → Run d turns over → IsServed d → Chain Counts d (map held_in turns) over
 run_counts d over [] run low = run
@@ -511,7 +511,7 @@ end_closing d d' t step low =
     }
 
 abbrev end_held : MadeEnd → Held
-end_held m = record { desk = m.desk; round = round_of_end m.turn }
+end_held m = record { desk = m.desk; items = items_of_end m.desk m.turn; round = round_of_end m.turn }
 
 ending_counts : (d last : Desk) (endings : List MadeEnd) → EndRun d endings last → IsClosing d → Chain Counts d (map end_held endings) last
 ending_counts d last [] run low = run

@@ -36,9 +36,10 @@ use Rattle.bng_desk.specs.declared.line.Line.{Line}
 use Rattle.bng_desk.specs.Accounting.{FormedRecord}
 use Rattle.bng_desk.specs.Counting.{by_number}
 use Rattle.bng_desk.specs.Model.{Desk, all_stopped as all_say, by_profile, carried_on, all_carried, line_after, live_of, live_terms, plus_book, state_of, sums_of, total_of, traffic_by}
-use Rattle.bng_desk.specs.Opening.{billing_rules, line_of, opened_shards}
+use Rattle.bng_desk.specs.Opening.{billing_rules, coa_of, line_of, opened_shards}
 use Rattle.bng_desk.specs.Report.{report_text}
 use Rattle.bng_desk.specs.Round.{view_of, views_of}
+use Rattle.bng_gate.specs.Changed.{AreAnswered, coa_calls_of}
 use Rattle.bng_gate.specs.declared.texts.Refusal.{Refusal}
 use Rattle.bng_gate.specs.declared.texts.Refusal.TheVariants.{Usage, Refused, CannotOpen, OutOfMemory, TraceFailed, OutputFailed}
 use Rattle.bng_gate.specs.Exercise.{Exercised, IsPlayed, Prints, exercise_seed, exercise_text, line_by, line_over, peers_beside, records_told}
@@ -54,7 +55,6 @@ use Rattle.bng_gate.specs.Run.{World, outside, turns_most, Prepares, Concludes, 
 use Rattle.bng_gate.proofs.AddressedLive.{live_addressed}
 use Rattle.bng_gate.proofs.Addressing.{all_addressed}
 use Rattle.bng_gate.proofs.Agreed.{agreed}
-use Rattle.bng_gate.proofs.Changing.{changed_of}
 use Rattle.bng_gate.proofs.Drops.{all_dropped}
 use Rattle.bng_gate.proofs.Exercising.{keeps_rules}
 use Rattle.bng_gate.proofs.Follows.{Follows, run_follows}
@@ -74,6 +74,7 @@ use Rattle.bng_gate.proofs.Reporting.{GoesLive, reports_go_on}
 use Rattle.bng_gate.proofs.Replying.{replies_of}
 use Rattle.bng_gate.proofs.OnAcct.{all_else}
 use Rattle.bng_gate.proofs.OnCoa.{all_beside_coa}
+use Rattle.bng_gate.proofs.Responding.{changed_of, ended_answers}
 use Rattle.bng_gate.proofs.Staging.{stages_acknowledged, stages_heard, stages_requested, stages_taken, stages_sent}
 use Rattle.bng_gate.proofs.States.{ended_of}
 use Rattle.bng_gate.proofs.Stopping.{run_causes, run_causes_known, run_stays, run_terms}
@@ -309,6 +310,9 @@ module _ (config : Config) (rules : KeepsRules config) (most : ℕ) (seed : List
         ∙ report_told sum empty_book sum one ps us (stops_of rounds) (map line_of config.statics) (all_traffic config sent) (by_number d.drops)
         ∙ ap (λ (x : Drops). report_by sum empty_book sum one ps us (map line_of config.statics) (all_traffic config sent) x) drops
 
+    responded : AreAnswered (coa_of config.coa).secret (coa_calls_of course.turns course.endings)
+    responded = ended_answers config most seed course.begins.bound.now course.begins.bound.wall course.opening course.over course.last course.turns course.endings course.begins.is_opened course.run course.ending ended
+
     -- the sums of the desk, by what was sent and by the Stops
     all_total : (sums_of course.last).total ≡ total_in sent
     all_total =
@@ -360,6 +364,7 @@ module _ (config : Config) (rules : KeepsRules config) (most status : ℕ) (seed
     exact = exact config rules most seed old new turned run.ended;
     printed = subst (λ (text : List ℕ). Grows old.out.bytes new.out.bytes text) (report config rules most seed old new turned run.ended) run.reports.printed;
     profiles_add_up = add_up config rules most seed old new turned run.ended;
+    responded = responded config rules most seed old new turned run.ended;
     acknowledged = λ s. (answered config rules most seed old new turned run.ended).0 (none s);
     unacknowledged = λ s. let names = some s in (λ all. names.some ((answered config rules most seed old new turned run.ended).1 all), names);
   }

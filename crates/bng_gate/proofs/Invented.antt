@@ -38,7 +38,7 @@ use Rattle.bng_desk.specs.Model.{Desk}
 use Rattle.bng_desk.specs.Opening.{opened_shards, statics_of}
 use Rattle.bng_desk.specs.Round.{Round, views_of}
 use Rattle.bng_desk.specs.Turn.{RoundOf, Step, Turn, ending_items, items_of}
-use Rattle.bng_gate.specs.Granted.{Held, Stage, end_stage_in, held_of, round_of_end, round_of_turn, sent_by, stage_in, stages_of}
+use Rattle.bng_gate.specs.Granted.{Held, Stage, end_stage_in, held_of, items_of_end, items_of_turn, round_of_end, round_of_turn, sent_by, stage_in, stages_of}
 use Rattle.bng_gate.specs.Rounds.{carries_data, end_round_in, history_of, on_data, round_in, rounds_in, rounds_of, turns_of}
 use Rattle.bng_gate.specs.Serving.{EndRun, Ends, Late, LateStep, Made, MadeEnd, Run, Waits}
 use Rattle.bng_gate.specs.Unchanged.{Arises, IsPassedDown, IsPassedUp, NothingIsInvented, lived_in}
@@ -95,9 +95,9 @@ module _ (a : Ip4) (test : WirePacket → Bool) (its : (w : WirePacket) → test
 
   -- what a round sends comes of its items
   round_stands : (d : Desk) (moment : ℕ) (items : List Item) (round : Option Round) → RoundOf d moment items round → IsLiveDesk d → (xs : List Datagram) → flat_map datagrams_in items ≡ xs
-      → (later : List (Option Round)) (last : History ShardState) → Rest (round ∷ later) last → Stands terms R test xs (sent_by round) (record { desk = d; round = round }) × Rest later last
+      → (later : List (Option Round)) (last : History ShardState) → Rest (round ∷ later) last → Stands terms R test xs (sent_by round) (record { desk = d; items = items; round = round }) × Rest later last
   round_stands d moment items None is live xs are later last rest =
-      (record { lived = arises_none (R (lived_in (record { desk = d; round = None }))) xs; in_run = arises_none (R terms) xs }, record { mid = rest.mid; works = rest.works; run = rest.run; known = rest.known })
+      (record { lived = arises_none (R (lived_in (record { desk = d; items = items; round = None }))) xs; in_run = arises_none (R terms) xs }, record { mid = rest.mid; works = rest.works; run = rest.run; known = rest.known })
   round_stands d moment items (Some round) is live xs are later last rest =
       let ts = map turn_in round.shards in
       let right = rest.run.1 in
@@ -108,7 +108,7 @@ module _ (a : Ip4) (test : WirePacket → Bool) (its : (w : WirePacket) → test
       let sent : (us : List Key) → AllByRecursion (IsKnown us) (flat_map (λ v. v.sends) round.shards) → Arises (R us) xs (those test (sent_by (Some round))) =
       λ us known. subst (λ (ds : List Datagram). Arises (R us) ds (those test (sent_by (Some round)))) are
       (round_sends a test its r us (R us) (steps us) items round.whose 0 moment rest.mid.shards round.shards rest.run.0.shards next rest.works known is.dealt.parts (right.exclusive a.0)) in (
-        record { lived = sent (lived_in (record { desk = d; round = Some round })) (round_known d moment items round is live); in_run = sent terms in_run },
+        record { lived = sent (lived_in (record { desk = d; items = items; round = Some round })) (round_known d moment items round is live); in_run = sent terms in_run },
         record { mid = rest.run.0; works = next_work r rest.mid.shards ts rest.run.0.shards next rest.works; run = rest.run.2; known = all_right (IsKnown terms) (sends_in ts) others rest.known },
       )
 
@@ -117,22 +117,22 @@ module _ (a : Ip4) (test : WirePacket → Bool) (its : (w : WirePacket) → test
   StandsAt s h = Stands terms R test s.taken s.sent h
 
   turn_stands : (d d' e : Desk) (t : Option Turn) → Step d t d' → All IsSilent d.kept → IsLiveDesk d → (later : List (Option Round)) (last : History ShardState) → Rest (round_in t ∷ later) last
-      → StandsAt (stage_in e t) (record { desk = d; round = round_of_turn t }) × Rest later last
+      → StandsAt (stage_in e t) (record { desk = d; items = items_of_turn d t; round = round_of_turn t }) × Rest later last
   turn_stands d d' e None step kept live later last rest = (record { lived = refl; in_run = refl }, record { mid = rest.mid; works = rest.works; run = rest.run; known = rest.known })
   turn_stands d d' e (Some t) step kept live later last rest = round_stands d t.moment (items_of d t) t.round step.1 live (taken_of t.readings) (items_told d t kept step.0.roles) later last rest
 
   end_stands : (d d' e : Desk) (t : Late) → LateStep d t d' → All IsSilent d.kept → IsLiveDesk d → (later : List (Option Round)) (last : History ShardState) → Rest (end_round_in t ∷ later) last
-      → StandsAt (end_stage_in e t) (record { desk = d; round = round_of_end t }) × Rest later last
+      → StandsAt (end_stage_in e t) (record { desk = d; items = items_of_end d t; round = round_of_end t }) × Rest later last
   end_stands d d' e (Ends None) step kept live later last rest = (record { lived = refl; in_run = refl }, record { mid = rest.mid; works = rest.works; run = rest.run; known = rest.known })
   end_stands d d' e (Waits t) step kept live later last rest = (record { lived = refl; in_run = refl }, record { mid = rest.mid; works = rest.works; run = rest.run; known = rest.known })
   end_stands d d' e (Ends (Some t)) step kept live later last rest = round_stands d t.moment (ending_items d) t.round step.1 live [] (ending_told d kept) later last rest
 
   endings_stand : (d d' : Desk) (endings : List MadeEnd) → EndRun d endings d' → All IsSilent d.kept → IsLiveDesk d → (last : History ShardState) → Rest (map (λ m. end_round_in m.turn) endings) last
-      → AllZip StandsAt (map (λ m. end_stage_in m.desk m.turn) endings) (map (λ m. record { desk = m.desk; round = round_of_end m.turn }) endings)
+      → AllZip StandsAt (map (λ m. end_stage_in m.desk m.turn) endings) (map (λ m. record { desk = m.desk; items = items_of_end m.desk m.turn; round = round_of_end m.turn }) endings)
   endings_stand d d' [] goes kept live last rest = tt
   endings_stand d d' (m ∷ endings) goes kept live last rest =
       let here = end_stands d goes.0 m.desk m.turn goes.1.1 kept live (map (λ (x : MadeEnd). end_round_in x.turn) endings) last rest in (
-        subst (λ (x : Desk). StandsAt (end_stage_in m.desk m.turn) (record { desk = x; round = round_of_end m.turn })) (sym goes.1.0) here.0,
+        subst (λ (x : Desk). StandsAt (end_stage_in m.desk m.turn) (record { desk = x; items = items_of_end x m.turn; round = round_of_end m.turn })) (sym goes.1.0) here.0,
         endings_stand goes.0 d' endings goes.2 (end_keeps d goes.0 m.turn goes.1.1 kept) (end_live d goes.0 m.turn goes.1.1 live) last here.1,
       )
 
@@ -143,7 +143,7 @@ module _ (a : Ip4) (test : WirePacket → Bool) (its : (w : WirePacket) → test
         endings_stand over end endings ending (subst (λ (x : Desk). All IsSilent x.kept) (sym goes) kept) (subst IsLiveDesk (sym goes) live) last rest
     stages_stand d (m ∷ turns) goes kept live last rest =
         let here = turn_stands d goes.0 m.desk m.turn goes.1.1 kept live (rounds_in turns endings) last rest in (
-          subst (λ (x : Desk). StandsAt (stage_in m.desk m.turn) (record { desk = x; round = round_of_turn m.turn })) (sym goes.1.0) here.0,
+          subst (λ (x : Desk). StandsAt (stage_in m.desk m.turn) (record { desk = x; items = items_of_turn x m.turn; round = round_of_turn m.turn })) (sym goes.1.0) here.0,
           stages_stand goes.0 turns goes.2 (step_keeps d goes.0 m.turn goes.1.1 kept) (step_live d goes.0 m.turn goes.1.1 live) last here.1,
         )
 

@@ -48,7 +48,10 @@ pub mod OnAcct
 pub mod OnCoa
 pub mod AskedBy
 pub mod AskedIn
+pub mod Answering
+pub mod Awaiting
 pub mod Changing
+pub mod Responding
 pub mod Calling
 pub mod Agreed
 pub mod Reporting

@@ -106,7 +106,7 @@ all_owned (v ∷ vs) (w ∷ ws) moves live =
     (sends_of ws) (all_owned vs ws moves.1 live.1))
 
 pub round_known : (d : Desk) (moment : ℕ) (items : List Item) (round : Round) → RoundOf d moment items (Some round) → IsLiveDesk d
-    → AllByRecursion (IsKnown (lived_in (record { desk = d; round = Some round }))) (flat_map (λ w. w.sends) round.shards)
+    → AllByRecursion (IsKnown (lived_in (record { desk = d; items = items; round = Some round }))) (flat_map (λ w. w.sends) round.shards)
 round_known d moment items round is live =
     let all = live_of d.shards ++ begun_of round.shards in
     all_weaker (IsOwned all) (IsKnown all)

@@ -13,7 +13,7 @@ use Rattle.bng_desk.specs.Model.{Desk}
 use Rattle.bng_desk.specs.Round.{Round}
 use Rattle.bng_desk.specs.Turn.{Turn, RoundOf, Step, IsReading, after_round, ending_items, has_end, items_of, new_items}
 use Rattle.bng_desk.proofs.Drawing.{drawn_all}
-use Rattle.bng_gate.specs.Granted.{Held, HandledIn, held_of, round_of_turn, round_of_end}
+use Rattle.bng_gate.specs.Granted.{Held, HandledIn, held_of, items_of_end, items_of_turn, round_of_turn, round_of_end}
 use Rattle.bng_gate.specs.Serving.{Made, MadeEnd, Late, Ends, Waits, LateStep, Goes, GoesEnding, Run, EndRun}
 use Rattle.bng_gate.proofs.Entries.{entry_holds}
 use Rattle.bng_gate.proofs.Places.{InFirst, InSecond, link_at, chain_end, in_both}
@@ -101,10 +101,10 @@ module _ (turns : List Made) where
       handled_caused k d t.moment (ending_items d) t.round r opened step.1 (ending_caused k d kept) place earlier later h journal
 
 abbrev pub of_made : Made → Held
-of_made m = record { desk = m.desk; round = round_of_turn m.turn }
+of_made m = record { desk = m.desk; items = items_of_turn m.desk m.turn; round = round_of_turn m.turn }
 
 abbrev pub of_end : MadeEnd → Held
-of_end m = record { desk = m.desk; round = round_of_end m.turn }
+of_end m = record { desk = m.desk; items = items_of_end m.desk m.turn; round = round_of_end m.turn }
 
 module _ (opening over last : Desk) (turns : List Made) (endings : List MadeEnd) (run : Run opening turns over) (ending : EndRun over endings last) (fresh : opening.kept ≡ []) where
   none_kept : AreCaused turns 0 opening

@@ -1,6 +1,6 @@
 -- What a run did with requests for changes of sessions (RFC 5176): what was taken from Coa and admitted, what each request was answered,
 -- and the replies that were sent.
-use Rattle.std.specs.Prelude.{◌≡◌, ◌⊎◌, ℕ, ◌<◌, List, [], ◌∷◌, ◌++◌, Option, Some, None, map, slice_get, take}
+use Rattle.std.specs.Prelude.{◌≡◌, ◌⊎◌, ℕ, ◌+◌, ◌<◌, List, [], ◌∷◌, ◌++◌, Option, Some, None, map, slice_get, take}
 use Rattle.std.specs.List.{All, Contains, flat_map}
 use Rattle.bng_base.specs.declared.item.Item.{Item}
 use Rattle.bng_base.specs.declared.item.Loose.{Loose}
@@ -121,18 +121,17 @@ pub record IsOfShard (secret : List ℕ) (held : List Held) (k : ℕ) (g : Given
   pub answer : handled.answer ≡ Some g.answer
   pub replied : IsReplyFor secret handled.deed.entry.item g
 
--- In that turn the request stood in no shard: it led to none. The verdict is the first row that holds of the request itself, and else that
--- there is no such session. The reply that was given is that to this request.
+-- In that turn the request, one of the items that the turn had for its round, stood in no shard: it led to none. The verdict is the first
+-- row that holds of the request itself, and else that there is no such session. The reply that was given is that to this request.
 pub record IsOfNoShard (secret : List ℕ) (held : List Held) (k : ℕ) (g : Given) : Type 0 where
   pub turn : Held
   pub at : slice_get held k ≡ Some turn
   pub round : Round
   pub opened : turn.round ≡ Some round
   pub moment : ℕ
-  pub items : List Item
-  pub is_round : IsRound turn.desk.rules turn.desk.shards turn.desk.pool turn.desk.tallies moment (items ∷ []) round
+  pub is_round : IsRound turn.desk.rules turn.desk.shards turn.desk.pool turn.desk.tallies moment (turn.items ∷ []) round
   pub loose : Loose
-  pub among : Contains (all_loose 0 (items ∷ []) round.whose) loose
+  pub among : Contains (all_loose 0 (turn.items ∷ []) round.whose) loose
   pub answer : AnswersLooseKind loose.item.kind turn.desk.rules loose.item (Some g.answer)
   pub replied : IsReplyFor secret loose.item g
 
@@ -143,6 +142,27 @@ IsVerdict secret held k g = IsOfShard secret held k g ⊎ IsOfNoShard secret hel
 abbrev pub given_of : List Made → List MadeEnd → List (List Given)
 given_of turns endings = map (λ m. given_in m.turn) turns ++ map (λ m. end_given_in m.turn) endings
 
+-- Answers ---------------------------------------------------------------------------------------------------------------------------
+
+-- The request that this call took has its answer: one of the calls after it gives a reply, and that is the reply to this very datagram.
+pub record HasReply (secret : List ℕ) (calls : List CoaCall) (place : ℕ) : Type 0 where
+  pub later : ℕ
+  pub given : Given
+  pub send : CoaSend
+  pub at : slice_get calls later ≡ Some (Replied given)
+  pub sends : given.send ≡ Some send
+  pub reply : IsReplyTo secret calls later given.answer send.reply
+  pub its : reply.place ≡ place
+
+-- each that was taken as new has it
+abbrev pub AreAnswered : (secret : List ℕ) → List CoaCall → Type 0
+AreAnswered secret calls =
+    (place moment wall number : ℕ) (asked : Requested) → slice_get calls place ≡ Some (Taken moment wall asked) → asked.admitted ≡ New number → HasReply secret calls place
+
+-- the calls of the turns up to the one with this number
+abbrev pub calls_until : List Made → List MadeEnd → ℕ → List CoaCall
+calls_until turns endings k = flat_map (λ calls. calls) (take (k + 1) (map (λ m. coa_calls_in m.turn) turns ++ map (λ m. coa_end_calls_in m.turn) endings))
+
 -- The law ---------------------------------------------------------------------------------------------------------------------------
 
 -- From the opening on, where no request was in hand, and those of the configuration may ask, by its secret, the calls lead to what is in
@@ -151,7 +171,8 @@ given_of turns endings = map (λ m. given_in m.turn) turns ++ map (λ m. end_giv
 -- signed for this very request; it is kept, and no request has two (`answered`). What was taken from Coa, each datagram once and in order, is what the
 -- calls say (`requests`), and what was sent there, so too, are the replies of the turns (`replies`): first those that were sent again, which
 -- are those of requests that came again (`repeated`), and then those that were given. Each answer that was given in a turn is that of a
--- shard that handled the request in this turn, or that of a request that stood in no shard of it (`verdicts`).
+-- shard that handled the request in this turn, or that of a request that stood in no shard of it (`verdicts`). And no request is left
+-- unanswered: once a turn has opened its round, each request that was taken by then has its reply (`heard`).
 pub record Changed (config : Config) (turns : List Made) (endings : List MadeEnd) (last : Desk) (taken sent : List Datagram) : Type 0 where
   pub calls : Chain DoesCoa (coa_of config.coa) (coa_calls_of turns endings) last.coa
   pub answered : (k : ℕ) (g : Given) (s : CoaSend) → slice_get (coa_calls_of turns endings) k ≡ Some (Replied g) → g.send ≡ Some s
@@ -161,3 +182,4 @@ pub record Changed (config : Config) (turns : List Made) (endings : List MadeEnd
   pub repeated : All (λ m. Repeats m.turn) turns
   pub repeated_none : All (λ m. RepeatsNone m.turn) endings
   pub verdicts : (k : ℕ) (given : List Given) (g : Given) → slice_get (given_of turns endings) k ≡ Some given → Contains given g → IsVerdict (coa_of config.coa).secret (held_of turns endings) k g
+  pub heard : (k : ℕ) (turn : Held) (round : Round) → slice_get (held_of turns endings) k ≡ Some turn → turn.round ≡ Some round → AreAnswered (coa_of config.coa).secret (calls_until turns endings k)

@@ -9,6 +9,7 @@ use Rattle.bng_base.specs.declared.address.SessionNo.{SessionNo}
 use Rattle.bng_base.specs.declared.address.TunnelNo.{TunnelNo}
 use Rattle.bng_base.specs.declared.circuit.Circuit.{Circuit}
 use Rattle.bng_base.specs.declared.circuit.Circuit.TheVariants.{Pppoe, L2tp}
+use Rattle.bng_base.specs.declared.item.Item.{Item}
 use Rattle.bng_base.specs.declared.item.OutRecord.{OutRecord}
 use Rattle.bng_base.specs.declared.outside.Datagram.{Datagram}
 use Rattle.bng_base.specs.declared.outside.Role.TheVariants.{Access, Auth, Acct, Tunnel, Coa}
@@ -54,7 +55,7 @@ use Rattle.bng_desk.specs.Opening.{lane_rules}
 use Rattle.bng_desk.specs.Random.{draw}
 use Rattle.bng_desk.specs.Reading.{taken_in}
 use Rattle.bng_desk.specs.Round.{Round, starts_of}
-use Rattle.bng_desk.specs.Turn.{Turn}
+use Rattle.bng_desk.specs.Turn.{Turn, ending_items, items_of}
 use Rattle.bng_gate.specs.Serving.{Made, MadeEnd, Late, Ends, Waits}
 
 -- Of a turn, in their order: the datagrams that it took from Acct, those that it took from Coa, those that it took from Auth, those that it
@@ -202,9 +203,10 @@ pub record LetsInOwn (s : ShardState) (h : Handled) (circuit : Circuit) (session
   pub own : last_asking_at s.slots session ≡ Some (asking_from g.ask)
   pub by : (accepted_ask_at s.slots session ≡ Some g.ask.number.ask) ⊎ IsItsReply h session g
 
--- the rounds of the turns, with the desks that they were made from
+-- the rounds of the turns, with the desks that they were made from, and the items that the turns had for them
 pub record Held : Type 0 where
   pub desk : Desk
+  pub items : List Item
   pub round : Option Round
 
 abbrev pub round_of_turn : Option Turn → Option Round
@@ -216,8 +218,19 @@ round_of_end (Ends None) = None
 round_of_end (Ends (Some t)) = t.round
 round_of_end (Waits t) = None
 
+abbrev pub items_of_turn : Desk → Option Turn → List Item
+items_of_turn d None = []
+items_of_turn d (Some t) = items_of d t
+
+abbrev pub items_of_end : Desk → Late → List Item
+items_of_end d (Ends None) = []
+items_of_end d (Ends (Some t)) = ending_items d
+items_of_end d (Waits t) = []
+
 abbrev pub held_of : List Made → List MadeEnd → List Held
-held_of turns endings = map (λ m. record { desk = m.desk; round = round_of_turn m.turn }) turns ++ map (λ m. record { desk = m.desk; round = round_of_end m.turn }) endings
+held_of turns endings =
+    map (λ m. record { desk = m.desk; items = items_of_turn m.desk m.turn; round = round_of_turn m.turn }) turns
+    ++ map (λ m. record { desk = m.desk; items = items_of_end m.desk m.turn; round = round_of_end m.turn }) endings
 
 -- In the turn of this number a shard handled this entry, after those before it in its journal, from this state.
 pub record HandledIn (held : List Held) (k : ℕ) (s : ShardState) (h : Handled) : Type 0 where

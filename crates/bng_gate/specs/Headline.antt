@@ -42,11 +42,11 @@ use Rattle.bng_shard.specs.Lasting.{IsCause, IsCircuitCause}
 use Rattle.bng_shard.specs.Reader.{IsDataSpelled, is_call_data, is_session_data, is_tunnel, pppoe_reader, tells_pppoe}
 use Rattle.bng_desk.specs.Counting.{by_number}
 use Rattle.bng_desk.specs.Model.{traffic_by}
-use Rattle.bng_desk.specs.Opening.{line_of, statics_of}
+use Rattle.bng_desk.specs.Opening.{coa_of, line_of, statics_of}
 use Rattle.bng_desk.specs.Reading.{taken_in}
 use Rattle.bng_desk.specs.Report.{report_text}
 use Rattle.bng_desk.specs.Round.{not_sent, view_of}
-use Rattle.bng_gate.specs.Changed.{Changed}
+use Rattle.bng_gate.specs.Changed.{AreAnswered, Changed, coa_calls_of}
 use Rattle.bng_gate.specs.Granted.{Granted, held_of, stages_of}
 use Rattle.bng_gate.specs.Recorded.{Recorded, calls_of}
 use Rattle.bng_gate.specs.Replied.{AreReplied}
@@ -276,7 +276,7 @@ pub record IsSafe (config : Config) (most : ℕ) (seed : List ℕ) (old new : Wo
   -- What was sent on Coa are the replies to requests for changes of sessions (RFC 5176) that were taken there and admitted. Each says what
   -- the shard of the request said of it, in the state in which it was handled. One that stood in no shard of its turn is refused for the
   -- first fault of the request itself, and else as one whose session there is not; of the sessions of all shards nothing is said there. A
-  -- request that comes again within 30 s is answered by the same octets.
+  -- request that comes again within 30 s is answered by the same octets. Once a turn opened its round each request taken by then has its reply.
   pub changed : Changed config course.turns course.endings course.last taken sent
   -- Of what the rounds had to send, the replies to requests for changes, the requests of the turns and their Accounting-Requests, no more was
   -- not sent than the plant's count rose, unless that stands at its end.
@@ -303,6 +303,8 @@ pub record Headline (config : Config) (most status : ℕ) (old new : World) : Ty
   -- address and to it. The drops printed are those of the rounds, and of those that could not be opened.
   pub printed : Grows old.out.bytes new.out.bytes (report_text (total_in safe.sent) empty_book (total_in safe.sent) (traffic_by (total_in safe.sent) ∷ []) config.profiles (all_profile_traffic config (rounds_of run.completes.course.turns run.completes.course.endings)) (map line_of config.statics) (all_traffic config safe.sent) (by_number (drops_of_run run.completes.course.turns run.completes.course.endings)))
   pub profiles_add_up : AddsUpTo (total_in safe.sent) (all_profile_traffic config (rounds_of run.completes.course.turns run.completes.course.endings))
+  -- Each request for a change that was taken has its reply.
+  pub responded : AreAnswered (coa_of config.coa).secret (coa_calls_of run.completes.course.turns run.completes.course.endings)
   -- With status 0 each Stop that was formed was acknowledged by a datagram that was heard later. With status 6 some was not, and the
   -- lines of those that were not were written.
   pub acknowledged : status ≡ 0 → StopsAreAcknowledged (calls_in_run config most seed old new run.completes.course)

@@ -25,9 +25,9 @@ returns-in-New-clause-adds c =
     let target = c.target_of-target.result in
     let names = subst (λ (os : List ℕ). (p : Packet) × IsRequestIn p os × (target ≡ target_of (lead_of p))) c.payload-in-New.ensures.octets c.target_of-target.ensures in
     adds_new named.moment named.wall a number target c.args.coa.now c.admit.new.self c.args.draws.now c.sixteen-random.new.self c.args.lists.now.items.items c.push.new.self.items (replies_in c.args.lists.now.repeats.items)
-    (admitted_as named.moment named.wall c.args.from c.args.cut c.payload.result.now c.args.frame.now.payload (New number) target c.args.coa.now c.admit.new.self c.payload.ensures.octets c.in-New.ensures.answer c.in-New.ensures.after names)
+    (admitted_as named.moment named.wall c.args.from c.args.cut c.payload.result.now c.args.frame.now.payload (New number) target c.args.coa.now c.admit.new.self c.payload.ensures.octets c.in-New.ensures.answer c.in-New.ensures.after c.change.ensures.low names)
     (ap (λ (b : Batch Item). b.items) c.push.ensures ∙ ap (λ (i : Item). c.args.lists.now.items.items ++ i ∷ [])
-    (c.change.ensures ∙ ap (λ (os : List ℕ). let i : Item = record (change_item (record { from = c.args.from; cut = c.args.cut; octets = c.replace-whole.result.payload }) number target) { random = os } in i) c.sixteen-random.ensures.octets
+    (c.change.ensures.item ∙ ap (λ (os : List ℕ). let i : Item = record (change_item (record { from = c.args.from; cut = c.args.cut; octets = c.replace-whole.result.payload }) number target) { random = os } in i) c.sixteen-random.ensures.octets
     ∙ ap (λ (os : List ℕ). let i : Item = record (change_item (record { from = c.args.from; cut = c.args.cut; octets = os }) number target) { random = draw c.args.draws.now.seed c.args.draws.now.drawn } in i) (ap (λ x. x.payload) c.replace-whole.ensures.value)))
     c.sixteen-random.ensures.counted
 
@@ -37,7 +37,7 @@ returns-in-Repeat-clause-adds c =
     let named = c.args.named in
     let frame = c.in-Repeat.reply in
     adds_repeat named.moment named.wall a frame c.args.coa.now c.admit.new.self c.args.draws.now c.args.lists.now.items.items (replies_in c.args.lists.now.repeats.items) (replies_in c.push_reserved.new.self.items)
-    (admitted_as named.moment named.wall c.args.from c.args.cut c.payload.result.now c.args.frame.now.payload (Repeat frame) 0 c.args.coa.now c.admit.new.self c.payload.ensures.octets c.in-Repeat.ensures.answer c.in-Repeat.ensures.after refl)
+    (admitted_as named.moment named.wall c.args.from c.args.cut c.payload.result.now c.args.frame.now.payload (Repeat frame) 0 c.args.coa.now c.admit.new.self c.payload.ensures.octets c.in-Repeat.ensures.answer c.in-Repeat.ensures.after tt refl)
     (ap replies_in c.push_reserved.ensures.items ∙ map-append reply_of c.args.lists.now.repeats.items (record { to = c.args.from; frame = frame } ∷ []))
 
 pub returns-in-InHand-clause-adds : goal.returns-in-InHand-clause-adds
@@ -45,7 +45,7 @@ returns-in-InHand-clause-adds c =
     let a : Arrival = record { from = c.args.from; cut = c.args.cut; octets = c.args.frame.now.payload } in
     let named = c.args.named in
     adds_none named.moment named.wall a InHand c.args.coa.now c.admit.new.self c.args.draws.now c.args.lists.now.items.items (replies_in c.args.lists.now.repeats.items)
-    (admitted_as named.moment named.wall c.args.from c.args.cut c.payload.result.now c.args.frame.now.payload InHand 0 c.args.coa.now c.admit.new.self c.payload.ensures.octets c.in-InHand.ensures.answer c.in-InHand.ensures.after refl) refl refl
+    (admitted_as named.moment named.wall c.args.from c.args.cut c.payload.result.now c.args.frame.now.payload InHand 0 c.args.coa.now c.admit.new.self c.payload.ensures.octets c.in-InHand.ensures.answer c.in-InHand.ensures.after tt refl) refl refl
 
 pub returns-in-Ignored-clause-adds : goal.returns-in-Ignored-clause-adds
 returns-in-Ignored-clause-adds c =
@@ -53,4 +53,4 @@ returns-in-Ignored-clause-adds c =
     let named = c.args.named in
     let cause = c.in-Ignored._cause in
     adds_none named.moment named.wall a (Ignored cause) c.args.coa.now c.admit.new.self c.args.draws.now c.args.lists.now.items.items (replies_in c.args.lists.now.repeats.items)
-    (admitted_as named.moment named.wall c.args.from c.args.cut c.payload.result.now c.args.frame.now.payload (Ignored cause) 0 c.args.coa.now c.admit.new.self c.payload.ensures.octets c.in-Ignored.ensures.answer c.in-Ignored.ensures.after refl) refl refl
+    (admitted_as named.moment named.wall c.args.from c.args.cut c.payload.result.now c.args.frame.now.payload (Ignored cause) 0 c.args.coa.now c.admit.new.self c.payload.ensures.octets c.in-Ignored.ensures.answer c.in-Ignored.ensures.after tt refl) refl refl
