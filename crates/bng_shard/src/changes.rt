@@ -294,6 +294,7 @@ fn obey(
 
 /// Handles a request for a change. What it is answered stands behind the answers before; octets that are no request are not answered, and
 /// change nothing.
+#[inline(never)]
 pub(crate) fn hear_change(
     served: &mut Served,
     terms: &mut Terms,

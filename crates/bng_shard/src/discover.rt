@@ -105,6 +105,7 @@ fn make(
 }
 
 /// Handles a frame of the discovery stage that is no PADT and came to the port with this number.
+#[inline(never)]
 pub(crate) fn hear_discovery(
     served: &mut Served,
     incoming: &Incoming<'_>,

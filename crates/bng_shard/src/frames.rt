@@ -95,6 +95,7 @@ fn control_of(served: &Served, number: u8, frame: &Pppoe<'_>) -> Control
 }
 
 /// Handles a frame that came to the port with this number, names a session and carries no IPv4 packet.
+#[inline(never)]
 pub(crate) fn hear_control(
     served: &mut Served,
     terms: &mut Terms,

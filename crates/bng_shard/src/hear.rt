@@ -1,4 +1,4 @@
-//! One item, by its kind.
+//! One item, by its kind. What handles all but packets is not inlined: it has large frames, which a packet would pay for.
 ghost use Rattle.std.specs.Prelude.{◌≡◌, ◌<◌, ◌≤◌, ◌+◌, ◌^◌, ◌++◌, Option as Maybe, length, option_to_list, vec_capacity};
 ghost use Rattle.bng_base.specs.FateOf.{arrival_of};
 ghost use Rattle.bng_base.specs.declared.item.Entry.{Entry as EntryOf};

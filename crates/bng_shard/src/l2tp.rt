@@ -59,6 +59,7 @@ fn take_step(
 }
 
 // A control message.
+#[inline(never)]
 fn hear_message(
     served: &mut Served,
     terms: &mut Terms,
@@ -111,6 +112,7 @@ fn hearing_of(served: &Served, from: Peer, message: &Data<'_>) -> Hearing
 }
 
 // A PPP frame of a call without an IPv4 packet.
+#[inline(never)]
 fn hear_over(
     served: &mut Served,
     terms: &mut Terms,

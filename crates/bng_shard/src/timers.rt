@@ -238,6 +238,7 @@ fn tick_sessions(
 
 /// Handles a Tick: the timers of each tunnel do what they ask for, by rising number, and where that clears it its calls have ended. Then
 /// those of sessions do, of which one comes after another by its deadline: at most 64.
+#[inline(never)]
 pub(crate) fn tick(
     served: &mut Served,
     terms: &mut Terms,
@@ -294,6 +295,7 @@ fn stop_at_last(served: &mut Served, at: At, now: u64, outs: &mut Batch<OutRecor
 
 /// Handles an End: the sessions with the lowest numbers end, at most 64, and once none stays each tunnel tells its peer that the gateway
 /// shuts down.
+#[inline(never)]
 pub(crate) fn end(
     served: &mut Served,
     terms: &mut Terms,

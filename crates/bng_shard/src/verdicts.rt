@@ -303,6 +303,7 @@ fn settle_question(
 
 /// Handles the octets of a reply to a question. Where the question that the item names is open, its session's link is told what they
 /// come to, with what was answered where they asked for an address; and a term begins where the peer is accepted with one.
+#[inline(never)]
 pub(crate) fn hear_verdict(
     served: &mut Served,
     terms: &mut Terms,
