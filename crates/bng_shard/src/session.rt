@@ -1,7 +1,6 @@
 //! A session: its circuit, and what serves it.
-ghost use Rattle.std.specs.Prelude.{◌≡◌, ◌<◌, ◌^◌, ◌&&◌, Some, length, option_map, IfNone, OnSome};
+ghost use Rattle.std.specs.Prelude.{◌≡◌, ◌<◌, ◌^◌, Some, length, option_map, IfNone, OnSome};
 ghost use Rattle.bng_shard.specs.Calls.{linked_anew};
-ghost use Rattle.bng_shard.specs.Cutting.{is_cut};
 ghost use Rattle.bng_shard.specs.Discovery.{is_repeated, same_option, IsNewLink};
 ghost use Rattle.bng_ppp.specs.PppRelation.{PppSaid, PppSteps};
 ghost use Rattle.bng_ppp.specs.PppState.{PppState};
@@ -11,8 +10,8 @@ ghost use Rattle.std.specs.Option.{option_copied};
 ghost use Rattle.bng_shard.specs.Questions.{open_of};
 ghost use Rattle.bng_shard.specs.Driven.{LastsOver};
 ghost use Rattle.bng_shard.specs.Made.{Made as DiscoveredMade};
-ghost use Rattle.bng_shard.specs.Serving.{is_young, KeepsLease};
-ghost use Rattle.bng_shard.specs.State.{circuit_of, is_connected, is_call_of, is_on, leaves, lives_in, made_one, mru_in, passes_in};
+ghost use Rattle.bng_shard.specs.Serving.{KeepsLease};
+ghost use Rattle.bng_shard.specs.State.{circuit_of, made_one, mru_in, passes_in};
 ghost use Rattle.bng_shard.specs.Metered.{view_of};
 ghost use Rattle.bng_shard.specs.Tenures.{kept_lease};
 ghost use Rattle.bng_shard.specs.Timers.{deadline_of, lease_deadline};
@@ -24,7 +23,7 @@ use crate::meters::Meters;
 use crate::way::Way;
 use arrayvec::ArrayVec;
 use bng_auth::Credentials;
-use bng_base::{Circuit, Ip4, Mac, Peer, SessionNo, TermId};
+use bng_base::{Circuit, Ip4, Mac, SessionNo, TermId};
 use bng_forward::TermView;
 use bng_ppp::{LinkKind, LinkRules, WholeInput, WholeLink, WholeSteps};
 use bng_slots::Slotted;
@@ -253,44 +252,6 @@ impl Session {
         self.way.circuit(self.number)
     }
 
-    /// Whether it is on this port, of this MAC.
-    pub(crate) fn is_on(&self, port: u8, mac: Mac) -> bool
-        ensures { result ≡ is_on port mac self.now }
-    {
-        self.way.is_on(port, mac)
-    }
-
-    /// Whether it is a call of the tunnel with this number, of this peer.
-    pub(crate) fn is_over(&self, from: Peer, tunnel: u16) -> bool
-        ensures { result ≡ is_call_of from tunnel self.now }
-    {
-        self.way.is_over(from, tunnel)
-    }
-
-    /// Whether its call is established (RFC 2661 section 7.4.2).
-    pub(crate) fn is_connected(&self) -> bool
-        ensures { result ≡ is_connected self.now.way }
-    {
-        match &self.way {
-            Way::Port { .. } => false,
-            Way::Call(called) => called.call.is_connected(),
-        }
-    }
-
-    /// Whether its link hears a PPP frame that comes over its call: it has a link and has not ended, and its call is established.
-    pub(crate) fn hears(&self) -> bool
-        ensures { result ≡ (lives_in self.now.service && is_connected self.now.way) }
-    {
-        self.lives() && self.is_connected()
-    }
-
-    /// Whether it is a call of the tunnel with this number, and has not ended.
-    pub(crate) fn is_cut(&self, tunnel: u16) -> bool
-        ensures { result ≡ is_cut tunnel self.now }
-    {
-        self.way.is_of(tunnel) && self.lives()
-    }
-
     /// Whether it was made for the same request before (RFC 2516 section 5.4).
     pub(crate) fn is_repeated(&self, port: u8, mac: Mac, asked: Option<&[u8]>) -> bool
         ensures { result ≡ is_repeated port mac (option_map (λ o. o.now) asked.entry) self.now }
@@ -302,37 +263,6 @@ impl Session {
                     is_same(&made.host_uniq, asked) && !made.ended && !made.link.was_opened()
                 }
             }
-    }
-
-    /// Whether it is at an access port, discovery made it, it has not ended, and its LCP was never Opened.
-    pub(crate) fn is_young(&self) -> bool
-        ensures { result ≡ is_young self.now }
-    {
-        self.way.is_port()
-            && match &self.service {
-                Service::Provisioned { .. } => false,
-                Service::Discovered(made) => !made.ended && !made.link.was_opened(),
-            }
-    }
-
-    /// Whether it has a link, and has not ended.
-    pub(crate) fn lives(&self) -> bool
-        ensures { result ≡ lives_in self.now.service }
-    {
-        match &self.service {
-            Service::Provisioned { .. } => false,
-            Service::Discovered(made) => !made.ended,
-        }
-    }
-
-    /// Whether it has ended, and leaves at the settlement.
-    pub(crate) fn has_ended(&self) -> bool
-        ensures { result ≡ leaves self.now }
-    {
-        match &self.service {
-            Service::Provisioned { ended } => *ended,
-            Service::Discovered(made) => made.ended,
-        }
     }
 
     /// Ends it, and no term of it is live any longer.

@@ -1,5 +1,5 @@
 //! The rows of a shard's terms.
-ghost use Rattle.std.specs.Prelude.{◌≡◌, ◌+◌, ◌^◌, ◌<◌, ◌≤◌, ◌++◌, ◌∷◌, ◌==◌, [], ℕ, Some, None as Nothing, true, cond, count_by, find, is_none, map, option_map, slice_get, length, vec_capacity, IfSome, IfNone};
+ghost use Rattle.std.specs.Prelude.{◌≡◌, ◌+◌, ◌^◌, ◌<◌, ◌∷◌, ◌==◌, [], Some, None as Nothing, true, cond, count_by, find, is_none, map, option_map, slice_get, length, vec_capacity, IfSome, IfNone};
 ghost use Rattle.std.specs.List.{list_any};
 ghost use Rattle.bng_base.specs.declared.item.OutRecord.{OutRecord as Out};
 ghost use Rattle.bng_engine.specs.Calls.{SayMore};

@@ -1,9 +1,9 @@
 //! Which shard an item is for.
-ghost use Rattle.std.specs.Prelude.{◌≡◌, ◌<◌, ◌≤◌, ◌+◌, ◌*◌, ◌%◌, ℕ, [], length};
+ghost use Rattle.std.specs.Prelude.{◌≡◌, ◌<◌, ◌≤◌, ◌+◌, ◌%◌, ℕ, []};
 ghost use Rattle.bng_l2tp_wire.specs.View.{control_of};
 ghost use Rattle.bng_pppoe_wire.specs.View.{frame_of};
 ghost use Rattle.bng_pool.specs.Tables.{entry};
-ghost use Rattle.bng_shard.specs.Whose.{IsWhose, IsForAddress, IsForDatagram, IsForLead, IsForNumbered, IsForRequest, IsForKind, IsForMessage, IsForNumber, IsForRead, IsForSession, IsForTarget, IsForFrame, fold_of, fold_of_peer as peer_fold, NamesShard};
+ghost use Rattle.bng_shard.specs.Whose.{IsWhose, IsForAddress, IsForDatagram, IsForLead, IsForNumbered, IsForRequest, IsForKind, IsForMessage, IsForNumber, IsForRead, IsForSession, IsForTarget, IsForFrame, fold_of, fold_of_peer as peer_fold};
 
 use crate::rules::Rules;
 use bng_base::{DropCause, Fate, Ip4, Item, ItemKind, Mac, Peer};
