@@ -6,7 +6,7 @@ use Rattle.bng_desk.specs.declared.desk.Turned.{Turned}
 use Rattle.bng_base.specs.Stretch.{Outside, Extends}
 use Rattle.bng_desk.specs.Model.{Desk, grace_is_over, is_over, has_ended, has_starved, state_of}
 use Rattle.bng_desk.specs.Turn.{Turn, EndTurn, MakesEnd, MakesGrace, stretch_of, end_stretch, answer_if, turned_of, end_turned}
-use Rattle.bng_gate.specs.Serving.{Late, Ends, Waits, LateStep, late_stretch, made_in, is_serving, is_late, is_starved, is_fault}
+use Rattle.bng_gate.specs.Serving.{Late, Ends, Waits, LateStep, late_stretch, made_in, is_serving, is_late, is_fault}
 
 -- over the tests alone
 abbrev state_by : (over ended done starved : Bool) → DeskState
@@ -66,9 +66,6 @@ left d now e = left_by (is_over d) (has_ended d) (grace_is_over d) (has_starved 
 -- a test that fails is no state
 pub serving_no : (s : DeskState) → is_serving s ≡ false → ¬ (s ≡ Serving)
 serving_no s e = λ is. cc
-
-pub starved_no : (s : DeskState) → is_starved s ≡ false → ¬ (s ≡ Starved)
-starved_no s e = λ is. cc
 
 pub ended_of : (s : DeskState) → (s ≡ Ended) ⊎ (s ≡ Starved) → ¬ (s ≡ Starved) → s ≡ Ended
 ended_of s (inl e) no_starved = e
