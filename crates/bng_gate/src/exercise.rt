@@ -51,10 +51,7 @@ where
         rounds: ROUNDS,
         seed: [0; 32],
     };
-    match serve_all(rt, alloc, ready, &mut plant, &mut clock, trace, gate) {
-        Ok(desk) => Ok(desk),
-        Err(refusal) => Err(refusal),
-    }
+    serve_all(rt, alloc, ready, &mut plant, &mut clock, trace, gate)
 }
 
 // Writes what an exercise of so many subscribers came to, unless its desk starved.
