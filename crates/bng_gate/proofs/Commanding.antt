@@ -16,14 +16,14 @@ use Rattle.bng_gate.specs.declared.texts.Refusal.{Refusal}
 use Rattle.bng_gate.specs.declared.texts.Refusal.TheVariants.{Usage, Refused, CannotOpen, OutOfMemory, TraceFailed, OutputFailed}
 use Rattle.bng_gate.specs.Check.{Checks, IsUnchecked}
 use Rattle.bng_gate.specs.Commands.{CheckEnds, ExerciseEnds, LeavesAll, UsageEnds, AsideEnds, CommandEnds, IsCarriedOut, IsInRange, Outcome, WantsWords, refusal_for}
-use Rattle.bng_gate.specs.Exercise.{Exercised, Exercises, among_peers, exercise_seed, IsPlayed, IsUnplayed, IsUnprinted, TellsLine}
+use Rattle.bng_gate.specs.Exercise.{Exercised, SafelyExercised, Exercises, among_peers, exercise_seed, IsPlayed, IsUnplayed, IsUnprinted, TellsLine}
 use Rattle.bng_gate.specs.Headline.{Headline, IsQuiet, WasSafe}
 use Rattle.bng_gate.specs.Run.{World, Concludes, IsFaultless, IsUnfailed, IsUnprepared, Prepares, Told, turns_most}
 use Rattle.bng_gate.specs.Texts.{status_of}
 use Rattle.bng_gate.proofs.Causes as serving
 use Rattle.bng_gate.proofs.Ends.{ends_with}
 use Rattle.bng_gate.proofs.Headlines.{headline, safe}
-use Rattle.bng_gate.proofs.Played.{exercised}
+use Rattle.bng_gate.proofs.Played.{exercised, safely_exercised}
 
 -- The numbers of a command --------------------------------------------------------------------------------------------------
 
@@ -258,6 +258,11 @@ module _ (words : List (List ℕ)) (old new : World) (status : ℕ) where
   played o subscribers workers says s =
       let range = in_range words (exercise subscribers workers) says in
       exercised subscribers workers range.2 range.3 old new status (ends o (exercise subscribers workers) says) s
+
+  pub safely_played : Outcome words old new status → (subscribers workers : ℕ) → Says words (exercise subscribers workers) → (new.trace ≡ old.trace) ⊎ SafelyExercised workers old new
+  safely_played o subscribers workers says =
+      let range = in_range words (exercise subscribers workers) says in
+      safely_exercised workers range.2 range.3 old new subscribers status (ends o (exercise subscribers workers) says)
 
   pub unfailed : Outcome words old new status → status ≡ 4 → IsUnfailed old new
   unfailed (inl o) s = command_unfailed old new status o.0 o.2 s

@@ -2,7 +2,7 @@
 use Rattle.std.proofs.Common.{◌≡◌, ◌≤◌, ◌⊎◌, inl, inr, ℕ, List, [], None, refl, sym, ap, subst, ◌∙◌, arith}
 use Rattle.bng_base.specs.Causes.{Rose}
 use Rattle.bng_base.specs.Stretch.{Outside}
-use Rattle.bng_base.specs.Told.{ClockTold, TraceTold, SinkTold}
+use Rattle.bng_base.specs.Told.{ClockTold, TraceTold, SinkTold, Grows}
 use Rattle.bng_config.specs.declared.config.Config.{Config}
 use Rattle.bng_desk.specs.declared.desk.DeskState.TheVariants.{Ended}
 use Rattle.bng_desk.specs.Model.{Desk, state_of}
@@ -11,11 +11,12 @@ use Rattle.bng_gate.specs.declared.texts.Opening.TheVariants.{Configuration, See
 use Rattle.bng_gate.specs.declared.texts.Refusal.{Refusal}
 use Rattle.bng_gate.specs.declared.texts.Refusal.TheVariants.{Usage, Refused, CannotOpen, OutOfMemory, TraceFailed, OutputFailed}
 use Rattle.bng_gate.specs.Commands.{ExerciseEnds}
-use Rattle.bng_gate.specs.Exercise.{IsExercise, exercise_seed, among_peers, peers_beside, IsPlayed, IsUnplayed, Prints, TellsLine, Exercises, records_told, line_by, line_over, Exercised}
-use Rattle.bng_gate.specs.Run.{World, outside, turns_most, FailsAt, Course, Completes, CompletesTo, Concludes, IsUnserved, Told}
+use Rattle.bng_gate.specs.Exercise.{IsExercise, exercise_seed, among_peers, peers_beside, IsPlayed, IsUnplayed, Prints, TellsLine, Exercises, records_told, line_by, line_over, Exercised, SafelyExercised}
+use Rattle.bng_gate.specs.Run.{World, outside, turns_most, FailsAt, Course, Completes, CompletesTo, Concludes, IsUnserved, Told, WantsToServe}
 use Rattle.bng_gate.specs.Texts.{status_of}
 use Rattle.bng_gate.specs.Unanswered.{unanswered_of}
-use Rattle.bng_gate.proofs.Headlines.{exercised_of}
+use Rattle.bng_gate.proofs.Exercising.{keeps_rules}
+use Rattle.bng_gate.proofs.Headlines.{exercised_of, safe_of}
 use Rattle.bng_gate.proofs.Refusals.{not_told}
 
 -- No call of the peers fails ------------------------------------------------------------------------------------------------
@@ -75,3 +76,41 @@ by_end subscribers workers some few old new status s (inr t) = absurd (not_told 
 -- with status 0 or 6
 pub exercised : (subscribers workers : ℕ) → 1 ≤ workers → workers ≤ 16 → (old new : World) (status : ℕ) → ExerciseEnds subscribers workers old new status → (status ≡ 0) ⊎ (status ≡ 6) → Exercised subscribers workers status old new
 exercised subscribers workers some few old new status e s = by_end subscribers workers some few old new status s e.exercises
+
+-- The turns that were made ----------------------------------------------------------------------------------------------------
+
+module _ (workers : ℕ) (some : 1 ≤ workers) (few : workers ≤ 16) (old new : World) where
+  abbrev UntoldOrSafe : Type 0
+  UntoldOrSafe = (new.trace ≡ old.trace) ⊎ SafelyExercised workers old new
+
+  turned_safe : (config : Config) → IsExercise workers config → (last : ℕ) → Course config turns_most exercise_seed (outside (peers_beside 0 old)) (outside (peers_beside last new)) → UntoldOrSafe
+  turned_safe config is last course =
+      inr (record {
+        config = config;
+        is_exercise = is;
+        last = last;
+        course = course;
+        traced = subst (λ (t : TraceTold). Grows t.rounds new.trace.rounds (records_told course.turns course.endings)) course.untraced course.told.rounds;
+        safe = safe_of config (keeps_rules workers some few config is) turns_most exercise_seed (peers_beside 0 old) (peers_beside last new) course;
+      })
+
+  wants_safe : (config : Config) → IsExercise workers config → (last : ℕ) → WantsToServe config turns_most exercise_seed (among_peers 0 old.trace) (among_peers last new.trace) → UntoldOrSafe
+  wants_safe config is last (inl w) = inl w.1
+  wants_safe config is last (inr c) = turned_safe config is last c.course
+
+  unplayed_safe : (refusal : Refusal) → IsUnplayed workers old.trace new.trace refusal → UntoldOrSafe
+  unplayed_safe Usage w = absurd w
+  unplayed_safe (Refused fault) w = absurd w
+  unplayed_safe (CannotOpen what) w = absurd w
+  unplayed_safe OutOfMemory (inl same) = inl same
+  unplayed_safe OutOfMemory (inr w) = wants_safe w.config w.is_exercise w.last w.wants
+  unplayed_safe TraceFailed w = turned_safe w.config w.is_exercise w.last w.fails.course
+  unplayed_safe OutputFailed w = absurd w
+
+  all_safe : (subscribers status : ℕ) → Exercises subscribers workers old.trace new.trace old.out new.out old.err new.err status → UntoldOrSafe
+  all_safe subscribers status (inl e) = turned_safe e.1.config e.1.is_exercise e.1.last e.1.completes.completes.course
+  all_safe subscribers status (inr e) = unplayed_safe e.0 e.1
+
+  -- with whatever status
+  pub safely_exercised : (subscribers status : ℕ) → ExerciseEnds subscribers workers old new status → (new.trace ≡ old.trace) ⊎ SafelyExercised workers old new
+  safely_exercised subscribers status e = all_safe subscribers status e.exercises

@@ -233,3 +233,15 @@ pub record Exercised (subscribers workers status : ℕ) (old new : World) : Type
   pub printed : Grows old.out.bytes new.out.bytes (line_over subscribers config course.turns course.endings)
   -- With status 0 each Stop that was formed was acknowledged by a datagram that was heard later.
   pub acknowledged : status ≡ 0 → StopsAreAcknowledged (calls_in_run config turns_most exercise_seed (peers_beside 0 old) (peers_beside last new) course)
+
+-- What holds of the turns that an exercise made, whatever status it ended with.
+pub record SafelyExercised (workers : ℕ) (old new : World) : Type 0 where
+  -- The configuration of an exercise was served from the moment 0 on, in these turns.
+  pub config : Config
+  pub is_exercise : IsExercise workers config
+  pub last : ℕ
+  pub course : Course config turns_most exercise_seed (outside (peers_beside 0 old)) (outside (peers_beside last new))
+  -- The trace was told the rounds of these turns that it took, each once and in order, and no other.
+  pub traced : Grows old.trace.rounds new.trace.rounds (records_told course.turns course.endings)
+  -- They are a run of the gateway from its opening state, of which all holds that holds of a run over sockets.
+  pub safe : IsSafe config turns_most exercise_seed (peers_beside 0 old) (peers_beside last new) course

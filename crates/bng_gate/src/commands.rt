@@ -7,7 +7,7 @@ ghost use Rattle.bng_config.specs.Configuration.{HasFault};
 ghost use Rattle.bng_words.specs.Words.{texts as words_of};
 ghost use Rattle.bng_words.specs.Meaning.{Meaning, Says, meaning_of, serve as serving, exercise as exercising};
 ghost use Rattle.bng_gate.specs.Commands.{CommandEnds, UsageEnds, Outcome, IsCarriedOut, IsInRange, refusal_for};
-ghost use Rattle.bng_gate.specs.Exercise.{Exercised};
+ghost use Rattle.bng_gate.specs.Exercise.{Exercised, SafelyExercised};
 ghost use Rattle.bng_gate.specs.Headline.{Headline, IsQuiet, WasSafe};
 ghost use Rattle.bng_gate.specs.Run.{Prepares, IsUnfailed, IsFaultless};
 
@@ -173,6 +173,12 @@ where
     // An exercise with status 0 or 6: the trace was told the rounds of a run from the opening state of an exercise's configuration, and each
     // number of the line printed is its sum over these rounds.
     ensures exercised { (subscribers workers : ℕ) → Says (words_of words.now.items) (exercising subscribers workers) → (result ≡ 0) ⊎ (result ≡ 6) → Exercised subscribers workers result
+        (record { files = F.told files.old; plant = P.told plant.old; clock = C.told clock.old; entropy = E.told entropy.old; trace = T.told trace.old; out = O.told out.old; err = X.told err.old })
+        (record { files = F.told files.new; plant = P.told plant.new; clock = C.told clock.new; entropy = E.told entropy.new; trace = T.told trace.new; out = O.told out.new; err = X.told err.new }) }
+
+    // An exercise with whatever status: the trace was told nothing, or what the headline says of the turns holds of
+    // those that were made, and the trace was told their rounds.
+    ensures safely_exercised { (subscribers workers : ℕ) → Says (words_of words.now.items) (exercising subscribers workers) → (T.told trace.new ≡ T.told trace.old) ⊎ SafelyExercised workers
         (record { files = F.told files.old; plant = P.told plant.old; clock = C.told clock.old; entropy = E.told entropy.old; trace = T.told trace.old; out = O.told out.old; err = X.told err.old })
         (record { files = F.told files.new; plant = P.told plant.new; clock = C.told clock.new; entropy = E.told entropy.new; trace = T.told trace.new; out = O.told out.new; err = X.told err.new }) }
 

@@ -1,4 +1,4 @@
-use Rattle.bng_gate.proofs.Commanding.{complete, ends, faulty, no_command, played, safely, served, unfailed}
+use Rattle.bng_gate.proofs.Commanding.{complete, ends, faulty, no_command, played, safely, safely_played, served, unfailed}
 use Rattle.bng_gate.proofs.commands.run.Goals as goal
 
 pub returns-clause-ends : goal.returns-clause-ends
@@ -15,6 +15,9 @@ returns-clause-safe g c = safely _ _ _ _ c.obey.ensures
 
 pub returns-clause-exercised : goal.returns-clause-exercised
 returns-clause-exercised g c = played _ _ _ _ c.obey.ensures
+
+pub returns-clause-safely_exercised : goal.returns-clause-safely_exercised
+returns-clause-safely_exercised g c = safely_played _ _ _ _ c.obey.ensures
 
 pub returns-clause-unfailed : goal.returns-clause-unfailed
 returns-clause-unfailed g c = unfailed _ _ _ _ c.obey.ensures
