@@ -69,6 +69,7 @@ pub mod Replacing
 pub mod Controls
 pub mod Calling
 pub mod CutLaws
+pub mod Clearing
 pub mod Vacating
 pub mod DueLaws
 pub mod BookLaws

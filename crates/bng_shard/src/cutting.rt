@@ -1,7 +1,7 @@
 //! What a tunnel that was cleared leaves: each of its calls has ended (RFC 2661 section 6.4).
 ghost use Rattle.std.specs.Prelude.{◌≡◌, ◌==◌, ◌&&◌, not};
 ghost use Rattle.bng_shard.specs.declared.rules.Rules.{Rules as RulesOf};
-ghost use Rattle.bng_shard.specs.Cutting.{cut_at, cut_if as cut_where, cut_off as cut_all};
+ghost use Rattle.bng_shard.specs.Cutting.{cut_at, cut_if as cut_where, cut_off as cut_all, Clears};
 ghost use Rattle.bng_shard.specs.Fits.{ArePlaced};
 ghost use Rattle.bng_shard.specs.Running.{whole, KeepSums};
 
@@ -28,9 +28,10 @@ fn cut_one(served: &mut Served, terms: &mut Terms, number: SessionNo, tunnel: Tu
     served.put(session);
 }
 
-// So have all calls of the tunnel.
+// So have all calls of the tunnel, and nothing else changed.
 fn cut_off(served: &mut Served, terms: &mut Terms, tunnel: TunnelNo)
     ensures cut { whole served.new terms.new ≡ cut_all tunnel.0 (whole served.old terms.old) }
+    ensures clears { Clears tunnel.0 (whole served.old terms.old) (whole served.new terms.new) }
     ensures sums { KeepSums terms.old terms.new }
     ensures shard { served.new.sessions.shard ≡ served.old.sessions.shard }
     ensures placed { (r : RulesOf) → ArePlaced r served.old.sessions → ArePlaced r served.new.sessions }

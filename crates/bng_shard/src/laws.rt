@@ -1,6 +1,7 @@
 //! The laws that the steps of a shard meet.
-ghost use Rattle.std.specs.Prelude.{find, IsSome, None, ◌≡◌, ◌≢◌, ◌⊎◌, ◌+◌, ◌-◌, ◌^◌, ◌/◌, ◌<◌, ◌≤◌, ◌++◌, ℕ, Bool, List, [], Some, count_by, is_some, length, if◌then◌else◌};
-ghost use Rattle.bng_base.specs.declared.item.ItemKind.TheVariants.{End};
+ghost use Rattle.std.specs.Prelude.{find, IsSome, None, true, false, ◌≡◌, ◌≢◌, ◌⊎◌, ◌+◌, ◌-◌, ◌^◌, ◌/◌, ◌<◌, ◌≤◌, ◌++◌, ℕ, Bool, List, [], Some, count_by, is_some, length, if◌then◌else◌};
+ghost use Rattle.bng_base.specs.declared.item.At.{At};
+ghost use Rattle.bng_base.specs.declared.item.ItemKind.TheVariants.{End, Tunnel};
 ghost use Rattle.bng_engine.specs.Protocol.{Alike, StepLaws};
 ghost use Rattle.bng_engine.specs.Views.{row_keys};
 ghost use Rattle.std.specs.List.{All, AllByRecursion, AllPairs, Contains};
@@ -9,8 +10,15 @@ ghost use Rattle.bng_base.specs.declared.book.Profile.{Profile};
 ghost use Rattle.bng_base.specs.declared.circuit.Circuit.TheVariants.{Pppoe};
 ghost use Rattle.bng_base.specs.declared.item.OutRecord.{OutRecord};
 ghost use Rattle.bng_base.specs.declared.settings.Static.{Static};
+ghost use Rattle.bng_l2tp_tunnel.specs.View.{Said};
+ghost use Rattle.bng_l2tp_wire.specs.Messages.{ControlMessage};
+ghost use Rattle.bng_lns.specs.Datagrams.{IsControlIn};
+ghost use Rattle.bng_lns.specs.Timed.{Telling, reminded};
+ghost use Rattle.bng_lns.specs.Tunnels.{Steps};
 ghost use Rattle.bng_slots.specs.Sessions.{IsNumberOf};
 ghost use Rattle.bng_shard.specs.declared.rules.Rules.{Rules};
+ghost use Rattle.bng_shard.specs.Cutting.{Clears};
+ghost use Rattle.bng_shard.specs.Datagrams.{heard_by};
 ghost use Rattle.bng_shard.specs.Deed.{Deed, is_forwarded};
 ghost use Rattle.bng_shard.specs.Protocol.{ShardState, Handled, opened, pppoe, packet_octets, sessions_of};
 ghost use Rattle.bng_radius_wire.specs.Attributes.{Field};
@@ -25,6 +33,7 @@ ghost use Rattle.bng_shard.specs.Reader.{IsWhole};
 ghost use Rattle.bng_shard.specs.State.{State, count_in, settled};
 ghost use Rattle.bng_shard.specs.Step.{Step};
 ghost use Rattle.bng_shard.specs.Tenures.{Tenure};
+ghost use Rattle.bng_shard.specs.Timers.{RemindsOne};
 
 /// The steps of a shard meet the laws on which the accounts of a run rest: each packet that is charged is of a live term, on its
 /// circuit and with its address, and the octets of each datagram are read as its charge says. Each datagram is a whole IPv4 packet as its
@@ -136,4 +145,14 @@ pub fn terms_of_circuits_are_apart()
         → All (λ k. k.term.session.0 / 1024 ≡ number) (row_keys (opened number rules circuits now).rows) }
     ensures apart { (number : ℕ) (rules : Rules) (circuits : List Static) (now : ℕ) → number < 64 → All (λ c. IsNumberOf number c.session.0) circuits → AllPairs (λ a b. a.session ≢ b.session) circuits
         → AllPairs (λ j k. j.term.session ≢ k.term.session) (row_keys (opened number rules circuits now).rows) }
+{}
+
+/// A tunnel that is cleared leaves no call that lives (RFC 2661 section 6.4): in the step of the message by which its peer clears it, or
+/// when its timers clear it, each of its calls ends, with its live term, and nothing else does. 0 is no tunnel's number.
+pub fn cleared_tunnels_leave_no_calls()
+    ensures heard { (r : Rules) (s : State) (limited : Bool) (d : Deed) → Step r s limited d → IsSound s → (m : ControlMessage) (number : ℕ) (said : Said)
+        → d.entry.item.kind ≡ Tunnel → IsControlIn d.entry.item.cut d.entry.item.frame.payload m → (heard_by r s d.entry m).answer ≡ Steps number said
+        → said.call ≡ false → said.cleared ≡ true → number ≢ 0 → Clears number s d.next }
+    ensures reminded { (k : ℕ) (a : At) (now : ℕ) (s : State) (outs : List OutRecord) (next : State) → RemindsOne k a now s outs next → IsSound s
+        → (t : Telling) → (reminded now s.tunnels k).told ≡ Some t → t.said.cleared ≡ true → t.number ≢ 0 → Clears t.number s next }
 {}

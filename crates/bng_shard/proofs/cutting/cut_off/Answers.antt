@@ -1,5 +1,7 @@
-use Rattle.std.proofs.Common.{◌≡◌, ◌+◌, ◌*◌, ◌∙◌, refl, arith}
+use Rattle.std.proofs.Common.{◌≡◌, ◌+◌, ◌*◌, ◌∙◌, refl, subst, sym, arith}
+use Rattle.bng_shard.specs.Cutting.{Clears}
 use Rattle.bng_shard.specs.Running.{whole}
+use Rattle.bng_shard.proofs.Clearing.{cut_off_clears}
 use Rattle.bng_shard.proofs.CutLaws.{cuts_begin, cuts_done, cuts_more}
 use Rattle.bng_shard.proofs.SumsKept.{keeps_same, keeps_then}
 use Rattle.bng_shard.proofs.cutting.cut_off.Goals as goal
@@ -27,3 +29,8 @@ returns-clause-cut c =
     let start : first ≡ c.args.served.now.sessions.shard * 1024 + 1 = omega arith in
     let all : c.loop-n.n ≡ first + 1022 = omega (arith, c.loop-n-test.false, c.loop-n.auto.n-end) in
     cuts_done c.args.tunnel.0 first c.loop-n.n (whole c.args.served.now c.args.terms.now) (whole c.loop-n.served c.loop-n.terms) start all c.loop-n.invariant.cut
+
+pub returns-clause-clears : goal.returns-clause-clears
+returns-clause-clears c =
+    let s = whole c.args.served.now c.args.terms.now in
+    subst (Clears c.args.tunnel.0 s) (sym (returns-clause-cut c)) (cut_off_clears c.args.tunnel.0 s c.shard.ensures.own)
