@@ -18,7 +18,7 @@ use Rattle.bng_shard.specs.declared.terms.Asked.{Asked}
 use Rattle.bng_shard.specs.Changes.{Applies, Found, HearsChange, Obeys, asked, by_session, changed_by, found_by, found_with, is_asked_for, lease_for, lease_if, meant, place_of, recast_by, refusal_of, with_its_session}
 use Rattle.bng_shard.specs.Deed.{Deed, handled, ignored}
 use Rattle.bng_shard.specs.Link.{admin_reset}
-use Rattle.bng_shard.specs.Protocol.{key_in, term_in}
+use Rattle.bng_shard.specs.Protocol.{term_in}
 use Rattle.bng_shard.specs.State.{State, leaves}
 use Rattle.bng_shard.specs.Tenures.{Tenure, is_over}
 use Rattle.bng_shard.specs.Timers.{LosesTerm}
@@ -143,19 +143,7 @@ change_comes r s e d (inr (p, reads, h)) = obeyed_comes r s e d (refusal_of r p)
 
 -- Terms under another profile ----------------------------------------------------------------------------------------------
 
--- their keys stay
-one_key : (b : Bool) (place : ℕ) (t : Tenure) → key_in (cond b (record t { profile = place }) t) ≡ key_in t
-one_key true place t = refl
-one_key false place t = refl
-
-pub recast_keys : (serial place : ℕ) (ts : List Tenure) → map key_in (map (recast_by serial place) ts) ≡ map key_in ts
-recast_keys serial place [] = refl
-recast_keys serial place (t ∷ ts) =
-    let key = one_key ((t.term.serial == serial) && not (is_over t)) place t in
-    let rest = recast_keys serial place ts in
-    λ i. key i ∷ rest i
-
--- and each has a profile below a number that all were below, and the new one is
+-- each has a profile below a number that all were below, and the new one is
 one_below : (n : ℕ) (b : Bool) (place : ℕ) (t : Tenure) → place < n → t.profile < n → (cond b (record t { profile = place }) t).profile < n
 one_below n true place t low h = low
 one_below n false place t low h = h

@@ -36,6 +36,7 @@ use Rattle.bng_shard.specs.State.{State, is_way_of, lives_in, with_ended, with_t
 use Rattle.bng_shard.specs.Step.{Hears, Step}
 use Rattle.bng_shard.specs.Tenures.{Tenure, closed, is_over, over_by}
 use Rattle.bng_shard.specs.Timers.{RemindsOne}
+use Rattle.bng_shard.proofs.Closing.{one_over}
 use Rattle.bng_shard.proofs.Tunnelling.{not_both}
 use Rattle.bng_shard.proofs.Values.{found_at, none_found, none_some, same_some}
 
@@ -175,15 +176,12 @@ module _ (tunnel : ℕ) where
       ap (λ (b : Bool). cond (b && not (is_over t)) (record t { cause = Some lost_carrier }) t) (eq-eqb t.term.serial serial e)
       ∙ (elim (is_over t) as (λ b. cond (not b) (record t { cause = Some lost_carrier }) t ≡ (if b then t else record t { cause = Some lost_carrier })) [ true ↦ refl | false ↦ refl ])
 
-  over_other : (serial : ℕ) (t : Tenure) → t.term.serial ≢ serial → over_by serial lost_carrier t ≡ t
-  over_other serial t d = ap (λ (b : Bool). cond (b && not (is_over t)) (record t { cause = Some lost_carrier }) t) (ne_eqb t.term.serial serial d)
-
   abbrev Either : Tenure → Tenure → Type 0
   Either t t' = (t' ≡ t) ⊎ (t' ≡ lost t)
 
   either_closed : (o : Option Lease) (t : Tenure) → Either t (close_one o t)
   either_closed None t = inl refl
-  either_closed (Some l) t = elim (cases_eq t.term.serial l.serial) [ inl e ↦ inr (over_this l.serial t e) | inr d ↦ inl (over_other l.serial t d) ]
+  either_closed (Some l) t = elim (cases_eq t.term.serial l.serial) [ inl e ↦ inr (over_this l.serial t e) | inr d ↦ inl (one_over l.serial lost_carrier t d) ]
 
   either : (o : Option Session) (t : Tenure) → Either t (term_after o t)
   either None t = inl refl
@@ -225,7 +223,7 @@ module _ (tunnel : ℕ) where
 
   other_closed : (o : Option Lease) (t : Tenure) → ((l : Lease) → o ≡ Some l → t.term.serial ≢ l.serial) → close_one o t ≡ t
   other_closed None t none = refl
-  other_closed (Some l) t none = over_other l.serial t (none l refl)
+  other_closed (Some l) t none = one_over l.serial lost_carrier t (none l refl)
 
   other_after : (s : State) (n : ℕ) (t : Tenure) (o : Option Session) → value_at s.sessions n ≡ o → NoneHas s t → term_after o t ≡ t
   other_after s n t None at none = refl

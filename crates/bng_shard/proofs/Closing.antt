@@ -4,12 +4,13 @@ use Rattle.std.specs.Prelude.{◌&&◌, not}
 use Rattle.std.specs.List.{AllByRecursion}
 use Rattle.std.proofs.Math.ListN.{get_or, set}
 use Rattle.std.proofs.lemmas.Bool.{eq-eqb, ne_eqb}
+use Rattle.bng_engine.specs.Calls.{SayTheSame}
 use Rattle.bng_engine.specs.Lists.{AnyOf}
-use Rattle.bng_engine.specs.Views.{Row}
+use Rattle.bng_engine.specs.Views.{Row, rows_where}
 use Rattle.bng_shard.specs.declared.session.Lease.{Lease}
 use Rattle.bng_shard.specs.declared.terms.Running.{Running}
 use Rattle.bng_shard.specs.Running.{AreRising, HasSerial, IsPlaceOf, closed_rows, ended_by, has_ended, row_from, row_over_by, rows_in, tenure_in, tenures_in}
-use Rattle.bng_shard.specs.Tenures.{Tenure, closed, over_by}
+use Rattle.bng_shard.specs.Tenures.{Tenure, closed, is_over, over_by}
 
 -- the row of another number is as it was
 other_row : (serial cause : ℕ) (r : Running) → (r.term.serial ≡ serial → ⊥) → row_over_by serial cause r ≡ r
@@ -87,3 +88,22 @@ pub closed_sums : (lease : Option Lease) (cause : Option ℕ) (rs : List Running
 closed_sums None cause rs = refl
 closed_sums (Some l) None rs = refl
 closed_sums (Some l) (Some cause) rs = over_rows l.serial cause rs
+
+-- so the sums over them say the same
+pub closed_same : (lease : Option Lease) (cause : Option ℕ) (rows : List Running) → SayTheSame (rows_in rows) (rows_in (closed_rows lease cause rows))
+closed_same lease cause rows q pick input = ap (λ (rs : List Row). rows_where q pick input rs) (closed_sums lease cause rows)
+
+-- a term with another number is as it was
+pub one_over : (serial cause : ℕ) (t : Tenure) → (t.term.serial ≡ serial → ⊥) → over_by serial cause t ≡ t
+one_over serial cause t other = ap (λ (b : Bool). cond (b && not (is_over t)) (record t { cause = Some cause }) t) (ne_eqb t.term.serial serial other)
+
+-- and what held of it still does
+any_over : (P : Tenure → Type 0) (serial cause : ℕ) (ts : List Tenure) → ((t : Tenure) → P t → t.term.serial ≡ serial → ⊥) → AnyOf P ts → AnyOf P (map (over_by serial cause) ts)
+any_over P serial cause [] other any = absurd any
+any_over P serial cause (t ∷ ts) other (inl is) = inl (subst P (sym (one_over serial cause t (other t is))) is)
+any_over P serial cause (t ∷ ts) other (inr later) = inr (any_over P serial cause ts other later)
+
+pub any_closed : (P : Tenure → Type 0) (lease : Option Lease) (cause : Option ℕ) (ts : List Tenure) → ((l : Lease) → lease ≡ Some l → (t : Tenure) → P t → t.term.serial ≡ l.serial → ⊥) → AnyOf P ts → AnyOf P (closed lease cause ts)
+any_closed P None cause ts other any = any
+any_closed P (Some l) None ts other any = any
+any_closed P (Some l) (Some cause) ts other any = any_over P l.serial cause ts (other l refl) any

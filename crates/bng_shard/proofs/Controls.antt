@@ -64,12 +64,6 @@ going : (b : Bool) → not b ≡ true → b ≡ false
 going true h = absurd (let never : ⊥ = cc in never)
 going false h = refl
 
--- the session of a frame lives
-pub lives_there : (s : State) (port : ℕ) (mac : Mac) (n : ℕ) → IsControl (session_of s port mac n) Heard → lives_at s n ≡ true
-lives_there s port mac n h =
-    let is = heard_is (session_of s port mac n) h in
-    ap does_live (stands_at s port mac n is.0 is.1) ∙ is.2
-
 module _ (r : Rules) (s : State) (a : At) (item : Item) (outs : List OutRecord) (here : a.shard ≡ s.sessions.shard) (number : ℕ) (p : PppoeFrame) where
   abbrev its : Option Session
   its = session_of s number p.src p.session

@@ -6,7 +6,7 @@ use Rattle.bng_slots.specs.Listed.{values}
 use Rattle.bng_shard.specs.declared.session.Session.{Session}
 use Rattle.bng_shard.specs.Due.{sessions_due}
 use Rattle.bng_shard.specs.State.{State}
-use Rattle.bng_shard.specs.Timers.{deadline_of, IsFirstDue, NoneIsDue}
+use Rattle.bng_shard.specs.Timers.{deadline_of}
 use Rattle.bng_shard.proofs.Values.{none_some, numbered, same_some, stands}
 
 -- what is read of a value
@@ -75,19 +75,3 @@ module _ (s : State) where
 
   pub due_none : ((n : ℕ) → read_at deadline_of s.sessions n ≡ None) → sessions_due s ≡ None
   due_none none = fold_none (values s.sessions) (λ x c. let n = numbered s.sessions x c in sym (ap (option_and_then deadline_of) n.1) ∙ none n.0)
-
-  pub first_due : (now moment n : ℕ) → IsEarliest deadline_of s.sessions moment n → moment ≤ now → IsFirstDue s now n
-  first_due now moment n is due = record {
-    deadline = moment;
-    is = is.has;
-    due = due;
-    first = is.first;
-  }
-
-  pub none_due_yet : (now moment n : ℕ) → IsEarliest deadline_of s.sessions moment n → now < moment → NoneIsDue s now
-  none_due_yet now moment n is late m deadline e =
-      let least = at_most moment deadline n m (is.first m deadline e) in
-      omega (arith, least, late)
-
-  pub none_has : (now : ℕ) → ((n : ℕ) → read_at deadline_of s.sessions n ≡ None) → NoneIsDue s now
-  none_has now none m deadline e = absurd (none_some deadline (sym (none m) ∙ e))

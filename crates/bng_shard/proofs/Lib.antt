@@ -8,7 +8,6 @@ pub mod SameKeys
 pub mod InCircuits
 pub mod ListParts
 pub mod LeavingFirst
-pub mod Beginning
 pub mod Tunnelling
 pub mod Changing
 pub mod Obeying

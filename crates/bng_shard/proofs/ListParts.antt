@@ -16,19 +16,6 @@ module _ {X : Type 0} where
   pairs_left R (b ∷ before) after x h (suc i) (suc j) d lt within =
       pairs_left R before after x (λ k l e below inside. h (suc k) (suc l) e (omega (arith, below)) (omega (arith, inside))) i j d (omega (arith, lt)) (omega (arith, within))
 
-  pub all_more : (P : X → Type 0) (xs : List X) (x : X) → All P xs → P x → All P (xs ++ x ∷ [])
-  all_more P [] x h is zero d lt = is
-  all_more P [] x h is (suc k) d lt = absurd (omega (arith, lt))
-  all_more P (y ∷ xs) x h is zero d lt = h zero d (omega arith)
-  all_more P (y ∷ xs) x h is (suc k) d lt = all_more P xs x (λ j e within. h (suc j) e (omega (arith, within))) is k d (omega (arith, lt))
-
-  pub pairs_more : (R : X → X → Type 0) (xs : List X) (x : X) → AllPairs R xs → All (λ (y : X). R y x) xs → AllPairs R (xs ++ x ∷ [])
-  pairs_more R [] x h is i j d lt within = absurd (omega (arith, lt, within))
-  pairs_more R (y ∷ xs) x h is i zero d lt within = absurd (omega (arith, lt))
-  pairs_more R (y ∷ xs) x h is zero (suc j) d lt within = all_more (R y) xs x (λ k e l. h zero (suc k) e (omega arith) (omega (arith, l))) (is zero y (omega arith)) j d (omega (arith, within))
-  pairs_more R (y ∷ xs) x h is (suc i) (suc j) d lt within =
-      pairs_more R xs x (λ k l e below inside. h (suc k) (suc l) e (omega (arith, below)) (omega (arith, inside))) (λ k e l. is (suc k) e (omega (arith, l))) i j d (omega (arith, lt)) (omega (arith, within))
-
   pub any_more : (P : X → Type 0) (xs ys : List X) → AnyOf P xs → AnyOf P (xs ++ ys)
   any_more P [] ys any = absurd any
   any_more P (x ∷ xs) ys (inl is) = inl is
@@ -44,7 +31,3 @@ module _ {X : Type 0} where
   any_left P [] after x other (inr later) = later
   any_left P (b ∷ before) after x other (inl is) = inl is
   any_left P (b ∷ before) after x other (inr later) = inr (any_left P before after x other later)
-
-  pub any_within : (P : X → Type 0) (before after : List X) (x : X) → P x → AnyOf P (before ++ x ∷ after)
-  any_within P [] after x is = inl is
-  any_within P (b ∷ before) after x is = inr (any_within P before after x is)

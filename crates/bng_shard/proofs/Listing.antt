@@ -100,10 +100,6 @@ taken_length false n numbers none = omega arith
 pub taken_none : (test : Session → Bool) (x : Session) (numbers : List SessionNo) → test x ≡ false → without_listed test x numbers ≡ numbers
 taken_none test x numbers fails = ap {B = List SessionNo} (λ (b : Bool). cond b (filter (λ (m : SessionNo). not (m.0 == x.number.0)) numbers) numbers) fails
 
--- and loses its number where one goes that passes
-pub taken_all : (test : Session → Bool) (x : Session) (numbers : List SessionNo) → test x ≡ true → without_listed test x numbers ≡ filter (λ (m : SessionNo). not (m.0 == x.number.0)) numbers
-taken_all test x numbers passes = ap {B = List SessionNo} (λ (b : Bool). cond b (filter (λ (m : SessionNo). not (m.0 == x.number.0)) numbers) numbers) passes
-
 bit_few : (b : Bool) → cond b 1 0 ≤ 1
 bit_few true = omega arith
 bit_few false = omega arith

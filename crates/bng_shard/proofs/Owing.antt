@@ -1,12 +1,12 @@
 -- The live terms that owe an Interim: the first of them, and those that are left once it is taken.
-use Rattle.std.proofs.Common.{◌≡◌, ◌≢◌, inl, inr, ℕ, ◌+◌, ◌-◌, ◌*◌, ◌%◌, ◌<◌, ◌≤◌, Bool, true, false, not, cond, T, List, [], ◌∷◌, map, Option, Some, None, refl, sym, ap, subst, ◌∙◌, arith}
+use Rattle.std.proofs.Common.{◌≡◌, ◌≢◌, ℕ, ◌+◌, ◌-◌, ◌*◌, ◌%◌, ◌<◌, ◌≤◌, Bool, true, false, not, cond, T, List, [], ◌∷◌, map, Option, Some, None, refl, sym, ap, subst, ◌∙◌, arith}
 use Rattle.std.specs.Prelude.{nat_le, filter, filter_map, is_some, IfSome}
 use Rattle.std.specs.List.{cons_option}
 use Rattle.std.specs.Option.{option_and_then, option_map_or}
 use Rattle.std.specs.Ordering.{nat_cmp, eq_by_cmp}
 use Rattle.std.specs.FinMap.{entries, entries_sorted, is_sorted, get-entries}
 use Rattle.std.specs.FinMap.{find as find_at}
-use Rattle.std.proofs.lemmas.Bool.{cases_eq, false≢true}
+use Rattle.std.proofs.lemmas.Bool.{false≢true}
 use Rattle.std.proofs.lemmas.Bool.Decides.{nat_tests}
 use Rattle.std.proofs.lemmas.List.{get_or-set_other}
 use Rattle.std.proofs.lemmas.Nat.{mod-mul-add}
@@ -107,17 +107,9 @@ after_minute : (now : ℕ) (o : Option ℕ) → IfSome o (λ at. now + 60000 ≤
 after_minute now None h = h
 after_minute now (Some at) h = omega (arith, h)
 
-pub at_least : (next now : ℕ) (o : Option ℕ) → next ≤ now → IfSome o (λ at. now + 60000 ≤ at) → IfSome o (λ at. next ≤ at)
-at_least next now None l h = h
-at_least next now (Some at) l h = omega (arith, l, h)
-
 pub first_part : (now until : ℕ) (o : Option ℕ) → IfSome o (λ at. (now < at) × (until ≤ at)) → IfSome o (λ at. now < at)
 first_part now until None h = h
 first_part now until (Some at) h = h.0
-
-pub second_part : (now until : ℕ) (o : Option ℕ) → IfSome o (λ at. (now < at) × (until ≤ at)) → IfSome o (λ at. until ≤ at)
-second_part now until None h = h
-second_part now until (Some at) h = h.1
 
 pub once_due : (next now : ℕ) (o : Option ℕ) → now < next → IfSome o (λ at. next ≤ at) → IfSome o (λ at. now < at)
 once_due next now None l h = h
@@ -172,16 +164,6 @@ module _ (s : State) (last : List ℕ) (now : ℕ) (n : SessionNo) (h : IsFirstO
       (first_of_these (owes last now) (owes (with_report last now n) now) s.sessions n.0 h.session h.found h.due (later_fails now _ (after_minute now _ spaced)) h.first
       (λ m y differ at. ap (λ o. option_map_or (λ at. nat_le at now) o false) (other_reported last now n y (h.apart m y differ at))))
       ∙ ap (λ o. cons_option o (owing rows s.sessions (with_report last now n) now)) is
-
-  -- and none is due before the moment before which none was
-  pub still_awaits : (next : ℕ) → next ≤ now → ((m : ℕ) (x : Session) → value_at s.sessions m ≡ Some x → IfSome (interim_at last x) (λ at. next ≤ at))
-      → (m : ℕ) (x : Session) → value_at s.sessions m ≡ Some x → IfSome (interim_at (with_report last now n) x) (λ at. next ≤ at)
-  still_awaits next l awaits m x is = elim (cases_eq m n.0) [
-    | inl e ↦
-        let same : h.session ≡ x = same_some h.session x (sym h.found ∙ ap (λ k. value_at s.sessions k) (sym e) ∙ is) in
-        subst (λ (y : Session). IfSome (interim_at (with_report last now n) y) (λ at. next ≤ at)) same (at_least next now _ l spaced)
-    | inr differ ↦ subst (λ o. IfSome o (λ at. next ≤ at)) (sym (other_reported last now n x (h.apart m x differ is))) (awaits m x is)
-  ]
 
 -- What was answered --------------------------------------------------------------------------------------------------------
 

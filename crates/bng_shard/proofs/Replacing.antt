@@ -1,7 +1,5 @@
 -- A session that is taken out and put back under its number.
 use Rattle.std.proofs.Common.{◌≡◌, ℕ, Bool, true, false, List, Option, Some, None, option_map, inl, inr, refl, sym, ap, subst, ◌∙◌}
-use Rattle.std.specs.Cmp.{nat_cmp_total}
-use Rattle.std.specs.FinMap.{get, same_map, nat_cmp-IsAntisymmetric}
 use Rattle.std.proofs.lemmas.Bool.{cases_eq, false≢true}
 use Rattle.bng_slots.specs.Sessions.{Sessions, IsNumberOf, NoneShares, value_at, with_value, without}
 use Rattle.bng_slots.proofs.SessionLaws.{value_at-with_value, value_at-with_other, value_at-without, with_value-without}
@@ -23,16 +21,6 @@ use Rattle.bng_shard.specs.Tenures.{Tenure, closed, kept_lease}
 use Rattle.bng_shard.specs.Timers.{lives_at, does_live}
 use Rattle.bng_shard.proofs.Closing.{closed_tenures}
 use Rattle.bng_shard.proofs.Values.{none_some, same_some}
-
--- a session is put where it stands
-pub with_same : (ss : Sessions Session) (n : ℕ) (x : Session) → value_at ss n ≡ Some x → with_value ss n x ≡ ss
-with_same ss n x is =
-    let each : (q : ℕ) → get (with_value ss n x).by_number q ≡ get ss.by_number q = λ q.
-    elim (cases_eq q n) [
-      | inl e ↦ ap (λ k. value_at (with_value ss n x) k) e ∙ value_at-with_value ss n x ∙ sym is ∙ ap (λ k. value_at ss k) (sym e)
-      | inr d ↦ value_at-with_other ss n x q d
-    ] in
-    ap (λ m. record { shard = ss.shard; by_number = m }) (same_map nat_cmp_total nat_cmp-IsAntisymmetric (with_value ss n x).by_number ss.by_number each)
 
 module _ (s s₁ : State) (n m : ℕ) (taken : s₁ ≡ record s { sessions = without s.sessions n }) (same : m ≡ n) where
   pub number_back : IsNumberOf s.sessions.shard n → IsNumberOf s₁.sessions.shard m

@@ -36,9 +36,6 @@ all_from : (P : Running → Type 0) (rows : List Running) → ((j : ℕ) (d : Ru
 all_from P [] h = tt
 all_from P (r ∷ rs) h = (h 0 r (omega arith), all_from P rs (λ j d lt. h (suc j) d (omega (arith, lt))))
 
-pub none_meant : (over : Bool) (rows : List Running) → IsFirstOf over rows (length rows) None → NoneIsMeant over rows
-none_meant over rows h = all_from (λ (p : Running). is_meant over p ≡ false) rows (λ j d lt. h j d lt)
-
 -- a list without one of its elements
 all_others : (P : Running → Type 0) (rows : List Running) (p : ℕ) → p < length rows → ((j : ℕ) (d : Running) → j < length rows → p ≢ j → P (get_or rows j d)) → AllByRecursion P (take p rows ++ drop (suc p) rows)
 all_others P [] p lt h = absurd (omega (arith, lt))

@@ -1,5 +1,5 @@
 -- The rows of a shard's terms stand by rising numbers, and a send adds to the row of its term.
-use Rattle.std.proofs.Common.{◌≡◌, inl, inr, ℕ, zero, suc, ◌+◌, ◌<◌, ◌≤◌, Bool, true, false, cond, List, [], ◌∷◌, filter, length, Some, Result, Ok, Err, MatchResult, refl, ap, sym, ◌∙◌, subst, arith}
+use Rattle.std.proofs.Common.{◌≡◌, inl, inr, ℕ, zero, suc, ◌+◌, ◌<◌, ◌≤◌, Bool, true, cond, List, [], ◌∷◌, length, Some, Result, Ok, Err, MatchResult, refl, ap, sym, ◌∙◌, subst, arith}
 use Rattle.std.proofs.Math.ListN.{get_or, set}
 use Rattle.std.specs.List.{AllByRecursion}
 use Rattle.std.specs.List.Sorted.{IsSearchInRange, IsBinarySearchResult, IsNonDecreasingBy}
@@ -51,23 +51,6 @@ keys_rise (r ∷ rs) h = (above_keys r.term.serial rs h.0, keys_rise rs h.1)
 -- and as long as the keys stay
 pub same_rising : (rs rs' : List Running) → row_keys (rows_in rs') ≡ row_keys (rows_in rs) → AreRising rs → AreRising rs'
 same_rising rs rs' e h = rows_rise rs' (subst KeysRise (sym e) (keys_rise rs h))
-
-above_kept : (n : ℕ) (p : Running → Bool) (rs : List Running) → AllByRecursion (λ (r : Running). n < r.term.serial) rs → AllByRecursion (λ (r : Running). n < r.term.serial) (filter p rs)
-above_kept n p [] h = tt
-above_kept n p (r ∷ rs) h =
-    elim (p r) as (λ b. AllByRecursion (λ (q : Running). n < q.term.serial) (cond b (r ∷ filter p rs) (filter p rs))) [
-      | true ↦ (h.0, above_kept n p rs h.1)
-      | false ↦ above_kept n p rs h.1
-    ]
-
--- and where some are taken off
-pub rising_kept : (p : Running → Bool) (rs : List Running) → AreRising rs → AreRising (filter p rs)
-rising_kept p [] h = tt
-rising_kept p (r ∷ rs) h =
-    elim (p r) as (λ b. AreRising (cond b (r ∷ filter p rs) (filter p rs))) [
-      | true ↦ (above_kept r.term.serial p rs h.0, rising_kept p rs h.1)
-      | false ↦ rising_kept p rs h.1
-    ]
 
 -- Where a row stands ---------------------------------------------------------------------------------------------------------
 

@@ -13,7 +13,6 @@ use Rattle.bng_shard.specs.declared.session.Service.{Service}
 use Rattle.bng_shard.specs.declared.session.Service.TheVariants.{Provisioned, Discovered}
 use Rattle.bng_shard.specs.declared.session.Session.{Session}
 use Rattle.bng_shard.specs.Indexed.{address_of, term_of}
-use Rattle.bng_shard.specs.Listing.{does_pass}
 use Rattle.bng_shard.specs.Serving.{AreApart, AreLeased, AreOwn, AreOfShard, KeepsLease}
 use Rattle.bng_shard.specs.declared.way.Way.{Way}
 use Rattle.bng_shard.specs.declared.way.Way.TheVariants.{Port, Call}
@@ -35,10 +34,6 @@ pub stay_there : (o : Option Session) → does_stay o ≡ true → (x : Session)
 stay_there None h = absurd (false≢true h)
 stay_there (Some x) h = (x, refl, not_ended (leaves x) h)
 
-pub passes_there : (test : Session → Bool) (o : Option Session) → does_pass test o ≡ true → (x : Session) × (o ≡ Some x) × (test x ≡ true)
-passes_there test None h = absurd (false≢true h)
-passes_there test (Some x) h = (x, refl, h)
-
 -- a session that lives stays
 stays_in : (v : Service) (x : Session) → x.service ≡ v → lives_in v ≡ true → not (leaves x) ≡ true
 stays_in (Provisioned p) x is h = absurd (false≢true h)
@@ -55,10 +50,6 @@ session_in (L2tp peer tunnel session) = session.0
 its_session : (way : Way) (n : SessionNo) → session_in (circuit_in way n) ≡ n.0
 its_session (Port port mac) n = refl
 its_session (Call c) n = refl
-
-abbrev session_of_term : Option TermId → ℕ
-session_of_term None = 0
-session_of_term (Some t) = t.session.0
 
 term_session : (o : Option Lease) (x : Session) (t : TermId) → x.lease ≡ o → term_of x ≡ Some t → t.session ≡ x.number
 term_session None x t is e = absurd (none_some t (sym (ap (λ (l : Option Lease). term_of (record x { lease = l })) is) ∙ e))

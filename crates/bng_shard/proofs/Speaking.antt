@@ -1,13 +1,12 @@
 -- What a session's link said, as an entry tells it.
-use Rattle.std.proofs.Common.{◌≡◌, ℕ, ◌+◌, ◌≤◌, List, Option, None, length, ap, subst, ◌∙◌, arith, length-append}
+use Rattle.std.proofs.Common.{◌≡◌, ℕ, ◌+◌, ◌≤◌, List, Option, length, ap, subst, ◌∙◌, arith, length-append}
 use Rattle.bng_base.specs.declared.item.Entry.{Entry}
 use Rattle.bng_base.specs.declared.item.Item.{Item}
 use Rattle.bng_base.specs.declared.item.OutRecord.{OutRecord}
 use Rattle.bng_ppp.specs.declared.rules.LinkRules.{LinkRules}
 use Rattle.bng_ppp.specs.Layers.{Turn}
 use Rattle.bng_ppp.specs.PppRelation.{PppSaid, after_turn, ended_by, said_of}
-use Rattle.bng_ppp.specs.PppState.{PppState, is_open}
-use Rattle.bng_ppp.specs.Verdict.{Settles}
+use Rattle.bng_ppp.specs.PppState.{PppState}
 use Rattle.bng_ppp.specs.WholeFrame.{HearsOctets}
 use Rattle.bng_shard.specs.declared.rules.Rules.{Rules}
 use Rattle.bng_base.specs.declared.item.At.{At}
@@ -15,7 +14,7 @@ use Rattle.bng_shard.specs.declared.session.Session.{Session}
 use Rattle.bng_shard.specs.State.{Beside, State}
 use Rattle.bng_shard.specs.Deed.{at_of}
 use Rattle.bng_shard.specs.Driven.{Driven}
-use Rattle.bng_shard.specs.Link.{Drives, LinkStep, HearsPppFrame, IsToldVerdict, Told}
+use Rattle.bng_shard.specs.Link.{Drives, LinkStep, HearsPppFrame}
 use Rattle.bng_shard.specs.Protocol.{entry_of}
 use Rattle.bng_shard.proofs.Carrying.{its_place}
 
@@ -25,16 +24,6 @@ pub heard : (r : LinkRules) (octets : List ℕ) (now : ℕ) (random : List ℕ) 
 heard r octets now random old says new t cause (hears, is) said state = record {
   turn = t;
   heard = hears;
-  said = said ∙ ap (said_of t) is;
-  state = state;
-}
-
--- a link that is told a verdict
-pub judged : (r : LinkRules) (v : Told) (now : ℕ) (random : List ℕ) (old : PppState) (says : PppSaid) (new : PppState) (t : Turn) (cause : Option ℕ)
-    → Settles (is_open old.auth) v.yes r v.lease v.text now random old t × (cause ≡ None) → says ≡ said_of t cause → new ≡ after_turn t → IsToldVerdict r v now random old says new
-judged r v now random old says new t cause (settles, is) said state = record {
-  turn = t;
-  settles = settles;
   said = said ∙ ap (said_of t) is;
   state = state;
 }

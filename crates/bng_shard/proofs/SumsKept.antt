@@ -3,7 +3,7 @@ use Rattle.std.proofs.Common.{◌≡◌, ℕ, List, map, Option, refl, sym, ap, 
 use Rattle.bng_engine.specs.Views.{Row, rows_where}
 use Rattle.bng_shard.specs.declared.session.Lease.{Lease}
 use Rattle.bng_shard.specs.Running.{KeepSums, SumsStay, TermsView, closed_rows, row_recast_by}
-use Rattle.bng_shard.proofs.Beginning.{closed_same}
+use Rattle.bng_shard.proofs.Closing.{closed_same}
 use Rattle.bng_shard.proofs.Recasting.{recast_rows}
 
 pub keeps_same : (t : TermsView) → KeepSums t t

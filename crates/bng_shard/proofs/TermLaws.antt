@@ -12,7 +12,7 @@ use Rattle.bng_base.specs.declared.item.ItemKind.TheVariants.{Access, Core, Tunn
 use Rattle.bng_base.specs.declared.item.OutRecord.{OutRecord}
 use Rattle.bng_base.specs.declared.settings.NamedRange.{NamedRange}
 use Rattle.bng_engine.specs.Protocol.{HaveProfiles}
-use Rattle.bng_engine.specs.Terms.{Term, is_ended, is_live, keys}
+use Rattle.bng_engine.specs.Terms.{Term, is_live, keys}
 use Rattle.bng_grant.specs.Grants.{Gift}
 use Rattle.bng_ppp.specs.declared.whole_input.WholeInput.TheVariants.{Start, Close}
 use Rattle.bng_coa.specs.Wants.{wanted}
@@ -145,15 +145,6 @@ live_left (t ∷ ts) =
 -- once those that ended have left, the live terms are there
 pub settled_terms : (s : State) → terms_there (settled s) ≡ filter is_live (terms_there s)
 settled_terms s = live_left s.terms
-
--- where none has ended, all are live
-pub all_live : (ts : List Term) → filter is_ended ts ≡ [] → filter is_live ts ≡ ts
-all_live [] h = refl
-all_live (t ∷ ts) h =
-    elim t.ended as (λ b. cond b (t ∷ filter is_ended ts) (filter is_ended ts) ≡ [] → cond (not b) (t ∷ filter is_live ts) (filter is_live ts) ≡ t ∷ ts) [
-      | true ↦ λ e. absurd (cc)
-      | false ↦ λ e. ap (λ (us : List Term). t ∷ us) (all_live ts e)
-    ] h
 
 -- States ---------------------------------------------------------------------------------------------------------------------
 

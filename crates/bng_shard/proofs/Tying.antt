@@ -33,7 +33,7 @@ use Rattle.bng_shard.specs.Step.{Step}
 use Rattle.bng_shard.specs.Tenures.{Tenure, closed, is_over, kept_lease, over_by}
 use Rattle.bng_shard.specs.Verdicts.{Judges, next_lease, next_term, settled_by, with_term}
 use Rattle.bng_shard.proofs.Naming.{call_stays, way_stays}
-use Rattle.bng_shard.proofs.Beginning.{any_closed}
+use Rattle.bng_shard.proofs.Closing.{any_closed}
 use Rattle.bng_shard.proofs.Changing.{found_is}
 use Rattle.bng_shard.proofs.ListParts.{any_last, any_more}
 use Rattle.bng_shard.proofs.SeenLeases.{looked_was, seen_at}

@@ -1,5 +1,5 @@
 -- The values of a finite map by number: which of them stands under which number, and what a list, a sum and a search over them become.
-use Rattle.std.proofs.Common.{◌≡◌, ◌≢◌, ℕ, zero, suc, ◌+◌, ◌-◌, ◌*◌, ◌<◌, ◌≤◌, Bool, true, false, cond, T, ◌&&◌, List, [], ◌∷◌, ◌++◌, map, length, Some, None, is_some, find, filter, flat_map, sum_by, Contains, inl, inr, refl, sym, ap, subst, ◌∙◌, arith}
+use Rattle.std.proofs.Common.{◌≡◌, ◌≢◌, ℕ, zero, suc, ◌+◌, ◌-◌, ◌*◌, ◌<◌, ◌≤◌, Bool, true, false, cond, T, ◌&&◌, List, [], ◌∷◌, ◌++◌, map, length, Some, None, is_some, find, filter, sum_by, Contains, inl, inr, refl, sym, ap, subst, ◌∙◌, arith}
 use Rattle.std.specs.declared.cmp.Ordering.TheVariants.{Less, Equal, Greater}
 use Rattle.std.specs.Ordering.{nat_cmp, eq_by_cmp, is_eq, is_lt}
 use Rattle.std.specs.Cmp.{nat_cmp_total}
@@ -8,7 +8,6 @@ use Rattle.std.specs.FinMap.{find as find_at}
 use Rattle.std.specs.FinMap.Entries.{below_all, by_order}
 use Rattle.std.proofs.lemmas.Bool.{cases_lt, cases_eq, false≢true}
 use Rattle.std.proofs.lemmas.Bool.Decides.{nat_tests}
-use Rattle.std.proofs.lemmas.List.Concat.{flat_map-append}
 use Rattle.std.proofs.lemmas.List.Sums.{sum_by-cons, sum_by-append}
 use Rattle.bng_slots.specs.Sessions.{Sessions, IsNumberOf, value_at, used, with_value}
 use Rattle.bng_slots.specs.Listed.{values}
@@ -75,10 +74,6 @@ none_passes p (y ∷ xs) x none (suc k, l, is) =
       | true ↦ λ f. absurd (none_some y (sym f))
       | false ↦ λ f. none_passes p xs x f (k, omega arith, is)
     ] none
-
-find-append_none : {A : Type 0} (p : A → Bool) (xs ys : List A) (y : A) → p y ≡ false → find p (xs ++ y ∷ ys) ≡ find p (xs ++ ys)
-find-append_none p [] ys y fails = ap (λ b. cond b (Some y) (find p ys)) fails
-find-append_none p (x ∷ xs) ys y fails = ap (λ o. cond (p x) (Some x) o) (find-append_none p xs ys y fails)
 
 -- a sum of ones at most
 pub sum_at_most : {A : Type 0} (f : A → ℕ) (xs : List A) → ((x : A) → f x ≤ 1) → sum_by f xs ≤ length xs
@@ -190,20 +185,6 @@ module _ {V : Type 0} where
           become = λ v. ap (λ o. map (λ p. p.1) (by_order o ((n, v) ∷ e ∷ es) ((e.0, v) ∷ es) (e ∷ put nat_cmp n v es))) r;
         }
         | Greater ↦ λ r f. behind_first n e es (w ∷ []) r (split_used n w es (second _ _ h) f)
-      ] refl is
-
-  split_vacant : (n : ℕ) (es : List (ℕ × V)) → find_at nat_cmp n es ≡ None → Split n es []
-  split_vacant n [] is = record { before = []; after = []; were = refl; become = λ v. refl }
-  split_vacant n (e ∷ es) is =
-      elim (nat_cmp n e.0) as (λ r. nat_cmp n e.0 ≡ r → cond (is_eq r) (Some e.1) (find_at nat_cmp n es) ≡ None → Split n (e ∷ es) []) [
-        | Less ↦ λ r f. record {
-          before = [];
-          after = map (λ p. p.1) (e ∷ es);
-          were = refl;
-          become = λ v. ap (λ o. map (λ p. p.1) (by_order o ((n, v) ∷ e ∷ es) ((e.0, v) ∷ es) (e ∷ put nat_cmp n v es))) r;
-        }
-        | Equal ↦ λ r f. absurd (none_some e.1 (sym f))
-        | Greater ↦ λ r f. behind_first n e es [] r (split_vacant n es f)
       ] refl is
 
   below_kept : (p : V → Bool) (x : ℕ) (es : List (ℕ × V)) → T (below_all nat_cmp x es) → T (below_all nat_cmp x (filter (λ e. p e.1) es))
@@ -319,45 +300,6 @@ module _ {V : Type 0} where
   pub around_used : (s : Sessions V) (n : ℕ) (w : V) → value_at s n ≡ Some w → Around s n (w ∷ [])
   around_used s n w is = around s n (w ∷ []) (split_used n w (entries s.by_number) (entries_sorted s.by_number) (sym (get-entries s.by_number n) ∙ is))
 
-  pub around_vacant : (s : Sessions V) (n : ℕ) → value_at s n ≡ None → Around s n []
-  around_vacant s n is = around s n [] (split_vacant n (entries s.by_number) (sym (get-entries s.by_number n) ∙ is))
-
-  -- a value for another that has as much of f
-  pub flat_map-replaced : {B : Type 0} (f : V → List B) (s : Sessions V) (n : ℕ) (w v : V) → value_at s n ≡ Some w → f v ≡ f w → flat_map f (values (with_value s n v)) ≡ flat_map f (values s)
-  flat_map-replaced f s n w v is same =
-      let a = around_used s n w is in
-      ap (flat_map f) (a.become v) ∙ flat_map-append f a.before (v ∷ a.after)
-      ∙ ap (λ ys. flat_map f a.before ++ (ys ++ flat_map f a.after)) same
-      ∙ sym (ap (flat_map f) a.were ∙ flat_map-append f a.before (w ∷ a.after))
-
-  pub flat_map-added : {B : Type 0} (f : V → List B) (s : Sessions V) (n : ℕ) (v : V) → value_at s n ≡ None → f v ≡ [] → flat_map f (values (with_value s n v)) ≡ flat_map f (values s)
-  flat_map-added f s n v is none =
-      let a = around_vacant s n is in
-      ap (flat_map f) (a.become v) ∙ flat_map-append f a.before (v ∷ a.after)
-      ∙ ap (λ ys. flat_map f a.before ++ (ys ++ flat_map f a.after)) none
-      ∙ sym (ap (flat_map f) a.were ∙ flat_map-append f a.before a.after)
-
-  -- a value that has nothing of f, where there was nothing of it
-  pub flat_map-with_value : {B : Type 0} (f : V → List B) (s : Sessions V) (n : ℕ) (v : V) → f v ≡ [] → ((w : V) → value_at s n ≡ Some w → f w ≡ []) → flat_map f (values (with_value s n v)) ≡ flat_map f (values s)
-  flat_map-with_value f s n v none was =
-      elim (value_at s n) as (λ o. value_at s n ≡ o → flat_map f (values (with_value s n v)) ≡ flat_map f (values s)) [
-        | None ↦ λ is. flat_map-added f s n v is none
-        | Some w ↦ λ is. flat_map-replaced f s n w v is (none ∙ sym (was w is))
-      ] refl
-
-  -- a search passes over a value that fails, where none passed
-  pub find-with_value : (p : V → Bool) (s : Sessions V) (n : ℕ) (v : V) → p v ≡ false → ((w : V) → value_at s n ≡ Some w → p w ≡ false) → find p (values (with_value s n v)) ≡ find p (values s)
-  find-with_value p s n v fails was =
-      elim (value_at s n) as (λ o. value_at s n ≡ o → find p (values (with_value s n v)) ≡ find p (values s)) [
-        | None ↦ λ is.
-            let a = around_vacant s n is in
-            ap (find p) (a.become v) ∙ find-append_none p a.before a.after v fails ∙ sym (ap (find p) a.were)
-        | Some w ↦ λ is.
-            let a = around_used s n w is in
-            ap (find p) (a.become v) ∙ find-append_none p a.before a.after v fails
-            ∙ sym (ap (find p) a.were ∙ find-append_none p a.before a.after w (was w is))
-      ] refl
-
   pub sum_by-replaced : (f : V → ℕ) (s : Sessions V) (n : ℕ) (w v : V) → value_at s n ≡ Some w → sum_by f (values (with_value s n v)) + f w ≡ sum_by f (values s) + f v
   sum_by-replaced f s n w v is =
       let a = around_used s n w is in
@@ -425,33 +367,3 @@ module _ {V : Type 0} where
         | None ↦ λ e. refl
         | Some x ↦ λ e. let was = kept_from p s n x e in absurd (false≢true (sym (fails x was.0) ∙ was.1))
       ] refl
-
-  -- what has nothing of f may leave
-  flat_map-filter : {B : Type 0} (f : V → List B) (p : V → Bool) (xs : List V) → ((x : V) → p x ≡ false → f x ≡ []) → flat_map f (filter p xs) ≡ flat_map f xs
-  flat_map-filter f p [] none = refl
-  flat_map-filter f p (x ∷ xs) none =
-      let rest = flat_map-filter f p xs none in
-      elim (p x) as (λ b. p x ≡ b → flat_map f (cond b (x ∷ filter p xs) (filter p xs)) ≡ f x ++ flat_map f xs) [
-        | true ↦ λ is. ap (λ ys. f x ++ ys) rest
-        | false ↦ λ is. rest ∙ sym (ap (λ ys. ys ++ flat_map f xs) (none x is))
-      ] refl
-
-  pub flat_map-kept : {B : Type 0} (f : V → List B) (p : V → Bool) (s : Sessions V) → ((x : V) → p x ≡ false → f x ≡ []) → flat_map f (values (kept p s)) ≡ flat_map f (values s)
-  flat_map-kept f p s none = ap (flat_map f) (values-kept p s) ∙ flat_map-filter f p (values s) none
-
-  sum_by-filter : (f : V → ℕ) (p : V → Bool) (xs : List V) → sum_by f (filter p xs) ≤ sum_by f xs
-  sum_by-filter f p [] = omega arith
-  sum_by-filter f p (x ∷ xs) =
-      let rest = sum_by-filter f p xs in
-      let all = sum_by-cons f x xs in
-      let left = sum_by-cons f x (filter p xs) in
-      elim (p x) as (λ b. sum_by f (cond b (x ∷ filter p xs) (filter p xs)) ≤ sum_by f (x ∷ xs)) [
-        | true ↦ omega (arith, rest, all, left)
-        | false ↦ omega (arith, rest, all)
-      ]
-
-  pub sum_by-kept : (f : V → ℕ) (p : V → Bool) (s : Sessions V) → sum_by f (values (kept p s)) ≤ sum_by f (values s)
-  sum_by-kept f p s =
-      let few = sum_by-filter f p (values s) in
-      let same = ap (sum_by f) (values-kept p s) in
-      omega (arith, few, same)

@@ -175,8 +175,3 @@ rest_waiting s handed a own of_shard within e =
     let is : value_at s n ≡ Some x = get-entries s.by_number n ∙ f in
     (own n x is, of_shard n (ap is_some is)) in
     rest_left handed (asked (values s)) a (apart_all s.shard (entries s.by_number) (entries_sorted s.by_number) numbered) within e
-
--- where none waits, none is left
-pub none_left : (qs : List Asking) → slice_get qs 0 ≡ None → qs ≡ drop 1 qs
-none_left [] e = refl
-none_left (a ∷ qs) e = absurd (none_some a (sym e))

@@ -7,8 +7,7 @@ use Rattle.bng_grant.specs.Grants.{Gift, IsGrant}
 use Rattle.bng_grant.specs.Grants.IsGrant.{Replied as Given, NoReply as NotGiven}
 use Rattle.bng_grant.proofs.One.{one_grant}
 use Rattle.bng_term.specs.Lifetimes.{HasAllowedInterval}
-use Rattle.bng_verdict.specs.Verdicts.{Saying, IsVerdict, silence}
-use Rattle.bng_verdict.specs.Verdicts.IsVerdict.{Silent, Replied, NoReply}
+use Rattle.bng_verdict.specs.Verdicts.{Saying, IsVerdict}
 use Rattle.bng_verdict.proofs.One.{one_verdict}
 use Rattle.bng_shard.specs.declared.meters.Plan.{Plan}
 use Rattle.bng_shard.specs.declared.rules.Rules.{Rules}
@@ -35,13 +34,6 @@ not_false false e = absurd (let absent : ⊥ = cc in absent)
 pub not_so : (b : Bool) → not b ≡ true → b ≡ false
 not_so true e = absurd (let absent : ⊥ = cc in absent)
 not_so false e = refl
-
--- a yes is said by a packet, which gives something
-pub yes_gives : (octets : List ℕ) (v : Saying) → IsVerdict octets (Some v) → v.yes ≡ true → IsGrant octets None → ⊥
-yes_gives octets v (Silent none told) accepts grant = both v.yes accepts (ap (λ (s : Saying). s.yes) (same v silence told))
-yes_gives octets v (Replied p reply told) accepts (Given q is g gives e) = never g e
-yes_gives octets v (Replied p reply told) accepts (NotGiven other e) = other p (record { packet = reply.packet; few = reply.few })
-yes_gives octets v (NoReply some other told) accepts grant = never v (sym told)
 
 at_least : (o : Option ℕ) (v : ℕ) → option_map (λ (n : ℕ). max n 60) o ≡ Some v → 60 ≤ v
 at_least None v e = absurd (never v e)
