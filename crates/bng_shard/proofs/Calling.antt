@@ -25,7 +25,7 @@ use Rattle.bng_shard.specs.declared.session.Session.{Session}
 use Rattle.bng_shard.specs.declared.way.Called.{Called}
 use Rattle.bng_shard.specs.declared.way.Way.{Way}
 use Rattle.bng_shard.specs.declared.way.Way.TheVariants.{Port, Call}
-use Rattle.bng_shard.specs.Calls.{AsksForCall, HearsCallMessage, MakesCall, MakesSession, TakesForCall, TakesForNone, TakesFound, TakesIfLives, TurnsCall, call_after, call_step, called_over, linked_anew, number_for, session_over, step_outs, stepped, turned}
+use Rattle.bng_shard.specs.Calls.{AsksForCall, HearsCallMessage, MakesSession, TakesForCall, TakesForNone, TakesFound, TakesIfLives, TurnsCall, call_after, call_step, called_over, linked_anew, number_for, session_over, step_outs, stepped, turned}
 use Rattle.bng_shard.specs.Deed.{Deed, at_of, handled, tunnel_outs}
 use Rattle.bng_shard.specs.Discovery.{IsNewLink, IsVacancy}
 use Rattle.bng_shard.specs.Doing.{DoesWith}
@@ -94,11 +94,11 @@ vacancy_number (Some m) n e = ap (λ (k : SessionNo). k.0) e
 -- What is done ---------------------------------------------------------------------------------------------------------
 
 -- a session is made of a call, with the terms
-pub makes_so : (o : Option ℕ) (unmade : Bool) (c : Called) (r : Rules) (e : Entry) (s s₁ s' : State) (u : TunnelsState) (t : TermsView) (number : ℕ) (tunnel : TunnelState) (call : CallState) → s₁ ≡ with_tunnels s u
-    → c ≡ called_over e.item.from number tunnel call → MakesSession o unmade c e.item.random s₁ s' → MakesCall o unmade number tunnel call r (with_tunnels (whole s t) u) e (whole s' t)
-makes_so None unmade c r e s s₁ s' u t number tunnel call is same h = ap (λ (q : State). whole q t) (h ∙ is)
-makes_so (Some n) true c r e s s₁ s' u t number tunnel call is same h = ap (λ (q : State). whole q t) (h ∙ is)
-makes_so (Some n) false c r e s s₁ s' u t number tunnel call is same (link, new, next) =
+pub makes_so : (o : Option ℕ) (unmade : Bool) (c c' : Called) (random : List ℕ) (s s₁ s' : State) (u : TunnelsState) (t : TermsView) → s₁ ≡ with_tunnels s u → c ≡ c' → MakesSession o unmade c random s₁ s'
+    → MakesSession o unmade c' random (with_tunnels (whole s t) u) (whole s' t)
+makes_so None unmade c c' random s s₁ s' u t is same h = ap (λ (q : State). whole q t) (h ∙ is)
+makes_so (Some n) true c c' random s s₁ s' u t is same h = ap (λ (q : State). whole q t) (h ∙ is)
+makes_so (Some n) false c c' random s s₁ s' u t is same (link, new, next) =
     (link, new, ap (λ (q : State). whole q t) (next ∙ ap (λ (q : State). with_session q n (session_over n c link)) is) ∙ ap (λ (k : Called). with_session (with_tunnels (whole s t) u) n (session_over n k link)) same)
 
 module _ (r : Rules) (s : State) (a : At) (item : Item) (outs : List OutRecord) (here : a.shard ≡ s.sessions.shard) (now number : ℕ) (heard : Said) (m : ControlMessage) (tunnel : TunnelState) (stands : tunnel_at s.tunnels number ≡ Some tunnel) where
@@ -115,8 +115,8 @@ module _ (r : Rules) (s : State) (a : At) (item : Item) (outs : List OutRecord) 
 
   -- an ICRQ was answered
   pub asks : (vacancy : Option ℕ) → IsVacancy s vacancy → (told : Said) → told ≡ (call_step tunnel heard (fresh tunnel.secret (number_for vacancy)) m now).said → AllByRecursion IsSpelled told.outs → length told.outs ≤ 9
-      → (s' : State) → MakesCall vacancy (told.ended || told.left_out) number tunnel (call_after (fresh tunnel.secret (number_for vacancy)) m) r (stepped s entry number (call_step tunnel heard (fresh tunnel.secret (number_for vacancy)) m now)) entry s'
-      → (outs' : List OutRecord) → outs' ≡ outs ++ tunnel_outs a item.from told.outs → DoesWith (λ e d. AsksForCall number heard m r s e d) 10 s s' outs outs' a now item Consumed
+      → (s' : State) → MakesSession vacancy (told.ended || told.left_out) (called_over item.from number tunnel (call_after (fresh tunnel.secret (number_for vacancy)) m)) item.random (stepped s entry number (call_step tunnel heard (fresh tunnel.secret (number_for vacancy)) m now)) s'
+      → (outs' : List OutRecord) → outs' ≡ outs ++ tunnel_outs a item.from told.outs → DoesWith (λ e d. AsksForCall number heard m s e d) 10 s s' outs outs' a now item Consumed
   asks vacancy free told is spelled few s' makes outs' are =
       let call = fresh tunnel.secret (number_for vacancy) in
       let step : Step = call_step tunnel heard call m now in
@@ -135,7 +135,7 @@ module _ (r : Rules) (s : State) (a : At) (item : Item) (outs : List OutRecord) 
           is_step = refl;
           spelled = subst (λ (x : Said). AllByRecursion IsSpelled x.outs) is spelled;
           next = s';
-          makes = subst (λ (x : Said). MakesCall vacancy (x.ended || x.left_out) number tunnel (call_after call m) r (stepped s entry number step) entry s') is makes;
+          makes = subst (λ (x : Said). MakesSession vacancy (x.ended || x.left_out) (called_over item.from number tunnel (call_after call m)) item.random (stepped s entry number step) s') is makes;
           done = refl;
         };
         outs_are = sent_by told step.said outs' is are;
@@ -196,9 +196,9 @@ module _ (r : Rules) (s s' : State) (outs outs' : List OutRecord) (a : At) (now 
   abbrev its_entry : Entry
   its_entry = entry_of a.seat a.place now item
 
-  pub hears_asked : (b : Bool) → b ≡ true → DoesWith (λ e d. AsksForCall number heard m r s e d) 10 s s' outs outs' a now item Consumed → DoesWith (λ e d. HearsCallMessage b number heard m r s e d) 10 s s' outs outs' a now item Consumed
+  pub hears_asked : (b : Bool) → b ≡ true → DoesWith (λ e d. AsksForCall number heard m s e d) 10 s s' outs outs' a now item Consumed → DoesWith (λ e d. HearsCallMessage b number heard m r s e d) 10 s s' outs outs' a now item Consumed
   hears_asked b is =
-      does_more s s' outs outs' a now item Consumed (λ e d. AsksForCall number heard m r s e d) (λ e d. HearsCallMessage b number heard m r s e d) 10 10 (omega arith)
+      does_more s s' outs outs' a now item Consumed (λ e d. AsksForCall number heard m s e d) (λ e d. HearsCallMessage b number heard m r s e d) 10 10 (omega arith)
       (λ d says. subst (λ (c : Bool). HearsCallMessage c number heard m r s its_entry d) (sym is) says)
 
   -- for the call of a session that lives

@@ -68,7 +68,7 @@ use Rattle.bng_shard.specs.declared.way.Called.{Called}
 use Rattle.bng_shard.specs.declared.way.Way.{Way}
 use Rattle.bng_shard.specs.declared.way.Way.TheVariants.{Port, Call}
 use Rattle.bng_shard.specs.State.{Beside, State, beside_at, call_of, lives_in, session_of, with_driven, with_ended, with_session, with_tunnels}
-use Rattle.bng_shard.specs.Calls.{AsksForCall, HearsCallMessage, MakesCall, TakesForCall, TakesForNone, TakesFound, TakesIfLives, TurnsCall, call_after, call_step, called_session, is_icrq, linked_anew, number_for, step_outs, stepped, turned}
+use Rattle.bng_shard.specs.Calls.{AsksForCall, HearsCallMessage, MakesSession, TakesForCall, TakesForNone, TakesFound, TakesIfLives, TurnsCall, call_after, call_step, called_over, is_icrq, linked_anew, number_for, session_over, step_outs, stepped, turned}
 use Rattle.bng_shard.specs.Changes.{AnswersKind, AnswersRequest, Applies, Found, HearsChange, IsAnswerOf, Obeys, answer_to, found_by, refusal_of}
 use Rattle.bng_shard.specs.Cutting.{cut_told}
 use Rattle.bng_shard.specs.Datagrams.{HearsAnswer, HearsFor, HearsMessage, HearsOver, HearsTunnel, HearsTunnelData, TakesStep, heard_by}
@@ -597,11 +597,11 @@ module _ (r : Rules) (s : State) (e : Entry) (d d' : Deed) where
       h k
 
   -- the call that an ICRQ asks for
-  makes_call_one : (v : Option ℕ) (unmade : Bool) (number : ℕ) (t : TunnelState) (c : CallState) (u next next' : State) → MakesCall v unmade number t c r u e next → MakesCall v unmade number t c r u e next' → next ≡ next'
-  makes_call_one None unmade number t c u next next' h k = h ∙ sym k
-  makes_call_one (Some n) true number t c u next next' h k = h ∙ sym k
-  makes_call_one (Some n) false number t c u next next' (link, new, is) (link', new', is') =
-      is ∙ ap (λ (l : PppState). with_session u n (called_session n e.item.from number t c l)) (link_one 1500 e.item.random link link' new new') ∙ sym is'
+  makes_session_one : (v : Option ℕ) (unmade : Bool) (c : Called) (u next next' : State) → MakesSession v unmade c e.item.random u next → MakesSession v unmade c e.item.random u next' → next ≡ next'
+  makes_session_one None unmade c u next next' h k = h ∙ sym k
+  makes_session_one (Some n) true c u next next' h k = h ∙ sym k
+  makes_session_one (Some n) false c u next next' (link, new, is) (link', new', is') =
+      is ∙ ap (λ (l : PppState). with_session u n (session_over n c l)) (link_one 1500 e.item.random link link' new new') ∙ sym is'
 
   -- what a message does to its call
   turns_one : (opened over : Bool) (n : ℕ) (x : Session) (c : Called) (after : CallState) (u : State) (outs outs' : List OutRecord) (next next' : State)
@@ -618,9 +618,9 @@ module _ (r : Rules) (s : State) (e : Entry) (d d' : Deed) where
 
   module _ (number : ℕ) (said : Said) (m : ControlMessage) (u : State) where
     abbrev AsMade : TunnelState → Option ℕ → TunnelStep → State → Type 0
-    AsMade t v step next = MakesCall v (step.said.ended || step.said.left_out) number t (call_after (fresh t.secret (number_for v)) m) r (stepped u e number step) e next
+    AsMade t v step next = MakesSession v (step.said.ended || step.said.left_out) (called_over e.item.from number t (call_after (fresh t.secret (number_for v)) m)) e.item.random (stepped u e number step) next
 
-    asks_one : AsksForCall number said m r u e d → AsksForCall number said m r u e d' → d ≡ d'
+    asks_one : AsksForCall number said m u e d → AsksForCall number said m u e d' → d ≡ d'
     asks_one h k =
         let tunnel = same_found _ h.tunnel k.tunnel h.stands k.stands in
         let vacancy = vacancy_one u h.vacancy k.vacancy h.is_vacancy k.is_vacancy in
@@ -630,7 +630,7 @@ module _ (r : Rules) (s : State) (e : Entry) (d d' : Deed) where
         let moved : AsMade h.tunnel h.vacancy h.step k.next =
         subst (λ (t : TunnelState). AsMade t h.vacancy h.step k.next) (sym tunnel)
         (subst (λ (v : Option ℕ). AsMade k.tunnel v h.step k.next) (sym vacancy) (subst (λ (w : TunnelStep). AsMade k.tunnel k.vacancy w k.next) (sym step) k.makes)) in
-        let next = makes_call_one h.vacancy (h.step.said.ended || h.step.said.left_out) number h.tunnel (call_after (fresh h.tunnel.secret (number_for h.vacancy)) m) (stepped u e number h.step) h.next k.next h.makes moved in
+        let next = makes_session_one h.vacancy (h.step.said.ended || h.step.said.left_out) (called_over e.item.from number h.tunnel (call_after (fresh h.tunnel.secret (number_for h.vacancy)) m)) (stepped u e number h.step) h.next k.next h.makes moved in
         same_handled (step_outs u e h.step) (step_outs u e k.step) h.next k.next (ap (λ (w : TunnelStep). step_outs u e w) step, next) h.done k.done
 
     abbrev AsTurned : Session → Called → TunnelStep → List OutRecord → State → Type 0

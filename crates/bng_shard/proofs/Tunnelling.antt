@@ -46,7 +46,7 @@ use Rattle.bng_shard.specs.declared.way.Way.TheVariants.{Call}
 use Rattle.bng_shard.specs.State.{Beside, State, call_of, lives_in, with_driven, with_ended, with_session, with_tunnels}
 use Rattle.bng_shard.specs.Deed.{Deed, at_of, beside_of, handled, is_forwarded, only, out, tunnel_outs}
 use Rattle.bng_shard.specs.Doing.{DoesWith}
-use Rattle.bng_shard.specs.Calls.{HearsCallMessage, MakesCall, TakesForNone, TakesFound, TakesIfLives, TurnsCall, call_after, called_session, is_icrq, linked_anew, number_for, turned}
+use Rattle.bng_shard.specs.Calls.{HearsCallMessage, MakesSession, TakesForNone, TakesFound, TakesIfLives, TurnsCall, call_after, called_over, called_session, is_icrq, linked_anew, number_for, turned}
 use Rattle.bng_shard.specs.Cutting.{cut_if}
 use Rattle.bng_shard.specs.Datagrams.{HearsAnswer, HearsFor, HearsMessage, HearsOver, HearsTunnel, TakesStep, heard_by}
 use Rattle.bng_shard.specs.Discovery.{IsNewLink, IsVacancy}
@@ -227,7 +227,7 @@ module _ (r : Rules) (s : State) (e : Entry) (d : Deed) (t : TunnelsState) where
   then = with_tunnels s t
 
   makes_did : (v : Option ℕ) (unmade : Bool) (frames : List (List ℕ)) (u : TunnelsState) (number : ℕ) (tunnel : TunnelState) (call : CallState) (next : State) → IsVacancy s v → AllByRecursion IsSpelled frames
-      → MakesCall v unmade number tunnel call r (with_tunnels s u) e next → d ≡ handled s e (answers_to s e frames) next → Did r s e d
+      → MakesSession v unmade (called_over e.item.from number tunnel call) e.item.random (with_tunnels s u) next → d ≡ handled s e (answers_to s e frames) next → Did r s e d
   makes_did None unmade frames u number tunnel call next vacant spelled makes h = Speaks frames u spelled (h ∙ ap (λ (q : State). handled s e (answers_to s e frames) q) makes)
   makes_did (Some n) true frames u number tunnel call next vacant spelled makes h = Speaks frames u spelled (h ∙ ap (λ (q : State). handled s e (answers_to s e frames) q) makes)
   makes_did (Some n) false frames u number tunnel call next vacant spelled (link, new, is) h =

@@ -69,20 +69,13 @@ abbrev pub number_for : Option ℕ → ℕ
 number_for vacancy = unwrap_or vacancy 0
 
 -- The call takes the lowest session number that is free, where one is; and where its ICRP goes out, or will, there is a session.
-abbrev pub MakesCall : Option ℕ → Bool → ℕ → TunnelState → CallState → Rules → State → Entry → State → Type 0
-MakesCall None unmade number t c r s e s' = s' ≡ s
-MakesCall (Some n) true number t c r s e s' = s' ≡ s
-MakesCall (Some n) false number t c r s e s' =
-    (link : PppState) × IsNewLink 1500 e.item.random link × (s' ≡ with_session s n (called_session n e.item.from number t c link))
-
--- The same by the call.
 abbrev pub MakesSession : Option ℕ → Bool → Called → List ℕ → State → State → Type 0
 MakesSession None unmade c random s s' = s' ≡ s
 MakesSession (Some n) true c random s s' = s' ≡ s
 MakesSession (Some n) false c random s s' = (link : PppState) × IsNewLink 1500 random link × (s' ≡ with_session s n (session_over n c link))
 
 -- An ICRQ asks for a call of the tunnel with this number. It is answered by an ICRP, or refused by a CDN.
-pub record AsksForCall (number : ℕ) (said : Said) (m : ControlMessage) (r : Rules) (s : State) (e : Entry) (d : Deed) : Type 0 where
+pub record AsksForCall (number : ℕ) (said : Said) (m : ControlMessage) (s : State) (e : Entry) (d : Deed) : Type 0 where
   pub tunnel : TunnelState
   pub stands : tunnel_at s.tunnels number ≡ Some tunnel
   pub vacancy : Option ℕ
@@ -91,7 +84,7 @@ pub record AsksForCall (number : ℕ) (said : Said) (m : ControlMessage) (r : Ru
   pub is_step : step ≡ call_step tunnel said (fresh tunnel.secret (number_for vacancy)) m e.moment
   pub spelled : AllByRecursion IsSpelled step.said.outs
   pub next : State
-  pub makes : MakesCall vacancy (step.said.ended || step.said.left_out) number tunnel (call_after (fresh tunnel.secret (number_for vacancy)) m) r (stepped s e number step) e next
+  pub makes : MakesSession vacancy (step.said.ended || step.said.left_out) (called_over e.item.from number tunnel (call_after (fresh tunnel.secret (number_for vacancy)) m)) e.item.random (stepped s e number step) next
   pub done : d ≡ handled s e (step_outs s e step) next
 
 -- Messages of calls that there are -----------------------------------------------------------------------------------------
@@ -155,7 +148,7 @@ TakesFound (Some x) number said m r s e d = TakesIfLives (lives_in x.service) nu
 -- The tunnel with this number handed a message over, whose sender is its peer: an ICRQ, or another message, which is for the call with its
 -- Session ID.
 abbrev pub HearsCallMessage : Bool → ℕ → Said → ControlMessage → Rules → State → Entry → Deed → Type 0
-HearsCallMessage true number said m r s e d = AsksForCall number said m r s e d
+HearsCallMessage true number said m r s e d = AsksForCall number said m s e d
 HearsCallMessage false number said m r s e d = TakesFound (call_of s e.item.from number m.session) number said m r s e d
 
 abbrev pub is_icrq : ControlMessage → Bool

@@ -104,7 +104,7 @@ fn ask_for_call(
     requires room { length outs.old.items + 10 ≤ outs.old.room }
     requires taken { IsTaken (Steps number.0 (said heard)) served.old.tunnels }
     requires call { heard.call ≡ true }
-    ensures does { (t : TermsView) → DoesWith (λ e d. AsksForCall number.0 (said heard) (control_of message.now) incoming.now.rules.now (whole served.old t) e d) 10 (whole served.old t) (whole served.new t) outs.old.items outs.new.items incoming.now.at incoming.now.moment incoming.now.item.now Consumed }
+    ensures does { (t : TermsView) → DoesWith (λ e d. AsksForCall number.0 (said heard) (control_of message.now) (whole served.old t) e d) 10 (whole served.old t) (whole served.new t) outs.old.items outs.new.items incoming.now.at incoming.now.moment incoming.now.item.now Consumed }
     ensures capacity { outs.new.room ≡ outs.old.room }
 {
     let item = incoming.item;

@@ -10,7 +10,6 @@ use Rattle.bng_lns.specs.Tunnels.{tunnel_at, with_step}
 use Rattle.bng_shard.specs.declared.way.Called.{Called}
 use Rattle.bng_shard.specs.Calls.{MakesSession, call_after, call_step, called_over, number_for}
 use Rattle.bng_shard.specs.Deed.{tunnel_outs}
-use Rattle.bng_shard.specs.Protocol.{entry_of}
 use Rattle.bng_shard.specs.Running.{whole}
 use Rattle.bng_shard.specs.State.{with_tunnels}
 use Rattle.bng_shard.proofs.Calling.{asks, makes_so, vacancy_kept, vacancy_number}
@@ -60,7 +59,6 @@ returns-clause-does c terms =
     let a = c.args.incoming.now.at in
     let now = c.args.incoming.now.moment in
     let item = c.args.incoming.now.item.now in
-    let e = entry_of a.seat a.place now item in
     let s = c.args.served.now in
     let n = c.args.number.0 in
     let heard = said c.args.heard in
@@ -74,7 +72,7 @@ returns-clause-does c terms =
     let then = c.answer_call-told.ensures.call ∙ ap (λ (k : CallState). call_after k m) its in
     let over : (let k : Called = record c.new_call-called.result { call = c.answer_call-told.new.call } in k) ≡ called_over item.from n t (call_after call m) =
     ap (λ (k : Called). let q : Called = record k { call = c.answer_call-told.new.call } in q) (its_call d t stands) ∙ ap (λ (k : CallState). called_over item.from n t k) then in
-    let makes = makes_so free (told.ended || told.left_out) (record c.new_call-called.result { call = c.answer_call-told.new.call }) r e s c.answer_call-told.new.self c.make_session.new.served (with_step now s.tunnels n (call_step t heard call m now).after) terms n t (call_after call m) after over
+    let makes = makes_so free (told.ended || told.left_out) (record c.new_call-called.result { call = c.answer_call-told.new.call }) (called_over item.from n t (call_after call m)) item.random s c.answer_call-told.new.self c.make_session.new.served (with_step now s.tunnels n (call_step t heard call m now).after) terms after over
     (subst (λ (b : Bool). MakesSession free b (record c.new_call-called.result { call = c.answer_call-told.new.call }) item.random c.answer_call-told.new.self c.make_session.new.served) c.is_unmade-unmade.ensures c.make_session.ensures) in
     asks r (whole s terms) a item c.args.outs.now.items c.requires.here now n heard m t stands free c.vacant-vacant.ensures (said told) said_is (c.answer_call-told.ensures.spelled c.requires.taken.spelled) c.answer_call-told.ensures.few (whole c.make_session.new.served terms) makes
     c.send_datagrams.new.outs.items (c.send_datagrams.ensures.items ∙ ap (λ (sent : List Packet). c.args.outs.now.items ++ tunnel_outs a item.from (payloads sent)) c.as_slice.ensures.value)
