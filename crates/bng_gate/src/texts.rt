@@ -7,9 +7,6 @@ use arrayvec::ArrayString;
 use bng_config::{Fault, FaultText, fault_text};
 use itoa::Buffer;
 
-#[cfg(test)]
-mod tests;
-
 /// What could not be opened.
 #[derive(Clone, Copy, PartialEq, Eq, Debug)]
 pub enum Opening {

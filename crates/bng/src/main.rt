@@ -1,24 +1,12 @@
-//! The program: it makes the real objects, calls `run`, and ends with its answer.
+//! The program: it makes the real objects, calls `run` of `bng_gate`, and ends with its answer.
 #![tactic(auto)]
 
-#[cfg(test)]
-mod asserts;
-mod checking;
-mod commands;
-mod exercise;
-mod laws;
 mod progress;
-mod saying;
-mod serving;
 mod start;
-#[cfg(test)]
-mod tests;
-mod texts;
-mod top;
 
-use crate::commands::run;
 use crate::progress::Progress;
 use crate::start::{FILE_MOST, out_of_memory, raise_threshold};
+use bng_gate::run;
 use bng_real::{
     RealClock, RealEntropy, RealFiles, RealGate, RealPlant, RealTrace, StandardSink, words_of,
 };

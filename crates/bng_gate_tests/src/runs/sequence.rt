@@ -6,8 +6,8 @@ ghost use Rattle.bng_plant.specs.Calls.{IsFilled};
 use super::concentrator::{PLAIN, TUNNELS};
 use super::{SERVE, loopback, seed};
 use crate::asserts::{assert_holds, assert_same};
-use crate::commands::run;
 use bng_base::{Frame, Peer, Received, Role};
+use bng_gate::run;
 use bng_plant::{
     Bound, MemoryClock, MemoryFile, MemoryFiles, MemorySink, NoTrace, OpenGate, Plant, Sending,
 };

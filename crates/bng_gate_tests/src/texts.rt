@@ -1,7 +1,7 @@
-use super::{Opening, Refusal, line_of, status};
 use crate::asserts::{assert_octets, assert_same};
 use bng_base::Listed;
 use bng_config::Fault;
+use bng_gate::{Opening, Refusal, line_of, status};
 use bng_schema::{Field, Key, Rule};
 use std::process::Abort;
 use std::test::Fail;

@@ -1,7 +1,7 @@
 //! Whole runs over the outside in memory.
 use crate::asserts::{assert_holds, assert_same};
-use crate::commands::run;
 use bng_base::{Ip4, Peer, Role};
+use bng_gate::run;
 use bng_plant::{
     Arrival, MemoryClock, MemoryEntropy, MemoryFile, MemoryFiles, MemoryPlant, MemorySink, NoTrace,
     OpenGate, Trace,
