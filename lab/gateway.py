@@ -13,8 +13,8 @@ import time
 import radius
 
 HOME = os.path.dirname(os.path.dirname(os.path.abspath(__file__)))
-CRATE = os.path.join(HOME, "crates", "bng_gate")
-PROGRAM = os.path.join(CRATE, "out", "bng_gate")
+CRATE = os.path.join(HOME, "crates", "bng")
+PROGRAM = os.path.join(CRATE, "out", "bng")
 BNG = os.path.join(HOME, "bng")
 LOOPBACK = "127.0.0.1"
 
