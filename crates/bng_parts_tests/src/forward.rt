@@ -1,6 +1,6 @@
 ghost use Rattle.std.specs.Prelude.{◌≡◌, ◌≤◌, length};
 
-use crate::asserts::{assert_holds, assert_same};
+use crate::asserts::{assert_octets, assert_same};
 use bng_base::{AccessPort, DropCause, Fate, Frame, Ip4, Mac, Peer, Rate, SessionNo};
 use bng_forward::{
     Arrived, TermView, carried, down, frame_at, names_session, packet_from, put_in_frame,
@@ -101,7 +101,7 @@ fn goes_up_at(
 {
     let mut frame = frame_of(octets);
     assert_same(rt, &up(found, now, &mut frame), &fate);
-    assert_same(rt, &frame.payload(), &after);
+    assert_octets(rt, frame.payload(), after);
 }
 
 fn goes_up(
@@ -117,7 +117,23 @@ fn goes_up(
     goes_up_at(rt, &mut found, 0, octets, fate, after);
 }
 
-// A packet of the core, of whose destination this is the holder, at a moment: its fate, and the packet afterwards.
+// The fate of a packet of the core, of whose destination this is the holder, at a moment. None where it is no packet.
+fn passed_down(
+    holder: &mut Option<TermView>,
+    now: u64,
+    octets: &[u8],
+    frame: &mut Frame,
+) -> Option<Fate>
+    requires { frame.old.payload ≡ octets.now }
+    ensures { frame.new.headroom ≡ frame.old.headroom }
+{
+    match read(octets) {
+        Ok(header) => Some(down(holder, now, header, frame)),
+        Err(_) => None,
+    }
+}
+
+// Its fate, and the packet afterwards.
 fn goes_down_at(
     rt: &impl Abort,
     holder: &mut Option<TermView>,
@@ -129,13 +145,9 @@ fn goes_down_at(
     requires { length octets.now ≤ 64 }
 {
     let mut frame = frame_of(octets);
-    match read(octets) {
-        Ok(header) => {
-            assert_same(rt, &down(holder, now, header, &mut frame), &fate);
-            assert_same(rt, &frame.payload(), &after);
-        }
-        Err(_) => assert_holds(rt, false),
-    }
+    let found = passed_down(holder, now, octets, &mut frame);
+    assert_same(rt, &found, &Some(fate));
+    assert_octets(rt, frame.payload(), after);
 }
 
 fn goes_down(rt: &impl Abort, holder: Option<TermView>, octets: &[u8], fate: Fate, after: &[u8])
@@ -145,28 +157,40 @@ fn goes_down(rt: &impl Abort, holder: Option<TermView>, octets: &[u8], fate: Fat
     goes_down_at(rt, &mut holder, 0, octets, fate, after);
 }
 
+fn go_up_with_no_term(rt: &impl Abort, short: &[u8])
+    requires { length short.now ≤ 64 }
+{
+    let no_session = Fate::Dropped(DropCause::NoSession);
+    goes_up(rt, None, &UP, no_session, &UP);
+    goes_up(rt, None, short, no_session, short);
+    let not_open = Fate::Dropped(DropCause::NotOpen);
+    goes_up(rt, Some(None), &UP, not_open, &UP);
+    goes_up(rt, Some(None), short, not_open, short);
+    goes_up(rt, Some(Some(CLOSED)), &UP, not_open, &UP);
+    goes_up(rt, Some(Some(CLOSED)), short, not_open, short);
+}
+
+fn go_up_in_vain(rt: &impl Abort, short: &[u8])
+    requires { length short.now ≤ 64 }
+{
+    let malformed = Fate::Dropped(DropCause::Malformed);
+    goes_up(rt, Some(Some(OPEN)), short, malformed, short);
+    let expired = Fate::Dropped(DropCause::Expired);
+    goes_up(rt, Some(Some(OPEN)), &UP_SENT, expired, &UP_SENT);
+    goes_up(rt, Some(Some(OTHER)), &UP_SENT, expired, &UP_SENT);
+    let spoofed = Fate::Dropped(DropCause::Spoofed);
+    goes_up(rt, Some(Some(OTHER)), &UP, spoofed, &UP);
+}
+
 #[test]
 fn a_packet_of_the_subscriber_is_passed_on_or_left_as_it_is(rt: HostRuntime) {
     let mut padded = [0; 46];
     padded[..20].copy_from_slice(&UP);
-    let short = &UP[..19];
     goes_up(&rt, Some(Some(OPEN)), &UP, Fate::Forwarded, &UP_SENT);
     goes_up(&rt, Some(Some(OPEN)), &padded, Fate::Forwarded, &UP_SENT);
-    let no_session = Fate::Dropped(DropCause::NoSession);
-    goes_up(&rt, None, &UP, no_session, &UP);
-    goes_up(&rt, None, short, no_session, short);
-    let not_open = Fate::Dropped(DropCause::NotOpen);
-    goes_up(&rt, Some(None), &UP, not_open, &UP);
-    goes_up(&rt, Some(None), short, not_open, short);
-    goes_up(&rt, Some(Some(CLOSED)), &UP, not_open, &UP);
-    goes_up(&rt, Some(Some(CLOSED)), short, not_open, short);
-    let malformed = Fate::Dropped(DropCause::Malformed);
-    goes_up(&rt, Some(Some(OPEN)), short, malformed, short);
-    let expired = Fate::Dropped(DropCause::Expired);
-    goes_up(&rt, Some(Some(OPEN)), &UP_SENT, expired, &UP_SENT);
-    goes_up(&rt, Some(Some(OTHER)), &UP_SENT, expired, &UP_SENT);
-    let spoofed = Fate::Dropped(DropCause::Spoofed);
-    goes_up(&rt, Some(Some(OTHER)), &UP, spoofed, &UP);
+    let short = &UP[..19];
+    go_up_with_no_term(&rt, short);
+    go_up_in_vain(&rt, short);
 }
 
 #[test]
@@ -337,49 +361,60 @@ fn goes_to_core(cut: bool, frame: &mut Frame) -> Fate {
     up(&mut found, 0, frame)
 }
 
-#[test]
-fn each_datagram_of_an_access_port_has_its_fate(rt: HostRuntime) {
-    let malformed = Fate::Dropped(DropCause::Malformed);
-    let no_session = Fate::Dropped(DropCause::NoSession);
-    // an octet of the frame changed: nothing, MAC of the port, MAC of the subscriber, EtherType, SESSION_ID, LENGTH,
-    // protocol, TTL
-    let changed = [
-        (0, 2, Fate::Forwarded),
-        (5, 0xff, malformed),
-        (11, 2, no_session),
-        (13, 0x65, malformed),
-        (17, 2, no_session),
-        (19, 0x29, malformed),
-        (19, 0x15, malformed),
-        (21, 0x57, Fate::Consumed),
-        (30, 3, malformed),
-    ];
-    for (place, octet, fate) in changed {
-        let mut bytes = FRAME;
-        if place < 60 {
-            bytes[place] = octet;
-        }
-        let mut frame = frame_of(&bytes);
-        assert_same(&rt, &goes_to_core(false, &mut frame), &fate);
+const MALFORMED: Fate = Fate::Dropped(DropCause::Malformed);
+
+const NO_SESSION: Fate = Fate::Dropped(DropCause::NoSession);
+
+// An octet of the frame changed: nothing, MAC of the port, MAC of the subscriber, EtherType, SESSION_ID, LENGTH,
+// protocol, TTL.
+const CHANGED: [(usize, u8, Fate); 9] = [
+    (0, 2, Fate::Forwarded),
+    (5, 0xff, MALFORMED),
+    (11, 2, NO_SESSION),
+    (13, 0x65, MALFORMED),
+    (17, 2, NO_SESSION),
+    (19, 0x29, MALFORMED),
+    (19, 0x15, MALFORMED),
+    (21, 0x57, Fate::Consumed),
+    (30, 3, MALFORMED),
+];
+
+// The fate of the frame with one octet changed.
+fn fate_with(place: usize, octet: u8) -> Fate {
+    let mut bytes = FRAME;
+    if place < 60 {
+        bytes[place] = octet;
     }
+    goes_to_core(false, &mut frame_of(&bytes))
+}
+
+fn come_to_discovery(rt: &impl Abort, frame: &mut Frame) {
     let mut unknown = PADT;
     unknown[17] = 2;
-    let mut frame = frame_of(&FRAME);
-    assert_same(&rt, &goes_to_core(true, &mut frame), &malformed);
     frame.set(&PADI);
-    assert_same(&rt, &goes_to_core(false, &mut frame), &Fate::Consumed);
-    assert_same(&rt, &goes_to_core(true, &mut frame), &malformed);
+    assert_same(rt, &goes_to_core(false, frame), &Fate::Consumed);
+    assert_same(rt, &goes_to_core(true, frame), &MALFORMED);
     frame.set(&PADT);
-    assert_same(&rt, &goes_to_core(false, &mut frame), &Fate::Consumed);
+    assert_same(rt, &goes_to_core(false, frame), &Fate::Consumed);
     frame.set(&unknown);
-    assert_same(&rt, &goes_to_core(false, &mut frame), &no_session);
+    assert_same(rt, &goes_to_core(false, frame), &NO_SESSION);
+}
+
+#[test]
+fn each_datagram_of_an_access_port_has_its_fate(rt: HostRuntime) {
+    for (place, octet, fate) in CHANGED {
+        assert_same(&rt, &fate_with(place, octet), &fate);
+    }
+    let mut frame = frame_of(&FRAME);
+    assert_same(&rt, &goes_to_core(true, &mut frame), &MALFORMED);
+    come_to_discovery(&rt, &mut frame);
 }
 
 #[test]
 fn a_padded_frame_is_opened_to_its_packet(rt: HostRuntime) {
     let mut frame = frame_of(&FRAME);
     assert_same(&rt, &goes_to_core(false, &mut frame), &Fate::Forwarded);
-    assert_same(&rt, &frame.payload(), &UP_SENT.as_slice());
+    assert_octets(&rt, frame.payload(), &UP_SENT);
 }
 
 // The fate of a datagram of the core, where one address has a holder.
@@ -419,26 +454,22 @@ fn each_datagram_of_the_core_has_its_fate(rt: HostRuntime) {
     }
 }
 
-#[test]
-fn a_packet_of_the_core_becomes_a_frame_of_its_circuit(rt: HostRuntime) {
+// An expired packet in the same frame is left as it is.
+fn expire_in(rt: &impl Abort, frame: &mut Frame) {
     let core = port_end(9001);
-    let mut frame = frame_of(&DOWN);
-    match read(&DOWN) {
-        Ok(header) => {
-            let mut holder = Some(OPEN);
-            assert_same(
-                &rt,
-                &down(&mut holder, 0, header, &mut frame),
-                &Fate::Forwarded,
-            );
-        }
-        Err(_) => assert_holds(&rt, false),
-    }
-    assert_same(&rt, &frame.payload(), &DOWN_SENT.as_slice());
-    put_in_frame(&access_port(), MAC, SessionNo(1025), &mut frame);
-    assert_same(&rt, &frame.payload(), &FRAME_SENT.as_slice());
     frame.set(&DOWN_SENT);
     let expired = Fate::Dropped(DropCause::Expired);
-    assert_same(&rt, &goes_to_circuit(core, false, &mut frame), &expired);
-    assert_same(&rt, &frame.payload(), &DOWN_SENT.as_slice());
+    assert_same(rt, &goes_to_circuit(core, false, frame), &expired);
+    assert_octets(rt, frame.payload(), &DOWN_SENT);
+}
+
+#[test]
+fn a_packet_of_the_core_becomes_a_frame_of_its_circuit(rt: HostRuntime) {
+    let mut frame = frame_of(&DOWN);
+    let fate = passed_down(&mut Some(OPEN), 0, &DOWN, &mut frame);
+    assert_same(&rt, &fate, &Some(Fate::Forwarded));
+    assert_octets(&rt, frame.payload(), &DOWN_SENT);
+    put_in_frame(&access_port(), MAC, SessionNo(1025), &mut frame);
+    assert_octets(&rt, frame.payload(), &FRAME_SENT);
+    expire_in(&rt, &mut frame);
 }
