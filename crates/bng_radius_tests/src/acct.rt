@@ -104,7 +104,7 @@ fn form(
     }
 }
 
-// A record that is formed of this kind, circuit and moment, and its octets in hexadecimal digits. They were made from the
+// A record of this kind, circuit and moment, and its octets in hexadecimal digits. They were made from the
 // tables of RFC 2865, RFC 2866 and RFC 2869 by a script.
 const RECORDS: &[(StatusType, Circuit, u64, &str)] = &[
     (

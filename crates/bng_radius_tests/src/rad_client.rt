@@ -121,7 +121,7 @@ fn hear_ignored(
     hear(rt, alloc, client, SERVER, datagram, Replied::Ignored(cause))
 }
 
-// Hears what is no reply: from another address, two octets, with another Identifier, with another code, and with one octet
+// Hears what is no reply: of another address, two octets, with another Identifier, another code, and with one octet
 // changed.
 fn hear_others(rt: &impl Abort, alloc: Global, client: &mut Client) -> Result<(), Fail> {
     let stranger = Replied::Ignored(Ignored::Stranger);

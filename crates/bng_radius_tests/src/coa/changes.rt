@@ -127,7 +127,7 @@ const CHANGED: &str = "280b00249133f9dd356ca7ec4b5c9c1de03311b12c0a3030303030303
 
 const REPLY: &str = "29010014000000000000000000000000000000ff";
 
-// Admits a datagram, in hexadecimal digits, at this second where none is in hand: the cause for which it is passed over.
+// Admits a datagram, in hexadecimal digits, at a second where none is in hand: the cause for which it is passed over.
 fn cause(
     rt: &impl Abort,
     alloc: Global,

@@ -20,7 +20,7 @@ pub(crate) fn profile(name: &[u8]) -> Profile {
     }
 }
 
-// Packets to the gateway 192.0.2.1, whose name is gw1 and whose profiles are bronze and gold, each with its first fault.
+// Packets to the gateway 192.0.2.1, whose name is gw1 and whose profiles are bronze and gold, each with its fault.
 const PACKETS: &[(&str, Option<u16>)] = &[
     // a change by Acct-Session-Id
     (
