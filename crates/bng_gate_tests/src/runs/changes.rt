@@ -3,9 +3,10 @@
 use super::authentication::stop;
 use super::logins::run_in;
 use super::{
-    CONFIGURATION, Ended, SERVE, a_turn_later, assert_err, assert_status, has, loopback, run_over,
+    CONFIGURATION, Ended, SERVE, a_turn_later, assert_err, assert_status, goes_to, has, loopback,
+    run_over,
 };
-use crate::asserts::{assert_holds, assert_same};
+use crate::asserts::assert_holds;
 use bng_base::Role;
 use bng_plant::Arrival;
 use std::alloc::{AllocError, Global};
@@ -49,6 +50,16 @@ pub(super) fn asks(alloc: Global, octets: &str) -> Result<Arrival, Fail> {
     Ok(Arrival::new(Role::Coa, loopback(3798), octets.as_slice()))
 }
 
+/// These requests come in one turn, and then `stop`.
+pub(super) fn all_ask(alloc: Global, requests: &[&str]) -> Result<Vec<Arrival>, Fail> {
+    let mut script = Vec::new(alloc);
+    for octets in requests {
+        script.push(asks(alloc, *octets)?)?;
+    }
+    script.push(stop(0))?;
+    Ok(script)
+}
+
 /// A packet of the circuit comes, of 100 octets.
 pub(super) fn packet_100() -> Arrival {
     Arrival::new(Role::Access(1), loopback(9011), OF_100)
@@ -80,10 +91,8 @@ pub(super) fn replies(
     let sent = ended.plant.sent().iter();
     let mut replies = sent.filter(|datagram| datagram.role == Role::Coa);
     for octets in wanted {
-        let octets = hex::decode(alloc, *octets)?;
         let reply = replies.next().expect(rt, "a reply");
-        assert_same(rt, &reply.peer, &loopback(3798));
-        assert_same(rt, &reply.octets.as_slice(), &octets.as_slice());
+        goes_to(rt, alloc, reply, loopback(3798), *octets)?;
     }
     assert_holds(rt, replies.next().is_none());
     Ok(())
@@ -220,31 +229,25 @@ fn a_reply_is_kept_for_30_seconds(rt: HostRuntime) -> Result<(), Fail> {
     Ok(())
 }
 
+/// Requests with Proxy-States and a Message-Authenticator, one that is acknowledged and one that is refused, and one with two States, of
+/// which the first is repeated; and the replies to them.
+const REPEATED: &[&str] = &[
+    "2b05004e0bd205613d9ea79214c15423cc0ef218210470312c1a363535336631303030343031303030303030303030303031210470320b06676f6c6450129c6efa5db2ffaa27db45d63a29b26d86",
+    "2b06004e5b1bf12651fe2456184db07fe05fe155210470312c1a3635353366313030303430323030303030303030303030310b06676f6c642104703250127eb9edaecd54dbc0c9d0b30fc961686e",
+    "2b070040d7442f75370bcbd6246558282d9d57c42c1a3635353366313030303430313030303030303030303030311804737418047576210470310b06676f6c64",
+];
+
+const REPEATS: &[&str] = &[
+    "2c05002eee56e8b08e89fcae29e02adc6816d230210470312104703250120e53bd83d41f5a3166fe769b1215179f",
+    "2d060034a077e1df5073d917b0f491d949b0914b21047031210470326506000001f7501217a29f859258df6b1c215fcdccc6552b",
+    "2d0700221dc3b1174bd532015918c337847edd422104703118047374650600000191",
+];
+
 #[test]
 fn a_reply_repeats_what_the_request_has_for_it(rt: HostRuntime) -> Result<(), Fail> {
     let alloc = rt.alloc();
-    // Proxy-States and a Message-Authenticator, with an acknowledgement and with a refusal; and two States, of which the first is repeated.
-    let requests: [&str; 3] = [
-        "2b05004e0bd205613d9ea79214c15423cc0ef218210470312c1a363535336631303030343031303030303030303030303031210470320b06676f6c6450129c6efa5db2ffaa27db45d63a29b26d86",
-        "2b06004e5b1bf12651fe2456184db07fe05fe155210470312c1a3635353366313030303430323030303030303030303030310b06676f6c642104703250127eb9edaecd54dbc0c9d0b30fc961686e",
-        "2b070040d7442f75370bcbd6246558282d9d57c42c1a3635353366313030303430313030303030303030303030311804737418047576210470310b06676f6c64",
-    ];
-    let mut script = Vec::new(alloc);
-    for octets in requests {
-        script.push(asks(alloc, octets)?)?;
-    }
-    script.push(stop(0))?;
-    let ended = run_changes(&rt, alloc, script, 10)?;
-    replies(
-        &rt,
-        alloc,
-        &ended,
-        &[
-            "2c05002eee56e8b08e89fcae29e02adc6816d230210470312104703250120e53bd83d41f5a3166fe769b1215179f",
-            "2d060034a077e1df5073d917b0f491d949b0914b21047031210470326506000001f7501217a29f859258df6b1c215fcdccc6552b",
-            "2d0700221dc3b1174bd532015918c337847edd422104703118047374650600000191",
-        ],
-    )
+    let ended = run_changes(&rt, alloc, all_ask(alloc, REPEATED)?, 10)?;
+    replies(&rt, alloc, &ended, REPEATS)
 }
 
 #[test]

@@ -1,7 +1,8 @@
 //! What a run has counted, while it serves and in the end.
 use super::forwarding::{FROM_CORE, PADDED, SPOOFED};
 use super::{
-    Ended, PACKET, SERVE, TWO_PORTS, a_turn_later, assert_out, frame_of, has, loopback, run_over,
+    Ended, PACKET, SERVE, TWO_PORTS, a_turn_later, assert_out, frame_of, has_all, loopback,
+    run_over,
 };
 use crate::asserts::{assert_count, assert_octets};
 use bng_base::Role;
@@ -43,16 +44,6 @@ fn packets(alloc: Global) -> Result<Vec<Arrival>, AllocError> {
     script.push(Arrival::new(Role::Control, loopback(5), b"stats"))?;
     script.push(Arrival::new(Role::Control, loopback(5), b"stop"))?;
     Ok(script)
-}
-
-/// Whether the octets have all of these in them.
-fn has_all(octets: &[u8], parts: &[&[u8]]) -> bool {
-    for part in parts {
-        if !has(octets, part) {
-            return false;
-        }
-    }
-    true
 }
 
 /// How many Accounting-Requests a run sent that have all of these.

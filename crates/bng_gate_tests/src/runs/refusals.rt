@@ -1,12 +1,16 @@
 //! Requests of a RADIUS server that are refused, each cause of it, those that are passed over, and how many come in one turn (RFC 5176
 //! sections 3 and 3.5). They and the replies were made as those about the circuit.
 use super::authentication::stop;
-use super::changes::{TO_GOLD, asks, packet_100, replies, run_changes};
+use super::changes::{TO_GOLD, all_ask, asks, packet_100, replies, run_changes};
 use super::has;
 use crate::asserts::{assert_holds, assert_same};
 use bng_base::{Ip4, Peer, Role};
 use bng_plant::Arrival;
+use std::alloc::Global;
+use std::process::Abort;
+use std::sync::Wait;
 use std::test::Fail;
+use std::thread::Threads;
 
 /// Requests and the replies to them. Of several causes of a refusal the first counts: NAS Identification Mismatch (403), Unsupported Attribute
 /// (401), Invalid Request (404), Invalid Attribute Value (407), Missing Attribute (402), Session Context Not Found (503) (RFC 5176 section 3.5).
@@ -107,15 +111,22 @@ const VERDICTS: &[(&str, &str)] = &[
     ),
 ];
 
+/// A run with this request has this one reply.
+fn is_replied<R: Threads + Wait + Sync + Abort>(
+    rt: &R,
+    alloc: Global,
+    request: &str,
+    reply: &str,
+) -> Result<(), Fail> {
+    let ended = run_changes(rt, alloc, all_ask(alloc, &[request])?, 10)?;
+    replies(rt, alloc, &ended, &[reply])
+}
+
 #[test]
 fn each_cause_refuses_and_the_first_counts(rt: HostRuntime) -> Result<(), Fail> {
     let alloc = rt.alloc();
     for (request, reply) in VERDICTS {
-        let mut script = Vec::new(alloc);
-        script.push(asks(alloc, *request)?)?;
-        script.push(stop(0))?;
-        let ended = run_changes(&rt, alloc, script, 10)?;
-        replies(&rt, alloc, &ended, &[*reply])?;
+        is_replied(&rt, alloc, *request, *reply)?;
     }
     Ok(())
 }
