@@ -122,22 +122,22 @@ fn a_start_is_sent_again_until_it_is_acknowledged(rt: HostRuntime) -> Result<(),
     starts_where_acknowledged(&rt, alloc, 1813, 1)
 }
 
-#[test]
-fn a_stop_is_waited_for_until_it_is_acknowledged(rt: HostRuntime) -> Result<(), Fail> {
-    let alloc = rt.alloc();
-    let started = hex::decode(alloc, STARTED)?;
-    let stopped = hex::decode(alloc, STOPPED)?;
-    // Each reply comes 1,000 ms after its request. With the first one come a packet of the circuit and one to it.
+/// Each reply comes 1,000 ms after its request. With the first one come a packet of the circuit and one to it.
+fn stopped(alloc: Global) -> Result<Vec<Arrival>, Fail> {
     let mut script = Vec::new(alloc);
-    let reply = Arrival::new(Role::Acct, loopback(1813), started.as_slice());
-    script.push(reply.after(1))?;
+    script.push(response(alloc, STARTED)?.after(1))?;
     let frame = frame_of(alloc, &PACKET)?;
     script.push(Arrival::new(Role::Access(1), loopback(9011), frame.as_slice()))?;
     script.push(Arrival::new(Role::Core, loopback(9001), &FROM_CORE))?;
     script.push(stop())?;
-    let last = Arrival::new(Role::Acct, loopback(1813), stopped.as_slice());
-    script.push(last.after(1))?;
-    let ended = run_slow(&rt, alloc, script)?;
+    script.push(response(alloc, STOPPED)?.after(1))?;
+    Ok(script)
+}
+
+#[test]
+fn a_stop_is_waited_for_until_it_is_acknowledged(rt: HostRuntime) -> Result<(), Fail> {
+    let alloc = rt.alloc();
+    let ended = run_slow(&rt, alloc, stopped(alloc)?)?;
     assert_status(&rt, &ended, 0);
     assert_err(&rt, &ended, b"");
     assert_holds(
@@ -146,16 +146,7 @@ fn a_stop_is_waited_for_until_it_is_acknowledged(rt: HostRuntime) -> Result<(), 
             b"stopped in=84 out=20\nlive in=0 out=0\ntotal in=84 out=20\nworker 0 in=84 out=20\nprofile default in=84 out=20\n",
         ),
     );
-    let requests: [&str; 2] = [START, STOP];
-    let sent = ended.plant.sent().iter();
-    let mut records = sent.filter(|datagram| datagram.role == Role::Acct);
-    for request in requests {
-        let request = hex::decode(alloc, request)?;
-        let record = records.next().expect(&rt, "a record");
-        assert_same(&rt, &record.octets.as_slice(), &request.as_slice());
-    }
-    assert_holds(&rt, records.next().is_none());
-    Ok(())
+    records(&rt, alloc, &ended, &[START, STOP])
 }
 
 /// A subscriber logs in, at moments that are 30 s apart, with an Interim due each 60 s, and sends a packet 30 s after its Start. Its first

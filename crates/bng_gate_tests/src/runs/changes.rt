@@ -98,42 +98,57 @@ pub(super) fn replies(
     Ok(())
 }
 
-#[test]
-fn a_packet_is_in_the_book_of_the_profile_that_is_in_force(rt: HostRuntime) -> Result<(), Fail> {
-    let alloc = rt.alloc();
-    // A request is handled before the packets of its round.
+/// A request is handled before the packets of its round.
+fn together(alloc: Global) -> Result<Vec<Arrival>, Fail> {
     let mut script = Vec::new(alloc);
     script.push(asks(alloc, TO_GOLD)?)?;
     script.push(packet_100())?;
     script.push(packet_200())?;
     script.push(stop(0))?;
-    let together = run_changes(&rt, alloc, script, 10)?;
-    // The first packet comes a round before the request.
+    Ok(script)
+}
+
+/// The first packet comes a round before the request.
+fn apart(alloc: Global) -> Result<Vec<Arrival>, Fail> {
     let mut script = Vec::new(alloc);
     script.push(packet_100())?;
     script.push(a_turn_later())?;
     script.push(asks(alloc, TO_GOLD)?)?;
     script.push(packet_200())?;
     script.push(stop(0))?;
-    let apart = run_changes(&rt, alloc, script, 10)?;
-    let books: [(&Ended, &[u8]); 2] = [
-        (
-            &together,
-            b"profile bronze in=0 out=0\nprofile gold in=300 out=0\n",
-        ),
-        (
-            &apart,
-            b"profile bronze in=100 out=0\nprofile gold in=200 out=0\n",
-        ),
-    ];
-    for (ended, book) in books {
-        assert_status(&rt, ended, 6);
-        assert_err(&rt, ended, NOT_STOPPED);
-        assert_holds(&rt, has(ended.out.text(), b"worker 0 in=300 out=0\n"));
-        assert_holds(&rt, has(ended.out.text(), book));
-        replies(&rt, alloc, ended, &[GOLD])?;
-    }
-    Ok(())
+    Ok(script)
+}
+
+/// A run whose one request is acknowledged counts 300 octets, and has this in its books.
+fn counts<R: Threads + Wait + Sync + Abort>(
+    rt: &R,
+    alloc: Global,
+    script: Vec<Arrival>,
+    book: &[u8],
+) -> Result<(), Fail> {
+    let ended = run_changes(rt, alloc, script, 10)?;
+    assert_status(rt, &ended, 6);
+    assert_err(rt, &ended, NOT_STOPPED);
+    assert_holds(rt, has(ended.out.text(), b"worker 0 in=300 out=0\n"));
+    assert_holds(rt, has(ended.out.text(), book));
+    replies(rt, alloc, &ended, &[GOLD])
+}
+
+#[test]
+fn a_packet_is_in_the_book_of_the_profile_that_is_in_force(rt: HostRuntime) -> Result<(), Fail> {
+    let alloc = rt.alloc();
+    counts(
+        &rt,
+        alloc,
+        together(alloc)?,
+        b"profile bronze in=0 out=0\nprofile gold in=300 out=0\n",
+    )?;
+    counts(
+        &rt,
+        alloc,
+        apart(alloc)?,
+        b"profile bronze in=100 out=0\nprofile gold in=200 out=0\n",
+    )
 }
 
 /// The first request with one octet of its authenticator changed; one with the Acct-Session-Id of no session; and one with a Framed-Route,
@@ -183,48 +198,63 @@ const GOLD_BY_ADDRESS: &str = "2b01002076e7cb11c2c27a73eb854f8bd792732008060a000
 const BRONZE_BY_ADDRESS: &str =
     "2b020022742b02eb6052b032b3287d479503eb7408060a0000020b0862726f6e7a65";
 
+/// The first request comes again when another one has changed the term back.
+fn comes_again(alloc: Global) -> Result<Vec<Arrival>, Fail> {
+    let mut script = Vec::new(alloc);
+    script.push(asks(alloc, GOLD_BY_ADDRESS)?)?;
+    script.push(asks(alloc, BRONZE_BY_ADDRESS)?)?;
+    script.push(a_turn_later())?;
+    script.push(asks(alloc, GOLD_BY_ADDRESS)?)?;
+    script.push(packet_100())?;
+    script.push(stop(0))?;
+    Ok(script)
+}
+
+/// The replies to the three.
+const THREE_REPLIES: &[&str] = &[
+    "2c0100145c467510e2651b7703733cfee348d138",
+    "2c020014d01d93049d6135bdfea91973cccc2c0a",
+    "2c0100145c467510e2651b7703733cfee348d138",
+];
+
+/// How many milliseconds later it comes, and the books then. Where its reply is kept, it changes nothing.
+const KEPT: &[(u64, &[u8])] = &[
+    (
+        29_000,
+        b"profile bronze in=100 out=0\nprofile gold in=0 out=0\n",
+    ),
+    (
+        29_999,
+        b"profile bronze in=100 out=0\nprofile gold in=0 out=0\n",
+    ),
+    (
+        30_000,
+        b"profile bronze in=0 out=0\nprofile gold in=100 out=0\n",
+    ),
+    (
+        31_000,
+        b"profile bronze in=0 out=0\nprofile gold in=100 out=0\n",
+    ),
+];
+
+/// Where it comes so many milliseconds later, all three have their replies, and this is in the books.
+fn is_kept<R: Threads + Wait + Sync + Abort>(
+    rt: &R,
+    alloc: Global,
+    step: u64,
+    book: &[u8],
+) -> Result<(), Fail> {
+    let ended = run_changes(rt, alloc, comes_again(alloc)?, step)?;
+    replies(rt, alloc, &ended, THREE_REPLIES)?;
+    assert_holds(rt, has(ended.out.text(), book));
+    Ok(())
+}
+
 #[test]
 fn a_reply_is_kept_for_30_seconds(rt: HostRuntime) -> Result<(), Fail> {
     let alloc = rt.alloc();
-    // The first request comes again when another one has changed the term back. Where its reply is kept, it changes nothing.
-    let rows: [(u64, &[u8]); 4] = [
-        (
-            29_000,
-            b"profile bronze in=100 out=0\nprofile gold in=0 out=0\n",
-        ),
-        (
-            29_999,
-            b"profile bronze in=100 out=0\nprofile gold in=0 out=0\n",
-        ),
-        (
-            30_000,
-            b"profile bronze in=0 out=0\nprofile gold in=100 out=0\n",
-        ),
-        (
-            31_000,
-            b"profile bronze in=0 out=0\nprofile gold in=100 out=0\n",
-        ),
-    ];
-    for (step, book) in rows {
-        let mut script = Vec::new(alloc);
-        script.push(asks(alloc, GOLD_BY_ADDRESS)?)?;
-        script.push(asks(alloc, BRONZE_BY_ADDRESS)?)?;
-        script.push(a_turn_later())?;
-        script.push(asks(alloc, GOLD_BY_ADDRESS)?)?;
-        script.push(packet_100())?;
-        script.push(stop(0))?;
-        let ended = run_changes(&rt, alloc, script, step)?;
-        replies(
-            &rt,
-            alloc,
-            &ended,
-            &[
-                "2c0100145c467510e2651b7703733cfee348d138",
-                "2c020014d01d93049d6135bdfea91973cccc2c0a",
-                "2c0100145c467510e2651b7703733cfee348d138",
-            ],
-        )?;
-        assert_holds(&rt, has(ended.out.text(), book));
+    for (step, book) in KEPT {
+        is_kept(&rt, alloc, *step, book)?;
     }
     Ok(())
 }
@@ -250,38 +280,41 @@ fn a_reply_repeats_what_the_request_has_for_it(rt: HostRuntime) -> Result<(), Fa
     replies(&rt, alloc, &ended, REPEATS)
 }
 
-#[test]
-fn repeats_come_first_and_then_requests_that_lead_nowhere(rt: HostRuntime) -> Result<(), Fail> {
-    let alloc = rt.alloc();
-    // Requests for shard 3, for shard 1, for nobody's address, the first one again, and for a shard that is none.
-    let requests: [&str; 5] = [
-        "2b02003496c594e8312c654e252706f3a642d7f02c1a3635353366313030306330313030303030303030303030310b06676f6c64",
-        "2b0300367373c28cfb57f6880ba6c3d8af26ec652c1a3635353366313030303430313030303030303030303030310b0862726f6e7a65",
-        "2b040020f63c1a6fccd076fe318b25b3427903ae08060a0000090b06676f6c64",
-        TO_GOLD,
-        "2b0500348b5b72f9c6b92910e1b75cc7e2d0ef702c1a3635353366313030313030313030303030303030303030310b06676f6c64",
-    ];
+/// Requests for shard 3, for shard 1, for nobody's address, the first one again, and for a shard that is none; and the replies.
+const REQUESTS: &[&str] = &[
+    "2b02003496c594e8312c654e252706f3a642d7f02c1a3635353366313030306330313030303030303030303030310b06676f6c64",
+    "2b0300367373c28cfb57f6880ba6c3d8af26ec652c1a3635353366313030303430313030303030303030303030310b0862726f6e7a65",
+    "2b040020f63c1a6fccd076fe318b25b3427903ae08060a0000090b06676f6c64",
+    TO_GOLD,
+    "2b0500348b5b72f9c6b92910e1b75cc7e2d0ef702c1a3635353366313030313030313030303030303030303030310b06676f6c64",
+];
+
+const REPLIES: &[&str] = &[
+    GOLD,
+    GOLD,
+    "2d04001a0a2fe67291b22f15049913b279bf8e3f6506000001f7",
+    "2d05001aba5cde827155bddbcb297ab8cab7efc96506000001f7",
+    "2c030014dd53c9d6b4bf174d1771c44be786e541",
+    "2d02001aa3cad7b34dce56fe2bd648fa733335556506000001f7",
+];
+
+/// The first one, and a turn later the others.
+fn repeats(alloc: Global) -> Result<Vec<Arrival>, Fail> {
     let mut script = Vec::new(alloc);
     script.push(asks(alloc, TO_GOLD)?)?;
     script.push(a_turn_later())?;
-    for octets in requests {
-        script.push(asks(alloc, octets)?)?;
+    for octets in REQUESTS {
+        script.push(asks(alloc, *octets)?)?;
     }
     script.push(stop(0))?;
-    let ended = run_changes(&rt, alloc, script, 10)?;
-    replies(
-        &rt,
-        alloc,
-        &ended,
-        &[
-            GOLD,
-            GOLD,
-            "2d04001a0a2fe67291b22f15049913b279bf8e3f6506000001f7",
-            "2d05001aba5cde827155bddbcb297ab8cab7efc96506000001f7",
-            "2c030014dd53c9d6b4bf174d1771c44be786e541",
-            "2d02001aa3cad7b34dce56fe2bd648fa733335556506000001f7",
-        ],
-    )
+    Ok(script)
+}
+
+#[test]
+fn repeats_come_first_and_then_requests_that_lead_nowhere(rt: HostRuntime) -> Result<(), Fail> {
+    let alloc = rt.alloc();
+    let ended = run_changes(&rt, alloc, repeats(alloc)?, 10)?;
+    replies(&rt, alloc, &ended, REPLIES)
 }
 
 #[test]

@@ -4,7 +4,7 @@ use super::authentication::stop;
 use super::changes::{TO_GOLD, all_ask, asks, packet_100, replies, run_changes};
 use super::has;
 use crate::asserts::{assert_holds, assert_same};
-use bng_base::{Ip4, Peer, Role};
+use bng_base::{Datagram, Ip4, Peer, Role};
 use bng_plant::Arrival;
 use std::alloc::Global;
 use std::process::Abort;
@@ -229,6 +229,16 @@ const NAMELESS: [&str; 33] = [
     "28210014c9973309073b66d7178c0b22caafb973",
 ];
 
+/// This is the reply with Missing Attribute to the request of this Identifier.
+fn lacks_attribute(rt: &impl Abort, found: Option<&Datagram>, id: u8) {
+    let datagram = found.expect(rt, "a datagram");
+    let octets = datagram.octets.as_slice();
+    assert_same(rt, &datagram.role, &Role::Coa);
+    assert_holds(rt, octets.starts_with(&[0x2a, id, 0, 0x1a]));
+    assert_holds(rt, octets.ends_with(b"\x65\x06\x00\x00\x01\x92"));
+    assert_same(rt, &octets.len(), &26);
+}
+
 #[test]
 fn a_turn_takes_32_requests(rt: HostRuntime) -> Result<(), Fail> {
     let alloc = rt.alloc();
@@ -242,19 +252,12 @@ fn a_turn_takes_32_requests(rt: HostRuntime) -> Result<(), Fail> {
     let sent = ended.plant.sent().iter();
     let mut others = sent.filter(|datagram| datagram.role != Role::Acct);
     // A packet is sent before the replies of its turn: with it comes the 33rd request.
-    for place in 0..34u8 {
-        let datagram = others.next().expect(&rt, "a datagram");
-        if place == 32 {
-            assert_same(&rt, &datagram.role, &Role::Core);
-        } else {
-            let id = if place < 32 { place + 1 } else { 33 };
-            let octets = datagram.octets.as_slice();
-            assert_same(&rt, &datagram.role, &Role::Coa);
-            assert_holds(&rt, octets.starts_with(&[0x2a, id, 0, 0x1a]));
-            assert_holds(&rt, octets.ends_with(b"\x65\x06\x00\x00\x01\x92"));
-            assert_same(&rt, &octets.len(), &26);
-        }
+    for id in 1..33u8 {
+        lacks_attribute(&rt, others.next(), id);
     }
+    let datagram = others.next().expect(&rt, "a datagram");
+    assert_same(&rt, &datagram.role, &Role::Core);
+    lacks_attribute(&rt, others.next(), 33);
     let last = others.next().expect(&rt, "an answer");
     assert_same(&rt, &last.role, &Role::Control);
     assert_holds(&rt, others.next().is_none());
