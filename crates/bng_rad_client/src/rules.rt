@@ -2,7 +2,7 @@ use arrayvec::ArrayVec;
 use bng_base::{Frame, Peer, SessionNo};
 
 /// The two kinds of requests, each with identifiers of its own: Access-Requests and Accounting-Requests.
-#[derive(Clone, Copy)]
+#[derive(Clone, Copy, PartialEq, Eq)]
 pub enum Lane {
     Auth,
     Acct,
