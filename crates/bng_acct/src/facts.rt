@@ -2,7 +2,7 @@ use arrayvec::ArrayVec;
 use bng_base::{Book, Circuit, Ip4, TermId};
 
 /// What a record is of (RFC 2866 section 5.1).
-#[derive(Clone, Copy, PartialEq, Eq, Debug)]
+#[derive(Clone, Copy)]
 pub enum StatusType {
     Start,
     Interim,
@@ -24,7 +24,7 @@ pub struct TermFacts {
 
 /// When and why a record is formed: the moment in milliseconds, the second of the wall clock, and the
 /// Acct-Terminate-Cause (RFC 2866 section 5.10), which is 0 and not written for a Start and an Interim.
-#[derive(Clone, Copy, PartialEq, Eq, Debug)]
+#[derive(Clone, Copy)]
 pub struct Moment {
     pub now: u64,
     pub wall: u64,
@@ -32,7 +32,7 @@ pub struct Moment {
 }
 
 /// The number of a record. It is no other record's as long as the spool knows it.
-#[derive(Clone, Copy, PartialEq, Eq, PartialOrd, Ord, Debug)]
+#[derive(Clone, Copy, PartialEq, Eq)]
 pub struct RecordNo(pub u32);
 
 /// A record: of what, of whom, and when.

@@ -12,7 +12,7 @@ pub struct AcctRules {
 }
 
 /// Why a spool was not opened.
-#[derive(Clone, Copy, PartialEq, Eq, Debug)]
+#[derive(Clone, Copy, Debug)]
 pub enum SpoolError {
     OutOfMemory,
 }

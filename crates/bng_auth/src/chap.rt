@@ -19,7 +19,7 @@ const VALUE: u8 = 16;
 
 /// A peer that authenticates itself by CHAP. Contracts see the Challenge's Identifier and Value, whether a question was
 /// asked, and the verdict.
-#[derive(Debug, Drop)]
+#[derive(Drop)]
 pub struct Chap {
     id: u8,
     challenge: [u8; 16],

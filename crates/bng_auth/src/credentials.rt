@@ -10,7 +10,7 @@ pub const NAME_MOST: usize = 128;
 pub const PASSWORD_MOST: usize = 128;
 
 /// How a peer proves that it has the name.
-#[derive(Clone, Debug, Drop)]
+#[derive(Drop)]
 pub enum Proof {
     /// The password itself (RFC 1334 section 2.2.1).
     Pap(ArrayVec<u8, 128>),
@@ -23,7 +23,7 @@ pub enum Proof {
 }
 
 /// A name and its proof.
-#[derive(Clone, Debug, Drop)]
+#[derive(Drop)]
 pub struct Credentials {
     pub name: ArrayVec<u8, 128>,
     pub proof: Proof,

@@ -14,7 +14,7 @@ use std::marker::Model;
 
 /// A peer that authenticates itself by PAP. Contracts see the Identifier of the request that was asked about, and the
 /// verdict.
-#[derive(Debug, Drop)]
+#[derive(Drop)]
 pub struct Pap {
     asked: Option<u8>,
     verdict: Option<Verdict>,

@@ -12,14 +12,14 @@ use bng_ppp_wire::code::{AUTHENTICATE_ACK, AUTHENTICATE_NAK, FAILURE, SUCCESS};
 pub const TEXT_MOST: usize = 253;
 
 /// What was found of a peer, and the text that says so.
-#[derive(Clone, Debug, Drop)]
+#[derive(Drop)]
 pub struct Verdict {
     pub yes: bool,
     pub text: ArrayVec<u8, 253>,
 }
 
 /// An Authenticate-Ack or -Nak (RFC 1334 section 2.2.2), a Success or a Failure (RFC 1994 section 4.2).
-#[derive(Clone, Debug, Drop)]
+#[derive(Drop)]
 pub struct Reply {
     pub kind: AuthKind,
     /// The peer is who it says.

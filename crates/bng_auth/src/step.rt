@@ -3,7 +3,7 @@ use crate::credentials::Credentials;
 use crate::reply::Reply;
 
 /// What is to be done at a packet of a peer.
-#[derive(Clone, Debug, Drop)]
+#[derive(Drop)]
 pub enum AuthStep {
     /// A question: is this the peer?
     Ask(Credentials),

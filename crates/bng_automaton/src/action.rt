@@ -1,7 +1,7 @@
 use arrayvec::ArrayVec;
 
 /// An action of the automaton, by RFC 1661 section 4.4.
-#[derive(Clone, Copy, PartialEq, Eq, Debug)]
+#[derive(Clone, Copy)]
 pub enum Action {
     /// This-Layer-Up: the layers above learn that the automaton is Opened.
     Tlu,

@@ -16,7 +16,7 @@ pub const RESTART_TIMER: u64 = 3000;
 ///
 /// A contract sees its state, its restart counter, the moment at which its restart timer was started last where the
 /// timer runs, and the three bounds that it was made with.
-#[derive(Clone, Copy, Debug)]
+#[derive(Clone, Copy)]
 pub struct Automaton {
     state: State,
     counter: u8,

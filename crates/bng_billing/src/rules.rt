@@ -12,7 +12,7 @@ pub struct BillingRules {
 }
 
 /// Why accounting was not opened.
-#[derive(Clone, Copy, PartialEq, Eq, Debug)]
+#[derive(Clone, Copy, Debug)]
 pub enum BillingError {
     OutOfMemory,
 }

@@ -7,7 +7,7 @@ use bng_base::{Octets, Peer};
 pub const KEPT: u64 = 30_000;
 
 /// What makes two requests equal: the sender, and the header of the packet (RFC 5176 section 2.3).
-#[derive(Clone, Copy, PartialEq, Eq, Debug)]
+#[derive(Clone, Copy)]
 pub struct Key {
     pub from: Peer,
     pub code: u8,

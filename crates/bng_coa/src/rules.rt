@@ -9,7 +9,7 @@ pub struct CoaRules {
 }
 
 /// Why a desk was not opened.
-#[derive(Clone, Copy, PartialEq, Eq, Debug)]
+#[derive(Clone, Copy, Debug)]
 pub enum CoaError {
     OutOfMemory,
 }
@@ -23,7 +23,7 @@ pub enum ChangeVerdict {
 
 /// Why a datagram is passed over: its sender is no peer; it is no CoA-Request or Disconnect-Request, or has more than 64
 /// attributes; a digest is wrong; or its Event-Timestamp is more than 300 s away.
-#[derive(Clone, Copy, PartialEq, Eq, Debug)]
+#[derive(Clone, Copy, PartialEq, Eq)]
 pub enum Ignored {
     Stranger,
     Malformed,

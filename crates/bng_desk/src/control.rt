@@ -13,7 +13,7 @@ use bng_plant::Plant;
 const CONTROL_MOST: usize = 8;
 
 /// What the reading of Control came to.
-#[derive(Clone, Copy, PartialEq, Eq, Debug)]
+#[derive(Clone, Copy)]
 pub struct Heeding {
     pub ended: Ended,
     /// A `stop` was taken.

@@ -36,7 +36,7 @@ const GRACES_MOST: u64 = 1_000_000;
 const KEPT_MOST: usize = 224;
 
 /// What a desk was not opened or did not report for.
-#[derive(Clone, Copy, PartialEq, Eq, Debug)]
+#[derive(Clone, Copy)]
 pub enum DeskError {
     OutOfMemory,
 }
@@ -44,7 +44,7 @@ pub enum DeskError {
 /// Where a desk stands. While it serves, a turn reads what came. In `Ending` a turn is one round in which sessions end, until none
 /// is left. In `Grace` a turn hears the server of accounting, until it has acknowledged each Stop, or for 30 seconds. `Starved` is the
 /// end where no round could be opened.
-#[derive(Clone, Copy, PartialEq, Eq, Debug)]
+#[derive(Clone, Copy)]
 pub enum DeskState {
     Serving,
     Ending,
@@ -55,7 +55,7 @@ pub enum DeskState {
 
 /// What a turn answers. `TraceFault` comes where the trace did not take the round, which is settled all the same. `WantOfMemory` comes
 /// before any call on the outside.
-#[derive(Clone, Copy, PartialEq, Eq, Debug)]
+#[derive(Clone, Copy)]
 pub enum Turned {
     Ok,
     TraceFault,

@@ -5,7 +5,7 @@ ghost use Rattle.bng_desk.specs.Round.{with_refused};
 use bng_base::{DropCause, Fate};
 
 /// How many items were dropped, by cause.
-#[derive(Clone, Copy, PartialEq, Eq, Debug)]
+#[derive(Clone, Copy)]
 pub struct Drops {
     pub malformed: u64,
     pub no_session: u64,

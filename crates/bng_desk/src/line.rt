@@ -2,7 +2,7 @@ use bng_base::{Ip4, SessionNo};
 use bng_shard::Traffic;
 
 /// A provisioned circuit, as the report names it: its session, the address of its subscriber, and what the Stops with this address say.
-#[derive(Debug, Drop)]
+#[derive(Drop)]
 pub struct Line {
     pub session: SessionNo,
     pub address: Ip4,

@@ -1,5 +1,5 @@
 /// How the reading of a role ended: at its number, at an empty answer, or at a failed one.
-#[derive(Clone, Copy, PartialEq, Eq, Debug)]
+#[derive(Clone, Copy)]
 pub enum Ended {
     Full,
     Dry,

@@ -2,7 +2,7 @@ use arrayvec::ArrayVec;
 use bng_base::Mac;
 
 /// What the gateway is on one access port.
-#[derive(Clone, Debug, Drop)]
+#[derive(Drop)]
 pub struct PortRules {
     /// The port's number.
     pub port: u8,

@@ -12,7 +12,7 @@ use bng_ppp_wire::{Ppp, protocol};
 use bng_pppoe_wire::{Pppoe, code};
 
 /// A datagram as it was taken.
-#[derive(Clone, Copy, Debug)]
+#[derive(Clone, Copy)]
 pub struct Arrived<'a> {
     /// Who sent it.
     pub from: Peer,

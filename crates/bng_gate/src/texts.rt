@@ -8,7 +8,7 @@ use bng_config::{Fault, FaultText, fault_text};
 use itoa::Buffer;
 
 /// What could not be opened.
-#[derive(Clone, Copy, PartialEq, Eq, Debug)]
+#[derive(Clone, Copy)]
 pub enum Opening {
     Configuration,
     Seed,

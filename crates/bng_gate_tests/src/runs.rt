@@ -1,14 +1,15 @@
 //! Whole runs over the outside in memory.
-use crate::asserts::{assert_holds, assert_same};
-use bng_base::{Ip4, Peer, Role};
+use crate::asserts::{assert_holds, assert_octets, assert_same};
+use bng_base::{Datagram, Ip4, Peer, Role};
 use bng_gate::run;
 use bng_plant::{
     Arrival, MemoryClock, MemoryEntropy, MemoryFile, MemoryFiles, MemoryPlant, MemorySink, NoTrace,
-    OpenGate, Trace,
+    OpenGate, Plant, Trace,
 };
 use std::alloc::{AllocError, Global};
 use std::process::Abort;
 use std::sync::Wait;
+use std::test::Fail;
 use std::thread::Threads;
 
 mod accounting;
@@ -209,10 +210,14 @@ fn a_turn_later() -> Arrival {
 
 /// The datagrams that a run sent, but for those of Acct, are these, of these roles and to these ports of 127.0.0.1.
 fn sends(rt: &impl Abort, ended: &Ended, wanted: &[(Role, u16, &[u8])]) {
-    let sent = ended.plant.sent().iter();
-    let others = sent.filter(|datagram| datagram.role != Role::Acct).count();
-    assert_same(rt, &others, &wanted.len());
+    assert_same(rt, &others(ended), &wanted.len());
     sends_from(rt, ended, 0, wanted);
+}
+
+/// How many datagrams a run sent, but for those of Acct.
+fn others(ended: &Ended) -> usize {
+    let sent = ended.plant.sent().iter();
+    sent.filter(|datagram| datagram.role != Role::Acct).count()
 }
 
 /// Of these datagrams those that a run sent from this place on, not counting those of Acct, are the first ones.
@@ -220,10 +225,29 @@ fn sends_from(rt: &impl Abort, ended: &Ended, place: usize, wanted: &[(Role, u16
     let sent = ended.plant.sent().iter();
     let others = sent.filter(|datagram| datagram.role != Role::Acct);
     for (datagram, (role, port, octets)) in others.skip(place).zip(wanted) {
-        assert_same(rt, &datagram.role, role);
-        assert_same(rt, &datagram.peer, &loopback(*port));
-        assert_same(rt, &datagram.octets.as_slice(), octets);
+        assert_datagram(rt, datagram, *role, *port, octets);
     }
+}
+
+/// A datagram has this role, and goes with these octets to this port of 127.0.0.1.
+fn assert_datagram(rt: &impl Abort, datagram: &Datagram, role: Role, port: u16, octets: &[u8]) {
+    assert_same(rt, &datagram.role, &role);
+    assert_same(rt, &datagram.peer, &loopback(port));
+    assert_octets(rt, datagram.octets.as_slice(), octets);
+}
+
+/// A datagram goes to this peer with these octets, which are given in digits.
+fn goes_to(
+    rt: &impl Abort,
+    alloc: Global,
+    datagram: &Datagram,
+    peer: Peer,
+    octets: &str,
+) -> Result<(), Fail> {
+    let octets = hex::decode(alloc, octets)?;
+    assert_same(rt, &datagram.peer, &peer);
+    assert_octets(rt, datagram.octets.as_slice(), octets.as_slice());
+    Ok(())
 }
 
 /// Whether the octets have these in them.
@@ -236,18 +260,29 @@ fn has(octets: &[u8], part: &[u8]) -> bool {
     false
 }
 
+/// Whether the octets have all of these in them.
+fn has_all(octets: &[u8], parts: &[&[u8]]) -> bool {
+    for part in parts {
+        if !has(octets, part) {
+            return false;
+        }
+    }
+    true
+}
+
 /// The datagram that a run sent at this place is an Accounting-Request to the server (RFC 2866 section 4.1) with these attributes.
 fn accounts(rt: &impl Abort, ended: &Ended, place: usize, attributes: &[&[u8]]) {
     let sent = ended.plant.sent();
-    assert!(rt; place < sent.len());
-    let datagram = &sent[place];
+    let datagram = sent.get(place).expect(rt, "a record");
+    assert_request(rt, datagram);
+    assert_holds(rt, has_all(datagram.octets.as_slice(), attributes));
+}
+
+/// A datagram is an Accounting-Request to the server.
+fn assert_request(rt: &impl Abort, datagram: &Datagram) {
     assert_same(rt, &datagram.role, &Role::Acct);
     assert_same(rt, &datagram.peer, &loopback(1813));
-    let octets = datagram.octets.as_slice();
-    assert_same(rt, &octets.first(), &Some(&4));
-    for attribute in attributes {
-        assert_holds(rt, has(octets, attribute));
-    }
+    assert_same(rt, &datagram.octets.as_slice().first(), &Some(&4));
 }
 
 /// A source of one seed. The calls with these numbers fail.
@@ -255,6 +290,76 @@ fn seed(alloc: Global, fails: &[u64]) -> Result<MemoryEntropy, AllocError> {
     let mut seeds = Vec::new(alloc);
     seeds.push(SEED)?;
     Ok(MemoryEntropy::new(seeds, fails.to_vec(alloc)?))
+}
+
+/// What stands beside the plant in a run.
+#[derive(Drop)]
+struct Beside {
+    words: Vec<String>,
+    files: MemoryFiles,
+    out: MemorySink,
+    err: MemorySink,
+}
+
+/// These words, each in memory of its own.
+fn words_of(alloc: Global, words: &[&str]) -> Result<Vec<String>, AllocError> {
+    let mut list = Vec::new(alloc);
+    for word in words {
+        list.push(String::from_str(alloc, *word)?)?;
+    }
+    Ok(list)
+}
+
+/// One file, `bng.toml`.
+fn files_of(alloc: Global, configuration: &str) -> Result<MemoryFiles, AllocError> {
+    let mut files = Vec::new(alloc);
+    files.push(MemoryFile::new(alloc, "bng.toml", configuration.as_bytes())?)?;
+    MemoryFiles::new(alloc, files, Vec::new(alloc), 8)
+}
+
+/// An output whose calls with these numbers fail.
+fn sink(alloc: Global, fails: &[u64]) -> Result<MemorySink, AllocError> {
+    MemorySink::new(alloc, fails.to_vec(alloc)?, 1024)
+}
+
+/// These words, one file, and an output whose calls with these numbers fail.
+fn around(
+    alloc: Global,
+    words: &[&str],
+    configuration: &str,
+    out_fails: &[u64],
+) -> Result<Beside, AllocError> {
+    Ok(Beside {
+        words: words_of(alloc, words)?,
+        files: files_of(alloc, configuration)?,
+        out: sink(alloc, out_fails)?,
+        err: sink(alloc, &[])?,
+    })
+}
+
+/// The status of a run over these.
+fn run_with<R: Threads + Wait + Sync, P: Plant, T: Trace>(
+    rt: &R,
+    alloc: Global,
+    around: &mut Beside,
+    plant: &mut P,
+    clock: &mut MemoryClock,
+    entropy: &mut MemoryEntropy,
+    trace: &mut T,
+) -> u8 {
+    run(
+        rt,
+        alloc,
+        &around.words,
+        &mut around.files,
+        plant,
+        clock,
+        entropy,
+        trace,
+        &mut around.out,
+        &mut around.err,
+        &OpenGate,
+    )
 }
 
 /// A run of these words over one file, `bng.toml`.
@@ -269,28 +374,22 @@ fn run_at<R: Threads + Wait + Sync, T: Trace>(
     trace: &mut T,
     out_fails: &[u64],
 ) -> Result<Ended, AllocError> {
-    let mut list = Vec::new(alloc);
-    for word in words {
-        list.push(String::from_str(alloc, *word)?)?;
-    }
-    let mut files = Vec::new(alloc);
-    files.push(MemoryFile::new(alloc, "bng.toml", configuration.as_bytes())?)?;
-    let mut files = MemoryFiles::new(alloc, files, Vec::new(alloc), 8)?;
-    let mut out = MemorySink::new(alloc, out_fails.to_vec(alloc)?, 1024)?;
-    let mut err = MemorySink::new(alloc, Vec::new(alloc), 1024)?;
-    let status = run(
+    let mut around = around(alloc, words, configuration, out_fails)?;
+    let status = run_with(
         rt,
         alloc,
-        &list,
-        &mut files,
+        &mut around,
         &mut plant,
         &mut clock,
         &mut entropy,
         trace,
-        &mut out,
-        &mut err,
-        &OpenGate,
     );
+    let Beside {
+        words: _,
+        files: _,
+        out,
+        err,
+    } = around;
     Ok(Ended {
         status,
         plant,
@@ -299,7 +398,30 @@ fn run_at<R: Threads + Wait + Sync, T: Trace>(
     })
 }
 
-/// The same at moments 10 ms apart.
+/// The service over this plant with a seed and no trace, at moments that are so many milliseconds apart.
+fn run_by<R: Threads + Wait + Sync>(
+    rt: &R,
+    alloc: Global,
+    configuration: &str,
+    plant: MemoryPlant,
+    step: u64,
+) -> Result<Ended, AllocError> {
+    let clock = MemoryClock::new(alloc, step, 1_700_000_000, 64)?;
+    let entropy = seed(alloc, &[])?;
+    run_at(
+        rt,
+        alloc,
+        &SERVE,
+        configuration,
+        plant,
+        clock,
+        entropy,
+        &mut NoTrace,
+        &[],
+    )
+}
+
+/// A run of these words at moments 10 ms apart.
 fn run_told<R: Threads + Wait + Sync, T: Trace>(
     rt: &R,
     alloc: Global,

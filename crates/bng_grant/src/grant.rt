@@ -13,7 +13,7 @@ use bng_base::Ip4;
 use bng_radius_wire::{Attribute, kinds, read};
 
 /// What an Access-Accept gives its peer.
-#[derive(Clone, Debug, Drop)]
+#[derive(Drop)]
 pub struct Grant<'a> {
     /// The name of the peer's profile, at least one octet: Filter-Id (RFC 2865 section 5.11).
     pub profile: Option<&'a [u8]>,

@@ -11,7 +11,7 @@ use bng_ppp_wire::{Packet, Reply, put_made, read_reply};
 use std::marker::Model;
 
 /// The gateway's side of IPCP on one link: what its next Configure-Request asks for, and the last one that it sent.
-#[derive(Clone, Copy, Debug)]
+#[derive(Clone, Copy)]
 pub struct IpcpAsk {
     wanted: IpcpOptions,
     sent: Option<SentRequest>,

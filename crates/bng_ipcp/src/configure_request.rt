@@ -16,7 +16,7 @@ pub struct IpcpOptions {
 }
 
 /// A Configure-Request that was sent.
-#[derive(Clone, Copy, PartialEq, Eq, Debug)]
+#[derive(Clone, Copy)]
 pub struct SentRequest {
     /// Its Identifier.
     pub id: u8,

@@ -8,7 +8,7 @@ use bng_base::Ip4;
 use bng_ppp_wire::{Class, Good, Judged, Opt, Row, Width};
 
 /// What a Configure-Request is judged by.
-#[derive(Clone, Copy, PartialEq, Eq, Debug)]
+#[derive(Clone, Copy)]
 pub struct IpcpRules {
     /// The address that the peer is to have.
     pub lease: Ip4,

@@ -1,5 +1,5 @@
 /// How far a call has come (RFC 2661 section 7.4.2).
-#[derive(Clone, Copy, PartialEq, Eq, Debug)]
+#[derive(Clone, Copy)]
 pub enum Phase {
     /// It has taken no message.
     Idle,

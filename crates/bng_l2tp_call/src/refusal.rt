@@ -2,7 +2,7 @@ ghost use Rattle.std.specs.Prelude.{◌≡◌};
 ghost use Rattle.bng_l2tp_call.specs.Spelling.{result_only as only_result, general_error as error_of, code_of as code_of_refusal, administrative as code_of_end};
 
 /// Why a message of a call is refused (RFC 2661 section 4.4.2). Each is told by a CDN.
-#[derive(Clone, Copy, PartialEq, Eq, Debug)]
+#[derive(Clone, Copy)]
 pub enum Refusal {
     /// An AVP that must be known is not.
     UnknownAvp,
@@ -15,7 +15,7 @@ pub enum Refusal {
 }
 
 /// What a Result Code AVP says (RFC 2661 section 4.4.2): a Result Code, and an Error Code where it has one.
-#[derive(Clone, Copy, PartialEq, Eq, Debug)]
+#[derive(Clone, Copy)]
 pub(crate) struct ResultCode {
     pub(crate) code: u16,
     pub(crate) error: Option<u16>,

@@ -21,7 +21,7 @@ pub const HELLO_AFTER: u64 = 60_000;
 ///
 /// A contract sees the messages that are not acknowledged, how often and when those in flight went out, its two numbers,
 /// and the moments of its timers.
-#[derive(Debug, Drop)]
+#[derive(Drop)]
 pub struct Channel {
     window: usize,
     messages: Ring,

@@ -2,7 +2,7 @@
 use crate::message::Message;
 
 /// A control message that goes out, with its numbers (RFC 2661 section 3.1).
-#[derive(Debug, Drop)]
+#[derive(Drop)]
 pub struct Outgoing {
     pub ns: u16,
     pub nr: u16,

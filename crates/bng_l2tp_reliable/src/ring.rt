@@ -14,7 +14,7 @@ pub const IN_FLIGHT_MOST: usize = 8;
 pub(crate) const PLACES: usize = WAITING_MOST + IN_FLIGHT_MOST;
 
 /// A queue of messages. Contracts see them, oldest first.
-#[derive(Debug, Drop)]
+#[derive(Drop)]
 pub(crate) struct Ring {
     places: [Message; PLACES],
     oldest: usize,

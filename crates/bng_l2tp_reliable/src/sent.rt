@@ -12,7 +12,7 @@ use arrayvec::ArrayVec;
 pub const WAITS: [u64; 5] = [1000, 2000, 4000, 8000, 8000];
 
 /// When a message in flight went out last, in milliseconds, and how often it went out again.
-#[derive(Clone, Copy, PartialEq, Eq, Debug, Default)]
+#[derive(Clone, Copy, Default)]
 pub struct Sent {
     pub moment: u64,
     pub resends: u8,

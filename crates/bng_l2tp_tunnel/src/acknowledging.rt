@@ -1,5 +1,5 @@
 /// How a message that was heard is acknowledged (RFC 2661 section 5.8).
-#[derive(Clone, Copy, PartialEq, Eq, Debug)]
+#[derive(Clone, Copy)]
 pub(crate) enum Acknowledging {
     /// There is nothing to acknowledge.
     Never,

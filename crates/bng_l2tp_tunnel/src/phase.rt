@@ -1,5 +1,5 @@
 /// How far a tunnel has come (RFC 2661 section 7.2).
-#[derive(Clone, Copy, PartialEq, Eq, Debug)]
+#[derive(Clone, Copy)]
 pub enum Phase {
     /// It has taken no message.
     Idle,

@@ -11,7 +11,7 @@ use bng_l2tp_wire::Avp;
 use bng_l2tp_wire::kind::RANDOM_VECTOR;
 
 /// An AVP of a message, and the last Random Vector before it (RFC 2661 section 4.3).
-#[derive(Clone, Copy, Debug)]
+#[derive(Clone, Copy)]
 pub(crate) struct Placed<'a> {
     pub(crate) avp: Avp<'a>,
     pub(crate) vector: Option<Avp<'a>>,

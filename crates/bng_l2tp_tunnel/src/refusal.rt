@@ -2,7 +2,7 @@ ghost use Rattle.std.specs.Prelude.{◌≡◌};
 ghost use Rattle.bng_l2tp_tunnel.specs.Spelling.{result_only as only_result, general_error as error_of, code_of as code_of_refusal, shut_down as code_of_shut_down};
 
 /// Why a tunnel is refused (RFC 2661 sections 4.4.2 and 7.2.1). Each is told by a StopCCN.
-#[derive(Clone, Copy, PartialEq, Eq, Debug)]
+#[derive(Clone, Copy)]
 pub enum Refusal {
     /// The peer's address is not a configured one.
     NotConfigured,
@@ -21,7 +21,7 @@ pub enum Refusal {
 }
 
 /// What a Result Code AVP says (RFC 2661 section 4.4.2): a Result Code, and an Error Code where it has one.
-#[derive(Clone, Copy, PartialEq, Eq, Debug)]
+#[derive(Clone, Copy)]
 pub(crate) struct ResultCode {
     pub(crate) code: u16,
     pub(crate) error: Option<u16>,

@@ -2,7 +2,7 @@ use arrayvec::ArrayVec;
 
 /// An AVP (RFC 2661 section 4.1). `kind` is its Attribute Type, of the module `kind` where `vendor`, its Vendor ID, is 0, or
 /// another. `value` has 1,017 octets at most; with `hidden` it is not what the AVP says, but hides it (section 4.3).
-#[derive(Clone, Copy, Debug)]
+#[derive(Clone, Copy)]
 pub struct Avp<'a> {
     /// M: who does not know the AVP ends the call or the tunnel.
     pub mandatory: bool,
@@ -44,7 +44,7 @@ pub struct Control<'a> {
 }
 
 /// A data message (RFC 2661 section 3.1): the receiver's Tunnel ID and Session ID, and a PPP frame without Address and Control.
-#[derive(Clone, Copy, Debug)]
+#[derive(Clone, Copy)]
 pub struct Data<'a> {
     pub tunnel: u16,
     pub session: u16,

@@ -13,7 +13,7 @@ pub struct LaneRules {
 }
 
 /// Why a lane was not opened.
-#[derive(Clone, Copy, PartialEq, Eq, Debug)]
+#[derive(Clone, Copy, Debug)]
 pub enum LaneError {
     OutOfMemory,
 }

@@ -16,7 +16,7 @@ use bng_ppp_wire::{Opt, Packet, Reply, names, put_made, read_reply};
 use std::marker::Model;
 
 /// The gateway's side of LCP on one link: what its next Configure-Request asks for, and the last one that it sent.
-#[derive(Debug, Drop)]
+#[derive(Drop)]
 pub struct LcpAsk {
     limit: u16,
     allowed: ArrayVec<AuthKind, 2>,

@@ -7,7 +7,7 @@ use crate::option::{LEAST_MRU, MAGIC_NUMBER, MAXIMUM_RECEIVE_UNIT};
 use bng_ppp_wire::{Class, Good, Judged, Opt, Row, Width};
 
 /// What a Configure-Request is judged by.
-#[derive(Clone, Copy, PartialEq, Eq, Debug)]
+#[derive(Clone, Copy)]
 pub struct LcpRules {
     /// The largest Maximum-Receive-Unit that is taken, and the one that is suggested, in octets.
     pub limit: u16,

@@ -1,7 +1,7 @@
 use bng_base::{Peer, TunnelNo, TunnelStep};
 
 /// Who sent a control message, when it came, in milliseconds, and random octets for what it makes.
-#[derive(Clone, Copy, Debug)]
+#[derive(Clone, Copy)]
 pub struct Came {
     pub from: Peer,
     pub random: [u8; 16],

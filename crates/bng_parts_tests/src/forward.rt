@@ -1,11 +1,10 @@
 ghost use Rattle.std.specs.Prelude.{◌≡◌, ◌≤◌, length};
 
-use crate::asserts::{assert_holds, assert_same};
-use bng_base::{AccessPort, DropCause, Fate, Frame, Ip4, Mac, Peer, Rate, SessionNo};
-use bng_forward::{
-    Arrived, TermView, carried, down, frame_at, names_session, packet_from, put_in_frame,
-    take_from_frame, up,
-};
+mod datagrams;
+
+use crate::asserts::{assert_octets, assert_same};
+use bng_base::{DropCause, Fate, Frame, Ip4, Rate};
+use bng_forward::{TermView, down, up};
 use bng_ipv4::read;
 use bng_meter::Meter;
 use std::process::Abort;
@@ -26,30 +25,6 @@ const DOWN: [u8; 20] = [
 
 const DOWN_SENT: [u8; 20] = [
     0x45, 0, 0, 0x14, 0, 2, 0, 0, 1, 0x11, 0xed, 0xd4, 192, 0, 2, 1, 10, 0, 0, 2,
-];
-
-// UP in a frame of session 1025 that is padded to 60 octets
-const FRAME: [u8; 60] = [
-    2, 0, 0, 0, 0, 0xfe, 2, 0, 0, 0, 0, 1, 0x88, 0x64, 0x11, 0, 4, 1, 0, 0x16, 0, 0x21, 0x45, 0, 0,
-    0x14, 0, 2, 0, 0, 2, 0x11, 0xec, 0xd4, 10, 0, 0, 2, 192, 0, 2, 1, 0, 0, 0, 0, 0, 0, 0, 0, 0, 0,
-    0, 0, 0, 0, 0, 0, 0, 0,
-];
-
-// DOWN_SENT in a frame of session 1025
-const FRAME_SENT: [u8; 42] = [
-    2, 0, 0, 0, 0, 1, 2, 0, 0, 0, 0, 0xfe, 0x88, 0x64, 0x11, 0, 4, 1, 0, 0x16, 0, 0x21, 0x45, 0, 0,
-    0x14, 0, 2, 0, 0, 1, 0x11, 0xed, 0xd4, 192, 0, 2, 1, 10, 0, 0, 2,
-];
-
-// a PADT of session 1025
-const PADT: [u8; 20] = [
-    2, 0, 0, 0, 0, 0xfe, 2, 0, 0, 0, 0, 1, 0x88, 0x63, 0x11, 0xa7, 4, 1, 0, 0,
-];
-
-// a PADI to all with an empty Service-Name
-const PADI: [u8; 24] = [
-    0xff, 0xff, 0xff, 0xff, 0xff, 0xff, 2, 0, 0, 0, 0, 1, 0x88, 0x63, 0x11, 9, 0, 0, 0, 4, 1, 1, 0,
-    0,
 ];
 
 const SUBSCRIBER: Ip4 = Ip4(0x0a00_0002);
@@ -101,7 +76,7 @@ fn goes_up_at(
 {
     let mut frame = frame_of(octets);
     assert_same(rt, &up(found, now, &mut frame), &fate);
-    assert_same(rt, &frame.payload(), &after);
+    assert_octets(rt, frame.payload(), after);
 }
 
 fn goes_up(
@@ -117,7 +92,23 @@ fn goes_up(
     goes_up_at(rt, &mut found, 0, octets, fate, after);
 }
 
-// A packet of the core, of whose destination this is the holder, at a moment: its fate, and the packet afterwards.
+// The fate of a packet of the core, of whose destination this is the holder, at a moment. None where it is no packet.
+fn passed_down(
+    holder: &mut Option<TermView>,
+    now: u64,
+    octets: &[u8],
+    frame: &mut Frame,
+) -> Option<Fate>
+    requires { frame.old.payload ≡ octets.now }
+    ensures { frame.new.headroom ≡ frame.old.headroom }
+{
+    match read(octets) {
+        Ok(header) => Some(down(holder, now, header, frame)),
+        Err(_) => None,
+    }
+}
+
+// Its fate, and the packet afterwards.
 fn goes_down_at(
     rt: &impl Abort,
     holder: &mut Option<TermView>,
@@ -129,13 +120,9 @@ fn goes_down_at(
     requires { length octets.now ≤ 64 }
 {
     let mut frame = frame_of(octets);
-    match read(octets) {
-        Ok(header) => {
-            assert_same(rt, &down(holder, now, header, &mut frame), &fate);
-            assert_same(rt, &frame.payload(), &after);
-        }
-        Err(_) => assert_holds(rt, false),
-    }
+    let found = passed_down(holder, now, octets, &mut frame);
+    assert_same(rt, &found, &Some(fate));
+    assert_octets(rt, frame.payload(), after);
 }
 
 fn goes_down(rt: &impl Abort, holder: Option<TermView>, octets: &[u8], fate: Fate, after: &[u8])
@@ -145,28 +132,40 @@ fn goes_down(rt: &impl Abort, holder: Option<TermView>, octets: &[u8], fate: Fat
     goes_down_at(rt, &mut holder, 0, octets, fate, after);
 }
 
+fn go_up_with_no_term(rt: &impl Abort, short: &[u8])
+    requires { length short.now ≤ 64 }
+{
+    let no_session = Fate::Dropped(DropCause::NoSession);
+    goes_up(rt, None, &UP, no_session, &UP);
+    goes_up(rt, None, short, no_session, short);
+    let not_open = Fate::Dropped(DropCause::NotOpen);
+    goes_up(rt, Some(None), &UP, not_open, &UP);
+    goes_up(rt, Some(None), short, not_open, short);
+    goes_up(rt, Some(Some(CLOSED)), &UP, not_open, &UP);
+    goes_up(rt, Some(Some(CLOSED)), short, not_open, short);
+}
+
+fn go_up_in_vain(rt: &impl Abort, short: &[u8])
+    requires { length short.now ≤ 64 }
+{
+    let malformed = Fate::Dropped(DropCause::Malformed);
+    goes_up(rt, Some(Some(OPEN)), short, malformed, short);
+    let expired = Fate::Dropped(DropCause::Expired);
+    goes_up(rt, Some(Some(OPEN)), &UP_SENT, expired, &UP_SENT);
+    goes_up(rt, Some(Some(OTHER)), &UP_SENT, expired, &UP_SENT);
+    let spoofed = Fate::Dropped(DropCause::Spoofed);
+    goes_up(rt, Some(Some(OTHER)), &UP, spoofed, &UP);
+}
+
 #[test]
 fn a_packet_of_the_subscriber_is_passed_on_or_left_as_it_is(rt: HostRuntime) {
     let mut padded = [0; 46];
     padded[..20].copy_from_slice(&UP);
-    let short = &UP[..19];
     goes_up(&rt, Some(Some(OPEN)), &UP, Fate::Forwarded, &UP_SENT);
     goes_up(&rt, Some(Some(OPEN)), &padded, Fate::Forwarded, &UP_SENT);
-    let no_session = Fate::Dropped(DropCause::NoSession);
-    goes_up(&rt, None, &UP, no_session, &UP);
-    goes_up(&rt, None, short, no_session, short);
-    let not_open = Fate::Dropped(DropCause::NotOpen);
-    goes_up(&rt, Some(None), &UP, not_open, &UP);
-    goes_up(&rt, Some(None), short, not_open, short);
-    goes_up(&rt, Some(Some(CLOSED)), &UP, not_open, &UP);
-    goes_up(&rt, Some(Some(CLOSED)), short, not_open, short);
-    let malformed = Fate::Dropped(DropCause::Malformed);
-    goes_up(&rt, Some(Some(OPEN)), short, malformed, short);
-    let expired = Fate::Dropped(DropCause::Expired);
-    goes_up(&rt, Some(Some(OPEN)), &UP_SENT, expired, &UP_SENT);
-    goes_up(&rt, Some(Some(OTHER)), &UP_SENT, expired, &UP_SENT);
-    let spoofed = Fate::Dropped(DropCause::Spoofed);
-    goes_up(&rt, Some(Some(OTHER)), &UP, spoofed, &UP);
+    let short = &UP[..19];
+    go_up_with_no_term(&rt, short);
+    go_up_in_vain(&rt, short);
 }
 
 #[test]
@@ -294,151 +293,4 @@ fn a_packet_of_the_core_passes_by_the_output_meter(rt: HostRuntime) {
     goes_down_at(&rt, &mut holder, 1001, &DOWN_SENT, expired, &DOWN_SENT);
     let mut found = Some(holder);
     goes_up_at(&rt, &mut found, 1001, &UP, Fate::Forwarded, &UP_SENT);
-}
-
-fn port_end(port: u16) -> Peer {
-    Peer {
-        ip: Ip4(0x7f00_0001),
-        port,
-    }
-}
-
-const MAC: Mac = Mac([2, 0, 0, 0, 0, 1]);
-
-fn access_port() -> AccessPort {
-    AccessPort {
-        local: port_end(9010),
-        peer: port_end(9011),
-        mac: Mac([2, 0, 0, 0, 0, 0xfe]),
-    }
-}
-
-// The fate of a datagram of the access port, where one circuit has a session: MAC's, of number 1025.
-fn goes_to_core(cut: bool, frame: &mut Frame) -> Fate {
-    let octets = frame.payload();
-    let from = port_end(9011);
-    let ports = [access_port()];
-    let Some(came) = frame_at(&ports, 1, &Arrived { from, cut, octets }) else {
-        return Fate::Dropped(DropCause::Malformed);
-    };
-    let mut found = if came.src == MAC && came.session == 1025 {
-        Some(Some(OPEN))
-    } else {
-        None
-    };
-    let Some(info) = carried(&came) else {
-        if found.is_none() && names_session(&came) {
-            return Fate::Dropped(DropCause::NoSession);
-        }
-        return Fate::Consumed;
-    };
-    let size = info.len();
-    take_from_frame(frame, size);
-    up(&mut found, 0, frame)
-}
-
-#[test]
-fn each_datagram_of_an_access_port_has_its_fate(rt: HostRuntime) {
-    let malformed = Fate::Dropped(DropCause::Malformed);
-    let no_session = Fate::Dropped(DropCause::NoSession);
-    // an octet of the frame changed: nothing, MAC of the port, MAC of the subscriber, EtherType, SESSION_ID, LENGTH,
-    // protocol, TTL
-    let changed = [
-        (0, 2, Fate::Forwarded),
-        (5, 0xff, malformed),
-        (11, 2, no_session),
-        (13, 0x65, malformed),
-        (17, 2, no_session),
-        (19, 0x29, malformed),
-        (19, 0x15, malformed),
-        (21, 0x57, Fate::Consumed),
-        (30, 3, malformed),
-    ];
-    for (place, octet, fate) in changed {
-        let mut bytes = FRAME;
-        if place < 60 {
-            bytes[place] = octet;
-        }
-        let mut frame = frame_of(&bytes);
-        assert_same(&rt, &goes_to_core(false, &mut frame), &fate);
-    }
-    let mut unknown = PADT;
-    unknown[17] = 2;
-    let mut frame = frame_of(&FRAME);
-    assert_same(&rt, &goes_to_core(true, &mut frame), &malformed);
-    frame.set(&PADI);
-    assert_same(&rt, &goes_to_core(false, &mut frame), &Fate::Consumed);
-    assert_same(&rt, &goes_to_core(true, &mut frame), &malformed);
-    frame.set(&PADT);
-    assert_same(&rt, &goes_to_core(false, &mut frame), &Fate::Consumed);
-    frame.set(&unknown);
-    assert_same(&rt, &goes_to_core(false, &mut frame), &no_session);
-}
-
-#[test]
-fn a_padded_frame_is_opened_to_its_packet(rt: HostRuntime) {
-    let mut frame = frame_of(&FRAME);
-    assert_same(&rt, &goes_to_core(false, &mut frame), &Fate::Forwarded);
-    assert_same(&rt, &frame.payload(), &UP_SENT.as_slice());
-}
-
-// The fate of a datagram of the core, where one address has a holder.
-fn goes_to_circuit(from: Peer, cut: bool, frame: &mut Frame) -> Fate {
-    let octets = frame.payload();
-    let Some(header) = packet_from(port_end(9001), &Arrived { from, cut, octets }) else {
-        return Fate::Dropped(DropCause::Malformed);
-    };
-    let mut holder = if header.dst == SUBSCRIBER {
-        Some(OPEN)
-    } else {
-        None
-    };
-    down(&mut holder, 0, header, frame)
-}
-
-#[test]
-fn each_datagram_of_the_core_has_its_fate(rt: HostRuntime) {
-    let core = port_end(9001);
-    let stranger = port_end(9002);
-    let malformed = Fate::Dropped(DropCause::Malformed);
-    let no_session = Fate::Dropped(DropCause::NoSession);
-    let expired = Fate::Dropped(DropCause::Expired);
-    let mut damaged = DOWN;
-    damaged[19] = 3;
-    let cases = [
-        (core, false, DOWN, Fate::Forwarded),
-        (core, false, DOWN_SENT, expired),
-        (core, false, UP, no_session),
-        (core, false, damaged, malformed),
-        (core, true, DOWN, malformed),
-        (stranger, false, DOWN, malformed),
-    ];
-    for (from, cut, packet, fate) in cases {
-        let mut frame = frame_of(&packet);
-        assert_same(&rt, &goes_to_circuit(from, cut, &mut frame), &fate);
-    }
-}
-
-#[test]
-fn a_packet_of_the_core_becomes_a_frame_of_its_circuit(rt: HostRuntime) {
-    let core = port_end(9001);
-    let mut frame = frame_of(&DOWN);
-    match read(&DOWN) {
-        Ok(header) => {
-            let mut holder = Some(OPEN);
-            assert_same(
-                &rt,
-                &down(&mut holder, 0, header, &mut frame),
-                &Fate::Forwarded,
-            );
-        }
-        Err(_) => assert_holds(&rt, false),
-    }
-    assert_same(&rt, &frame.payload(), &DOWN_SENT.as_slice());
-    put_in_frame(&access_port(), MAC, SessionNo(1025), &mut frame);
-    assert_same(&rt, &frame.payload(), &FRAME_SENT.as_slice());
-    frame.set(&DOWN_SENT);
-    let expired = Fate::Dropped(DropCause::Expired);
-    assert_same(&rt, &goes_to_circuit(core, false, &mut frame), &expired);
-    assert_same(&rt, &frame.payload(), &DOWN_SENT.as_slice());
 }

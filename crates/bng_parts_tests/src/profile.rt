@@ -1,10 +1,11 @@
 //! Two profiles and their books.
-ghost use Rattle.std.specs.Prelude.{◌≡◌, ◌≤◌, ◌<◌, length, IfSome};
+ghost use Rattle.std.specs.Prelude.{◌≡◌, ◌≤◌, ◌<◌, length, IfOk};
 
 use crate::asserts::assert_same;
 use arrayvec::ArrayVec;
 use bng_base::{Book, Profile};
-use bng_profile::Profiles;
+use bng_profile::{ProfileError, Profiles};
+use std::alloc::Global;
 use std::test::Fail;
 
 fn unmetered(name: &[u8]) -> Profile
@@ -49,9 +50,16 @@ fn take_off(profiles: &mut Profiles, profile: u8, octets: u16) -> Option<()>
     Some(())
 }
 
+// Two profiles.
+fn bronze_and_gold(alloc: Global) -> Result<Profiles, ProfileError>
+    ensures { IfOk result (λ p. length p.books ≡ 2) }
+{
+    Profiles::open(alloc, &[unmetered(b"bronze"), unmetered(b"gold")])
+}
+
 #[test]
 fn finds_each_profile_by_its_whole_name(rt: HostRuntime) -> Result<(), Fail> {
-    let profiles = Profiles::open(rt.alloc(), &[unmetered(b"bronze"), unmetered(b"gold")])?;
+    let profiles = bronze_and_gold(rt.alloc())?;
     assert_same(&rt, &profiles.find(b"bronze"), &Some(0));
     assert_same(&rt, &profiles.find(b"gold"), &Some(1));
     assert_same(&rt, &profiles.find(b"golden"), &None);
@@ -60,27 +68,38 @@ fn finds_each_profile_by_its_whole_name(rt: HostRuntime) -> Result<(), Fail> {
     Ok(())
 }
 
+// Four packets pass, and the last one is taken off.
+fn pass_and_take_off(profiles: &mut Profiles) -> Result<(), Fail>
+    requires { length profiles.old.books ≡ 2 }
+    ensures { length profiles.new.books ≡ 2 }
+{
+    pass(profiles, 0, true, 100).ok_or("full")?;
+    pass(profiles, 1, true, 200).ok_or("full")?;
+    pass(profiles, 1, false, 84).ok_or("full")?;
+    pass(profiles, 1, true, u16::MAX).ok_or("full")?;
+    take_off(profiles, 1, u16::MAX).ok_or("empty")?;
+    Ok(())
+}
+
+const BRONZE: Book = Book {
+    input: 100,
+    output: 0,
+    input_packets: 1,
+    output_packets: 0,
+};
+
+const GOLD: Book = Book {
+    input: 200,
+    output: 84,
+    input_packets: 1,
+    output_packets: 1,
+};
+
 #[test]
 fn a_book_counts_what_passed_and_was_not_taken_off(rt: HostRuntime) -> Result<(), Fail> {
-    let mut profiles = Profiles::open(rt.alloc(), &[unmetered(b"bronze"), unmetered(b"gold")])?;
-    pass(&mut profiles, 0, true, 100).ok_or("full")?;
-    pass(&mut profiles, 1, true, 200).ok_or("full")?;
-    pass(&mut profiles, 1, false, 84).ok_or("full")?;
-    pass(&mut profiles, 1, true, u16::MAX).ok_or("full")?;
-    take_off(&mut profiles, 1, u16::MAX).ok_or("empty")?;
-    let bronze = Book {
-        input: 100,
-        output: 0,
-        input_packets: 1,
-        output_packets: 0,
-    };
-    let gold = Book {
-        input: 200,
-        output: 84,
-        input_packets: 1,
-        output_packets: 1,
-    };
-    assert_same(&rt, &profiles.book(0), &bronze);
-    assert_same(&rt, &profiles.book(1), &gold);
+    let mut profiles = bronze_and_gold(rt.alloc())?;
+    pass_and_take_off(&mut profiles)?;
+    assert_same(&rt, &profiles.book(0), &BRONZE);
+    assert_same(&rt, &profiles.book(1), &GOLD);
     Ok(())
 }

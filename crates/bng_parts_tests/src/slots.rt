@@ -2,7 +2,8 @@ ghost use Rattle.std.specs.Prelude.{◌≡◌, Some, None};
 
 use crate::asserts::assert_holds;
 use bng_base::{Circuit, Ip4, Mac, Peer, SessionNo, TermId, TunnelNo};
-use bng_slots::{Slots, Slotted};
+use bng_slots::{SlotError, Slots, Slotted};
+use std::alloc::Global;
 use std::process::Abort;
 use std::test::Fail;
 
@@ -43,20 +44,36 @@ fn number_of(slots: &mut Slots<Blank>, tag: u16) -> Option<SessionNo> {
     slots.insert(Blank { tag }).ok()
 }
 
+// The value that is handed back where all numbers are taken.
+fn handed_back(slots: &mut Slots<Blank>, tag: u16) -> Option<Blank> {
+    match slots.insert(Blank { tag }) {
+        Ok(_) => None,
+        Err(full) => Some(full.value),
+    }
+}
+
+fn fill(rt: &impl Abort, slots: &mut Slots<Blank>) {
+    for tag in 1..1023 {
+        assert_holds(rt, number_of(slots, tag) == Some(SessionNo(tag)));
+    }
+}
+
+fn give_five_again(rt: &impl Abort, slots: &mut Slots<Blank>) {
+    assert_holds(rt, slots.remove(SessionNo(5)) == Some(Blank { tag: 5 }));
+    assert_holds(rt, slots.remove(SessionNo(5)).is_none());
+    assert_holds(rt, number_of(slots, 3000) == Some(SessionNo(5)));
+}
+
 #[test]
 fn the_lowest_number_is_given_first_and_given_again(rt: HostRuntime) -> Result<(), Fail> {
     let mut slots = Slots::open(rt.alloc(), 0)?;
-    for tag in 1..1023 {
-        assert_holds(&rt, number_of(&mut slots, tag) == Some(SessionNo(tag)));
-    }
+    fill(&rt, &mut slots);
     assert_holds(&rt, slots.vacant().is_none());
-    match slots.insert(Blank { tag: 2000 }) {
-        Ok(_) => panic!(rt; "not full"),
-        Err(full) => assert_holds(&rt, full.value.tag == 2000),
-    }
-    assert_holds(&rt, slots.remove(SessionNo(5)) == Some(Blank { tag: 5 }));
-    assert_holds(&rt, slots.remove(SessionNo(5)).is_none());
-    assert_holds(&rt, number_of(&mut slots, 3000) == Some(SessionNo(5)));
+    assert_holds(
+        &rt,
+        handed_back(&mut slots, 2000) == Some(Blank { tag: 2000 }),
+    );
+    give_five_again(&rt, &mut slots);
     Ok(())
 }
 
@@ -162,29 +179,49 @@ fn found(
     )
 }
 
+fn lines(alloc: Global) -> Result<Slots<Line>, SlotError> {
+    Slots::open(alloc, 63)
+}
+
+fn finds(rt: &impl Abort, slots: &Slots<Line>, line: Line, n: Option<SessionNo>) {
+    assert_holds(rt, found(slots, &line) == (n, n, n));
+}
+
+// A line whose number is the low one, and one whose number is the high one.
+fn admit_two(rt: &impl Abort, slots: &mut Slots<Line>) {
+    admit(rt, slots, 65_534, pppoe(65_534));
+    admit(rt, slots, 64_513, l2tp(64_513));
+}
+
+fn removed(slots: &mut Slots<Line>, n: u16) -> bool {
+    slots.remove(SessionNo(n)).is_some()
+}
+
 #[test]
 fn each_index_leads_to_its_session_until_it_is_removed(rt: HostRuntime) -> Result<(), Fail> {
-    let mut slots = Slots::open(rt.alloc(), 63)?;
-    let (low, high) = (Some(SessionNo(64_513)), Some(SessionNo(65_534)));
-    admit(&rt, &mut slots, 65_534, pppoe(65_534));
-    admit(&rt, &mut slots, 64_513, l2tp(64_513));
-    assert_holds(&rt, found(&slots, &pppoe(65_534)) == (high, high, high));
-    assert_holds(&rt, found(&slots, &l2tp(64_513)) == (low, low, low));
-    assert_holds(&rt, slots.remove(SessionNo(65_534)).is_some());
-    assert_holds(&rt, found(&slots, &pppoe(65_534)) == (None, None, None));
+    let mut slots = lines(rt.alloc())?;
+    admit_two(&rt, &mut slots);
+    finds(&rt, &slots, pppoe(65_534), Some(SessionNo(65_534)));
+    finds(&rt, &slots, l2tp(64_513), Some(SessionNo(64_513)));
+    assert_holds(&rt, removed(&mut slots, 65_534));
+    finds(&rt, &slots, pppoe(65_534), None);
     Ok(())
+}
+
+fn admit_three(rt: &impl Abort, slots: &mut Slots<Line>) {
+    admit(rt, slots, 64_520, pppoe(64_520));
+    admit(rt, slots, 64_530, l2tp(64_530));
+    admit(rt, slots, 64_515, third());
 }
 
 #[test]
 fn the_earliest_deadline_comes_first_and_then_the_lower_number(
     rt: HostRuntime,
 ) -> Result<(), Fail> {
-    let mut slots = Slots::open(rt.alloc(), 63)?;
-    admit(&rt, &mut slots, 64_520, pppoe(64_520));
-    admit(&rt, &mut slots, 64_530, l2tp(64_530));
-    admit(&rt, &mut slots, 64_515, third());
+    let mut slots = lines(rt.alloc())?;
+    admit_three(&rt, &mut slots);
     assert_holds(&rt, slots.earliest() == Some((2000, SessionNo(64_530))));
-    assert_holds(&rt, slots.remove(SessionNo(64_530)).is_some());
+    assert_holds(&rt, removed(&mut slots, 64_530));
     assert_holds(&rt, slots.earliest() == Some((3000, SessionNo(64_515))));
     Ok(())
 }

@@ -18,107 +18,108 @@ fn told(alloc: Global, texts: &[&str]) -> Result<String, AllocError> {
     format!(in alloc; "{told:?}")
 }
 
+// The words of a command, and what is read of them.
+const COMMANDS: &[(&[&str], &str)] = &[
+    (
+        &["serve", "a.toml"],
+        "Ok(Serve { configuration: \"a.toml\", trace: None, rounds: 1099511627776 })",
+    ),
+    (
+        &["serve", "a.toml", "--rounds", "5"],
+        "Ok(Serve { configuration: \"a.toml\", trace: None, rounds: 5 })",
+    ),
+    (
+        &[
+            "serve",
+            "--rounds=1099511627776",
+            "a.toml",
+            "--trace",
+            "t=1",
+        ],
+        "Ok(Serve { configuration: \"a.toml\", trace: Some(\"t=1\"), rounds: 1099511627776 })",
+    ),
+    (
+        &[
+            "serve",
+            "--trace=t=1",
+            "--rounds",
+            "0000000000005",
+            "a.toml",
+        ],
+        "Ok(Serve { configuration: \"a.toml\", trace: Some(\"t=1\"), rounds: 5 })",
+    ),
+    (
+        &["check", "a.toml"],
+        "Ok(Check { configuration: \"a.toml\" })",
+    ),
+    (
+        &["exercise", "4000"],
+        "Ok(Exercise { subscribers: 4000, workers: 4 })",
+    ),
+    (
+        &["exercise", "1", "--workers", "16"],
+        "Ok(Exercise { subscribers: 1, workers: 16 })",
+    ),
+    (
+        &["exercise", "--workers=1", "2000"],
+        "Ok(Exercise { subscribers: 2000, workers: 1 })",
+    ),
+    (&["check", ""], "Ok(Check { configuration: \"\" })"),
+    (&["audit", "t"], "Ok(Audit { trace: \"t\" })"),
+    (&["check", "help"], "Ok(Check { configuration: \"help\" })"),
+    (
+        &["serve", "a.toml", "--trace", "audit"],
+        "Ok(Serve { configuration: \"a.toml\", trace: Some(\"audit\"), rounds: 1099511627776 })",
+    ),
+    (
+        &["serve", "serve"],
+        "Ok(Serve { configuration: \"serve\", trace: None, rounds: 1099511627776 })",
+    ),
+];
+
 #[test]
 fn reads_each_command(rt: HostRuntime) -> Result<(), Fail> {
-    let alloc = rt.alloc();
-    let rows: [(&[&str], &str); 13] = [
-        (
-            &["serve", "a.toml"],
-            "Ok(Serve { configuration: \"a.toml\", trace: None, rounds: 1099511627776 })",
-        ),
-        (
-            &["serve", "a.toml", "--rounds", "5"],
-            "Ok(Serve { configuration: \"a.toml\", trace: None, rounds: 5 })",
-        ),
-        (
-            &[
-                "serve",
-                "--rounds=1099511627776",
-                "a.toml",
-                "--trace",
-                "t=1",
-            ],
-            "Ok(Serve { configuration: \"a.toml\", trace: Some(\"t=1\"), rounds: 1099511627776 })",
-        ),
-        (
-            &[
-                "serve",
-                "--trace=t=1",
-                "--rounds",
-                "0000000000005",
-                "a.toml",
-            ],
-            "Ok(Serve { configuration: \"a.toml\", trace: Some(\"t=1\"), rounds: 5 })",
-        ),
-        (
-            &["check", "a.toml"],
-            "Ok(Check { configuration: \"a.toml\" })",
-        ),
-        (
-            &["exercise", "4000"],
-            "Ok(Exercise { subscribers: 4000, workers: 4 })",
-        ),
-        (
-            &["exercise", "1", "--workers", "16"],
-            "Ok(Exercise { subscribers: 1, workers: 16 })",
-        ),
-        (
-            &["exercise", "--workers=1", "2000"],
-            "Ok(Exercise { subscribers: 2000, workers: 1 })",
-        ),
-        (&["check", ""], "Ok(Check { configuration: \"\" })"),
-        (&["audit", "t"], "Ok(Audit { trace: \"t\" })"),
-        (&["check", "help"], "Ok(Check { configuration: \"help\" })"),
-        (
-            &["serve", "a.toml", "--trace", "audit"],
-            "Ok(Serve { configuration: \"a.toml\", trace: Some(\"audit\"), rounds: 1099511627776 })",
-        ),
-        (
-            &["serve", "serve"],
-            "Ok(Serve { configuration: \"serve\", trace: None, rounds: 1099511627776 })",
-        ),
-    ];
-    for (texts, wanted) in rows.iter() {
-        assert_same(&rt, &told(alloc, *texts)?.as_str(), wanted);
+    for (texts, wanted) in COMMANDS {
+        assert_same(&rt, &told(rt.alloc(), *texts)?.as_str(), wanted);
     }
     Ok(())
 }
 
+const OTHERS: &[&[&str]] = &[
+    &[],
+    &["serve"],
+    &["serve", "a.toml", "--rounds=0"],
+    &["serve", "--rounds", "5"],
+    &["serve", "a.toml", "--rounds", "5", "--rounds", "5"],
+    &["serve", "a.toml", "--rounds", "1099511627777"],
+    &["serve", "a.toml", "--rounds", "00000000000005"],
+    &["serve", "a.toml", "--rounds", "+5"],
+    &["serve", "a.toml", "--rounds"],
+    &["serve", "a.toml", "--rounds="],
+    &["serve", "a.toml", "--trace", "-t"],
+    &["serve", "a.toml", "--trace=-t"],
+    &["serve", "--", "a.toml"],
+    &["serve", "-"],
+    &["serve", "a.toml", "b.toml"],
+    &["serve", "a.toml", "--workers", "1"],
+    &["check", "a.toml", "--help"],
+    &["exercise", "0"],
+    &["exercise", "4001"],
+    &["exercise", "4", "--workers", "17"],
+    &["--version"],
+    &["help"],
+    &["serv", "a.toml"],
+    &["serve", "a.toml", "-h"],
+    &["serve", "a.toml", "--"],
+    &["serve", "a.toml", "--round", "5"],
+    &["serve", "a.toml", "--rounds", "5", "6"],
+    &["--rounds", "5", "serve", "a.toml"],
+];
+
 #[test]
 fn refuses_other_words(rt: HostRuntime) -> Result<(), Fail> {
-    let alloc = rt.alloc();
-    let rows: [&[&str]; 28] = [
-        &[],
-        &["serve"],
-        &["serve", "a.toml", "--rounds=0"],
-        &["serve", "--rounds", "5"],
-        &["serve", "a.toml", "--rounds", "5", "--rounds", "5"],
-        &["serve", "a.toml", "--rounds", "1099511627777"],
-        &["serve", "a.toml", "--rounds", "00000000000005"],
-        &["serve", "a.toml", "--rounds", "+5"],
-        &["serve", "a.toml", "--rounds"],
-        &["serve", "a.toml", "--rounds="],
-        &["serve", "a.toml", "--trace", "-t"],
-        &["serve", "a.toml", "--trace=-t"],
-        &["serve", "--", "a.toml"],
-        &["serve", "-"],
-        &["serve", "a.toml", "b.toml"],
-        &["serve", "a.toml", "--workers", "1"],
-        &["check", "a.toml", "--help"],
-        &["exercise", "0"],
-        &["exercise", "4001"],
-        &["exercise", "4", "--workers", "17"],
-        &["--version"],
-        &["help"],
-        &["serv", "a.toml"],
-        &["serve", "a.toml", "-h"],
-        &["serve", "a.toml", "--"],
-        &["serve", "a.toml", "--round", "5"],
-        &["serve", "a.toml", "--rounds", "5", "6"],
-        &["--rounds", "5", "serve", "a.toml"],
-    ];
-    for texts in rows.iter() {
-        assert_same(&rt, &told(alloc, *texts)?.as_str(), &"Err(Refused)");
+    for texts in OTHERS {
+        assert_same(&rt, &told(rt.alloc(), *texts)?.as_str(), &"Err(Refused)");
     }
     Ok(())
 }

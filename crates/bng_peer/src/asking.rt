@@ -1,5 +1,5 @@
 /// What became of what a peer has to send and wants an answer to.
-#[derive(Clone, Copy, PartialEq, Eq, Debug, Default)]
+#[derive(Clone, Copy, Default)]
 pub(crate) enum Asking {
     /// There is nothing, or it was answered.
     #[default]

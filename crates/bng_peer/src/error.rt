@@ -1,5 +1,5 @@
 /// Why there are no peers.
-#[derive(Clone, Copy, PartialEq, Eq, Debug)]
+#[derive(Clone, Copy, Debug)]
 pub enum PeerError {
     OutOfMemory,
 }

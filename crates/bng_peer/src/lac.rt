@@ -27,7 +27,7 @@ const NS_AT: usize = 8;
 const WINDOW: u16 = 4;
 
 /// What a message says of a call.
-#[derive(Clone, Copy, PartialEq, Eq, Debug)]
+#[derive(Clone, Copy)]
 pub(crate) enum News {
     Nothing,
     /// The gateway gave the call of a subscriber this session.

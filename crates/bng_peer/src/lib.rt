@@ -30,8 +30,6 @@ mod queue;
 mod script;
 mod server;
 mod subscriber;
-#[cfg(test)]
-mod tests;
 mod timers;
 mod tunnel_message;
 

@@ -8,7 +8,7 @@ use std::alloc::{AllocError, Global};
 const NONE: u32 = u32::MAX;
 
 /// Who stands before and behind a place of the queue.
-#[derive(Clone, Copy, PartialEq, Eq, Debug)]
+#[derive(Clone, Copy)]
 struct Link {
     is_in: bool,
     before: u32,

@@ -29,7 +29,7 @@ const STOP: u32 = 2;
 const INTERIM_UPDATE: u32 = 3;
 
 /// What a record tells.
-#[derive(Clone, Copy, PartialEq, Eq, Debug, Default)]
+#[derive(Clone, Copy, Default)]
 pub(crate) enum Status {
     #[default]
     Other,
@@ -38,7 +38,7 @@ pub(crate) enum Status {
 }
 
 /// A request that is to be answered.
-#[derive(Clone, Copy, Debug)]
+#[derive(Clone, Copy)]
 struct Asked {
     authenticator: [u8; 16],
     status: Status,
@@ -46,7 +46,7 @@ struct Asked {
 }
 
 /// The record that a reply acknowledges.
-#[derive(Clone, Copy, PartialEq, Eq, Debug)]
+#[derive(Clone, Copy)]
 pub(crate) struct Acknowledged {
     pub(crate) status: Status,
     pub(crate) subscriber: Option<u16>,

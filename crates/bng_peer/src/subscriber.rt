@@ -6,7 +6,7 @@ use bng_base::{Frame, Ip4};
 use bng_ppp_wire::{Packet, Ppp, protocol};
 
 /// What a subscriber is about.
-#[derive(Clone, Copy, PartialEq, Eq, Debug, Default)]
+#[derive(Clone, Copy, Default)]
 pub(crate) enum Stage {
     /// Over PPPoE: it looks for access concentrators (RFC 2516 section 5.1).
     #[default]

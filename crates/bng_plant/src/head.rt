@@ -1,5 +1,5 @@
 /// A round without its lists: its number, its moment in milliseconds and its second on the wall.
-#[derive(Clone, Copy, PartialEq, Eq, Debug)]
+#[derive(Clone, Copy)]
 pub struct Head {
     pub number: u64,
     pub moment: u64,

@@ -8,7 +8,7 @@ use crate::outside::{Gate, Trace};
 use bng_base::RoundRecord;
 
 /// A trace that keeps nothing and tells nothing, and never fails.
-#[derive(Clone, Copy, Debug)]
+#[derive(Clone, Copy)]
 pub struct NoTrace;
 
 impl Trace for NoTrace {
@@ -37,7 +37,7 @@ impl Trace for NoTrace {
 }
 
 /// A gate that does nothing.
-#[derive(Clone, Copy, Debug)]
+#[derive(Clone, Copy)]
 pub struct OpenGate;
 
 impl Gate for OpenGate {

@@ -15,7 +15,7 @@ use bng_base::Frame;
 use bng_ppp_wire::{Packet, protocol};
 
 /// How far a peer's authentication has come.
-#[derive(Debug, Drop)]
+#[derive(Drop)]
 pub enum Authentication {
     /// LCP is not Opened.
     Idle,

@@ -17,7 +17,7 @@ use bng_ppp_wire::code::TERMINATE_ACK;
 use bng_ppp_wire::{Packet, protocol};
 
 /// What the actions of an event send and keep.
-#[derive(Clone, Copy, Debug)]
+#[derive(Clone, Copy)]
 pub(crate) struct Cause<'a> {
     /// The restart timer is the cause.
     pub timed: bool,

@@ -11,7 +11,7 @@ use bng_ppp_wire::code::{
 use bng_ppp_wire::{Packet, protocol};
 
 /// What a packet of LCP is to the link.
-#[derive(Clone, Copy, PartialEq, Eq, Debug)]
+#[derive(Clone, Copy)]
 pub(crate) enum Kind {
     /// A Configure-Request.
     Request,

@@ -11,7 +11,7 @@ pub const NAKS_MOST: u8 = 5;
 pub const ECHOES_UNANSWERED_MOST: u8 = 3;
 
 /// What a link keeps beside its automaton and its own side of LCP.
-#[derive(Clone, Copy, Debug)]
+#[derive(Clone, Copy)]
 pub struct Kept {
     /// The largest Maximum-Receive-Unit that is taken, in octets.
     pub limit: u16,

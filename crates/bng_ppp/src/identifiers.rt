@@ -3,7 +3,7 @@ ghost use Rattle.std.specs.Prelude.{◌≡◌};
 ghost use Rattle.bng_ppp.specs.Identifiers.{next_of, first_ids, requested as ids_requested, ending as ids_ending};
 
 /// The Identifiers of the packets that an automaton originates.
-#[derive(Clone, Copy, Debug)]
+#[derive(Clone, Copy)]
 pub struct Identifiers {
     /// That of the next packet that is a new one.
     pub next: u8,

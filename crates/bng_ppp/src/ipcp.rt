@@ -13,7 +13,7 @@ use bng_ipcp::IpcpAsk;
 use std::marker::Model;
 
 /// IPCP of one link (RFC 1332). A contract sees its automaton, the gateway's own side, and what is kept beside them.
-#[derive(Debug, Drop)]
+#[derive(Drop)]
 pub(crate) struct Ipcp {
     pub(crate) machine: Automaton,
     pub(crate) ask: IpcpAsk,

@@ -15,7 +15,7 @@ use bng_ppp_wire::code::{TERMINATE_ACK, TERMINATE_REQUEST};
 use bng_ppp_wire::{Packet, protocol};
 
 /// What the actions of an event of IPCP send and keep.
-#[derive(Clone, Copy, Debug)]
+#[derive(Clone, Copy)]
 pub(crate) struct IpcpCause<'a> {
     /// The restart timer is the cause.
     pub timed: bool,

@@ -12,7 +12,7 @@ use bng_ppp_wire::code::{
 };
 
 /// What a packet of IPCP is to the link.
-#[derive(Clone, Copy, PartialEq, Eq, Debug)]
+#[derive(Clone, Copy)]
 pub(crate) enum IpcpKind {
     /// A Configure-Request.
     Request,

@@ -3,7 +3,7 @@ use crate::identifiers::Identifiers;
 use bng_base::Ip4;
 
 /// What IPCP keeps beside its automaton and the gateway's own side.
-#[derive(Clone, Copy, Debug)]
+#[derive(Clone, Copy)]
 pub struct IpcpKept {
     /// The Identifiers of the packets that the gateway originates.
     pub ids: Identifiers,

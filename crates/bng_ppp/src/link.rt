@@ -25,7 +25,7 @@ pub(crate) const MAX_TERMINATE: u8 = 2;
 /// One PPP link, as far as LCP goes (RFC 1661).
 ///
 /// A contract sees LCP's automaton, the gateway's own side of LCP, and what the link keeps beside them.
-#[derive(Debug, Drop)]
+#[derive(Drop)]
 pub struct Link {
     pub(crate) lcp: Automaton,
     pub(crate) ask: LcpAsk,

@@ -5,7 +5,7 @@ use arrayvec::ArrayVec;
 use bng_base::{AuthKind, Ip4};
 
 /// What a link is run by. They are equal at each step of one link.
-#[derive(Debug, Drop)]
+#[derive(Drop)]
 pub struct LinkRules {
     /// The gateway's name, of at most 64 octets. No step of LCP looks at it.
     pub name: ArrayVec<u8, 64>,
@@ -20,7 +20,7 @@ pub struct LinkRules {
 }
 
 /// What carries the frames of a link.
-#[derive(Clone, Copy, PartialEq, Eq, Debug)]
+#[derive(Clone, Copy)]
 pub enum LinkKind {
     /// PPP over Ethernet, whose frames have at most 1,492 octets of information (RFC 2516 section 7).
     Pppoe,
@@ -43,7 +43,7 @@ pub(crate) fn limit(kind: LinkKind) -> u16
 }
 
 /// What a link is told.
-#[derive(Clone, Copy, Debug)]
+#[derive(Clone, Copy)]
 pub enum Input<'a> {
     /// The link may be opened and its lower layer is ready: Open and then Up.
     Start,

@@ -19,7 +19,7 @@ use bng_ppp_wire::code::PROTOCOL_REJECT;
 use bng_ppp_wire::{Packet, Ppp, protocol};
 
 /// Whose the octets of a frame are, and what they are there.
-#[derive(Clone, Copy, Debug)]
+#[derive(Clone, Copy)]
 pub(crate) enum Way<'a> {
     /// A packet of the authentication that was agreed.
     Auth(Packet<'a>),

@@ -3,7 +3,7 @@ use arrayvec::ArrayVec;
 use bng_base::Ip4;
 
 /// What a whole link is told.
-#[derive(Debug, Drop)]
+#[derive(Drop)]
 pub enum WholeInput<'a> {
     /// The link may be opened and its lower layer is ready: Open and then Up.
     Start,

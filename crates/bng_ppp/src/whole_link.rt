@@ -27,7 +27,7 @@ use std::marker::Model;
 ///
 /// A contract sees LCP, how far authentication has come and when its timer is due, IPCP, CHAP's counter of identifiers, and
 /// whether a term is live.
-#[derive(Debug, Drop)]
+#[derive(Drop)]
 pub struct WholeLink {
     pub(crate) lcp: Link,
     pub(crate) auth: Authentication,

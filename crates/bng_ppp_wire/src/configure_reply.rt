@@ -13,7 +13,7 @@ use arrayvec::ArrayVec;
 use bng_base::{Frame, ROOM};
 
 /// What a packet is to a Configure-Request that was sent.
-#[derive(Debug, Drop)]
+#[derive(Drop)]
 pub enum Reply<'a> {
     /// The Configure-Ack: it has the request's Identifier and exactly its options.
     Ack,

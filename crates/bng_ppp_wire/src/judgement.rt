@@ -11,7 +11,7 @@ use crate::view::Opt;
 use arrayvec::ArrayVec;
 
 /// The class of an option of a Configure-Request.
-#[derive(Clone, Copy, PartialEq, Eq, Debug)]
+#[derive(Clone, Copy)]
 pub enum Class {
     Ack,
     Nak,
@@ -19,7 +19,7 @@ pub enum Class {
 }
 
 /// How a Configure-Request is answered.
-#[derive(Debug, Drop)]
+#[derive(Drop)]
 pub enum Judged<'a> {
     /// A Configure-Ack with the options of the request.
     Ack,

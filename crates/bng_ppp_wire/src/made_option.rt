@@ -6,7 +6,7 @@ use arrayvec::ArrayVec;
 use bng_base::{Frame, ROOM};
 
 /// A configuration option that was made here: its Type and its Data.
-#[derive(PartialEq, Eq, Debug, Drop)]
+#[derive(Drop)]
 pub struct MadeOpt {
     pub kind: u8,
     pub value: ArrayVec<u8, 4>,

@@ -6,14 +6,14 @@ ghost use Rattle.bng_ppp_wire.specs.OptionTable.{number_of, is_good, row_of, sug
 use crate::made_option::{MadeOpt, made};
 
 /// How many octets an option's data have, which are a number with its most significant octet first.
-#[derive(Clone, Copy, PartialEq, Eq, Debug)]
+#[derive(Clone, Copy)]
 pub enum Width {
     Two,
     Four,
 }
 
 /// Which numbers are taken.
-#[derive(Clone, Copy, PartialEq, Eq, Debug)]
+#[derive(Clone, Copy)]
 pub enum Good {
     /// From the first to the second.
     Within(u32, u32),
@@ -24,7 +24,7 @@ pub enum Good {
 }
 
 /// An option that is negotiated.
-#[derive(Clone, Copy, PartialEq, Eq, Debug)]
+#[derive(Clone, Copy)]
 pub struct Row {
     /// Its Type.
     pub kind: u8,

@@ -1,5 +1,5 @@
 /// A PPP frame (RFC 1661 section 2): the number of its protocol, one of `protocol` or another, and all that follows.
-#[derive(Clone, Copy, Debug)]
+#[derive(Clone, Copy)]
 pub struct Ppp<'a> {
     pub protocol: u16,
     pub info: &'a [u8],
@@ -15,7 +15,7 @@ pub struct Packet<'a> {
 }
 
 /// A configuration option (RFC 1661 section 6): its Type and its Data.
-#[derive(Clone, Copy, Debug)]
+#[derive(Clone, Copy)]
 pub struct Opt<'a> {
     pub kind: u8,
     pub value: &'a [u8],

@@ -11,7 +11,7 @@ use bng_base::Frame;
 pub const INTERVAL: u64 = 3000;
 
 /// Which requests are looked for: those that were sent as often as they are to be, those that were not, all that are due, or all.
-#[derive(Clone, Copy, PartialEq, Eq, Debug)]
+#[derive(Clone, Copy)]
 pub enum Sought {
     Timeout(u8),
     Resend(u8),
@@ -79,7 +79,7 @@ pub enum DueRequest {
 }
 
 /// Which of two lanes' oldest requests was sent first.
-#[derive(Clone, Copy, PartialEq, Eq, Debug)]
+#[derive(Clone, Copy)]
 pub enum Longest {
     Auth(u8),
     Acct(u8),

@@ -9,7 +9,7 @@ use bng_radius_wire::{Checked, check_reply, codes, read};
 
 /// Why a datagram is passed over: it does not come from the lane's server; it is no packet, has more than 64 attributes, or
 /// has a code that the lane does not take; no request has its identifier; or a digest is wrong.
-#[derive(Clone, Copy, PartialEq, Eq, Debug)]
+#[derive(Clone, Copy, PartialEq, Eq)]
 pub enum Ignored {
     Stranger,
     Malformed,
@@ -18,7 +18,7 @@ pub enum Ignored {
 }
 
 /// What a datagram is: the reply to a request of this owner, or nothing.
-#[derive(Clone, Copy, PartialEq, Eq, Debug)]
+#[derive(Clone, Copy, PartialEq, Eq)]
 pub enum Replied {
     Matched(Owner),
     Ignored(Ignored),

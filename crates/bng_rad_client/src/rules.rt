@@ -2,18 +2,18 @@ use arrayvec::ArrayVec;
 use bng_base::{Frame, Peer, SessionNo};
 
 /// The two kinds of requests, each with identifiers of its own: Access-Requests and Accounting-Requests.
-#[derive(Clone, Copy, PartialEq, Eq, Debug)]
+#[derive(Clone, Copy, PartialEq, Eq)]
 pub enum Lane {
     Auth,
     Acct,
 }
 
 /// The number of an accounting record.
-#[derive(Clone, Copy, PartialEq, Eq, Debug)]
+#[derive(Clone, Copy, PartialEq, Eq)]
 pub struct RecordNo(pub u32);
 
 /// What a request is for: the question of a session, or an accounting record.
-#[derive(Clone, Copy, PartialEq, Eq, Debug)]
+#[derive(Clone, Copy, PartialEq, Eq)]
 pub enum Owner {
     Ask { session: SessionNo, ask: u64 },
     Record(RecordNo),
@@ -29,7 +29,7 @@ pub struct RadiusRules {
 }
 
 /// Why a client was not opened.
-#[derive(Clone, Copy, PartialEq, Eq, Debug)]
+#[derive(Clone, Copy, Debug)]
 pub enum ClientError {
     OutOfMemory,
 }

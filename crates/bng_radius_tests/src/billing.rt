@@ -1,14 +1,15 @@
-ghost use Rattle.std.specs.Prelude.{◌≡◌, ◌≤◌, ◌∷◌, [], None, List, IfOk};
+ghost use Rattle.std.specs.Prelude.{◌≡◌, ◌≤◌, [], None, List, IfOk};
 ghost use Rattle.bng_base.specs.declared.circuit.TermId.{TermId};
 ghost use Rattle.bng_radius_wire.specs.Attributes.{Field};
 ghost use Rattle.bng_acct.specs.Request.{AreClasses};
 ghost use Rattle.bng_acct.specs.Spool.{open_of};
 ghost use Rattle.bng_acct.specs.declared.facts.StatusType.{StatusType};
 
+use crate::acct::{PPPOE, classes};
 use crate::asserts::{assert_holds, assert_same};
 use arrayvec::ArrayVec;
 use bng_acct::{AcctRules, Moment, RecordNo, StatusType, TermFacts};
-use bng_base::{Book, Circuit, Frame, Ip4, Mac, Peer, SessionNo, TermId};
+use bng_base::{Book, Frame, Ip4, Peer, SessionNo, TermId};
 use bng_billing::{Billing, BillingError, BillingRules};
 use std::alloc::Global;
 use std::process::Abort;
@@ -46,26 +47,11 @@ const REPLY_TO_INTERIM: &str = "05010014202876fb20ea9c957776854a3989ce9b";
 
 const REPLY_TO_STOP_2: &str = "0502001464af99b8fc195190418837d05c10ea3c";
 
-const PPPOE: Circuit = Circuit::Pppoe {
-    port: 1,
-    mac: Mac([2, 0, 0, 0, 0, 1]),
-    session: SessionNo(1025),
-};
-
 // A list of these octets, as many of them as there is room for.
 fn listed<const N: usize>(octets: &[u8]) -> ArrayVec<u8, N> {
     let mut list = ArrayVec::new();
     let _ = list.try_extend_from_slice(octets);
     list
-}
-
-// The Classes "a" and "bc".
-fn classes() -> ArrayVec<u8, 512>
-    ensures { result.items ≡ 25 ∷ 3 ∷ 97 ∷ 25 ∷ 4 ∷ 98 ∷ 99 ∷ [] }
-{
-    let mut class = ArrayVec::new();
-    let _ = class.try_extend_from_slice(&[25, 3, 97, 25, 4, 98, 99]);
-    class
 }
 
 // The term with this number of session 1025, which began after a second.
@@ -240,13 +226,21 @@ fn send_and_hear(
     hear(rt, alloc, billing, SERVER, REPLY_TO_STOP, Some(stop))
 }
 
+// Forms the Start of the term 1, and its Stop.
+fn form_two(rt: &impl Abort, billing: &mut Billing) -> [RecordNo; 2]
+    requires { billing.old.spool.held ≡ [] }
+{
+    let term = facts(1);
+    let start = form(rt, billing, StatusType::Start, &term, 1_000);
+    let stop = form(rt, billing, StatusType::Stop, &term, 63_000);
+    [start, stop]
+}
+
 #[test]
 fn records_go_out_and_are_acknowledged_once(rt: HostRuntime) -> Result<(), Fail> {
     let mut billing = opened(rt.alloc())?;
     assert_holds(&rt, billing.server() == SERVER);
-    let term = facts(1);
-    let start = form(&rt, &mut billing, StatusType::Start, &term, 1_000);
-    let stop = form(&rt, &mut billing, StatusType::Stop, &term, 63_000);
+    let [start, stop] = form_two(&rt, &mut billing);
     send_and_hear(&rt, rt.alloc(), &mut billing, start, stop)?;
     assert_same(&rt, &billing.unacked_stops(), &0);
     assert_same(&rt, &billing.free(), &300);
@@ -254,19 +248,74 @@ fn records_go_out_and_are_acknowledged_once(rt: HostRuntime) -> Result<(), Fail>
     Ok(())
 }
 
+// No request is sent again at this moment.
+fn none_resent(billing: &mut Billing, now: u64) -> bool {
+    billing.resend(now).is_none()
+}
+
+// Sends a Start, and sends it again after 3 s and after 6 s.
+fn send_thrice(rt: &impl Abort, billing: &mut Billing, start: RecordNo) {
+    let frame = send(rt, billing, start, 0, 0);
+    assert_holds(rt, billing.deadline() == Some(3_000));
+    assert_holds(rt, none_resent(billing, 2_999));
+    for now in [3_000, 6_000] {
+        resend(rt, billing, 0, &frame, now);
+        assert_holds(rt, none_resent(billing, now));
+    }
+}
+
 #[test]
 fn a_request_is_sent_again_every_3_s_with_the_same_octets(rt: HostRuntime) -> Result<(), Fail> {
     let mut billing = opened(rt.alloc())?;
     let start = form(&rt, &mut billing, StatusType::Start, &facts(1), 1_000);
-    let frame = send(&rt, &mut billing, start, 0, 0);
-    assert_holds(&rt, billing.deadline() == Some(3_000));
-    assert_holds(&rt, billing.resend(2_999).is_none());
-    for now in [3_000, 6_000] {
-        resend(&rt, &mut billing, 0, &frame, now);
-        assert_holds(&rt, billing.resend(now).is_none());
-    }
+    send_thrice(&rt, &mut billing, start);
     assert_holds(&rt, billing.deadline() == Some(9_000));
     Ok(())
+}
+
+// Sends the record that waited longest with this identifier.
+fn send_with(rt: &impl Abort, billing: &mut Billing, id: u8) -> Option<RecordNo> {
+    match billing.send(0) {
+        Some((number, given, _)) => {
+            assert_same(rt, &given, &id);
+            Some(number)
+        }
+        None => {
+            assert!(rt; false, "no record is handed out");
+            None
+        }
+    }
+}
+
+// No record is handed out.
+fn none_sent(billing: &mut Billing) -> bool {
+    billing.send(0).is_none()
+}
+
+// Sends 256 records with the identifiers from 0 on, and no more: the first of them.
+fn send_all(rt: &impl Abort, billing: &mut Billing) -> Option<RecordNo> {
+    let mut first = None;
+    for id in 0..=255u8 {
+        let number = send_with(rt, billing, id);
+        first = first.or(number);
+    }
+    assert_holds(rt, none_sent(billing));
+    first
+}
+
+// Hears the reply to the first record, whose identifier the last one has then; the same reply is none to that one.
+fn send_the_last(
+    rt: &impl Abort,
+    alloc: Global,
+    billing: &mut Billing,
+    first: Option<RecordNo>,
+) -> Result<(), Fail> {
+    note(billing, 0, true);
+    hear(rt, alloc, billing, SERVER, REPLY_TO_START, first)?;
+    assert_same(rt, &billing.free(), &43);
+    assert_holds(rt, send_with(rt, billing, 0) != first);
+    assert_holds(rt, none_sent(billing));
+    hear(rt, alloc, billing, SERVER, REPLY_TO_START, None)
 }
 
 #[test]
@@ -274,41 +323,25 @@ fn at_most_256_requests_are_out_and_no_record_is_lost(rt: HostRuntime) -> Result
     let mut billing = opened(rt.alloc())?;
     form_starts(&rt, &mut billing);
     assert_same(&rt, &billing.free(), &43);
-    let mut first = None;
-    for id in 0..=255u8 {
-        match billing.send(0) {
-            Some((number, given, _)) => {
-                assert_same(&rt, &given, &id);
-                first = first.or(Some(number));
-            }
-            None => assert!(rt; false, "no record is handed out"),
-        }
-    }
-    assert_holds(&rt, billing.send(0).is_none());
+    let first = send_all(&rt, &mut billing);
+    send_the_last(&rt, rt.alloc(), &mut billing, first)
+}
 
-    note(&mut billing, 0, true);
-    hear(&rt, rt.alloc(), &mut billing, SERVER, REPLY_TO_START, first)?;
-    assert_same(&rt, &billing.free(), &43);
-    match billing.send(0) {
-        Some((number, id, _)) => {
-            assert_same(&rt, &id, &0);
-            assert_holds(&rt, Some(number) != first);
-        }
-        None => assert!(rt; false, "the last record is not handed out"),
-    }
-    assert_holds(&rt, billing.send(0).is_none());
-    hear(&rt, rt.alloc(), &mut billing, SERVER, REPLY_TO_START, None)?;
-    Ok(())
+// Forms the Start of the term 1, an Interim and its Stop.
+fn form_three(rt: &impl Abort, billing: &mut Billing) -> [RecordNo; 3]
+    requires { billing.old.spool.held ≡ [] }
+{
+    let term = facts(1);
+    let start = form(rt, billing, StatusType::Start, &term, 1_000);
+    let interim = form(rt, billing, StatusType::Interim, &term, 63_000);
+    assert_holds(rt, !billing.interim_free(&term.term));
+    let stop = form(rt, billing, StatusType::Stop, &term, 63_000);
+    [start, interim, stop]
 }
 
 // Sends a Start, an Interim and a Stop, and answers the request of the last one.
-fn send_three(
-    rt: &impl Abort,
-    billing: &mut Billing,
-    start: RecordNo,
-    interim: RecordNo,
-    stop: RecordNo,
-) -> Frame {
+fn send_three(rt: &impl Abort, billing: &mut Billing, numbers: [RecordNo; 3]) -> Frame {
+    let [start, interim, stop] = numbers;
     send(rt, billing, start, 0, 0);
     send(rt, billing, interim, 1, 0);
     let last = send(rt, billing, stop, 2, 0);
@@ -316,6 +349,14 @@ fn send_three(
         note(billing, id, true);
     }
     last
+}
+
+// The term whose Stop is listed first.
+fn first_stop(billing: &Billing) -> Option<TermId> {
+    match billing.unacked(0) {
+        Some(facts) => Some(facts.term),
+        None => None,
+    }
 }
 
 // Hears at the stop that a Stop alone is out, with this request, and is acknowledged.
@@ -330,24 +371,27 @@ fn hear_the_stop(
     hear(rt, alloc, billing, SERVER, REPLY_TO_START, None)?;
     hear(rt, alloc, billing, SERVER, REPLY_TO_INTERIM, None)?;
     resend(rt, billing, 2, request, 3_000);
-    assert_holds(rt, billing.resend(3_000).is_none());
+    assert_holds(rt, none_resent(billing, 3_000));
     hear(rt, alloc, billing, SERVER, REPLY_TO_STOP_2, Some(stop))
+}
+
+// Sends three records, of which the Stop is listed, and hears at the stop that it alone is out.
+fn stop_with_three(
+    rt: &impl Abort,
+    alloc: Global,
+    billing: &mut Billing,
+    numbers: [RecordNo; 3],
+) -> Result<(), Fail> {
+    let request = send_three(rt, billing, numbers);
+    assert_holds(rt, first_stop(billing) == Some(facts(1).term));
+    hear_the_stop(rt, alloc, billing, numbers[2], &request)
 }
 
 #[test]
 fn at_the_stop_a_stop_alone_stays_out(rt: HostRuntime) -> Result<(), Fail> {
     let mut billing = opened(rt.alloc())?;
-    let term = facts(1);
-    let start = form(&rt, &mut billing, StatusType::Start, &term, 1_000);
-    let interim = form(&rt, &mut billing, StatusType::Interim, &term, 63_000);
-    assert_holds(&rt, !billing.interim_free(&term.term));
-    let stop = form(&rt, &mut billing, StatusType::Stop, &term, 63_000);
-    let request = send_three(&rt, &mut billing, start, interim, stop);
-    match billing.unacked(0) {
-        Some(facts) => assert_holds(&rt, facts.term == term.term),
-        None => assert!(rt; false, "the Stop is not listed"),
-    }
-    hear_the_stop(&rt, rt.alloc(), &mut billing, stop, &request)?;
+    let numbers = form_three(&rt, &mut billing);
+    stop_with_three(&rt, rt.alloc(), &mut billing, numbers)?;
     assert_holds(&rt, billing.unacked(0).is_none());
     assert_same(&rt, &billing.free(), &300);
     Ok(())

@@ -1,10 +1,12 @@
-use crate::asserts::{assert_holds, assert_same};
+use crate::asserts::assert_holds;
 use arrayvec::ArrayVec;
 use bng_access::NasRules;
 use bng_auth::{Credentials, Proof};
 use bng_base::{Circuit, Frame, Ip4, Mac, Peer, SessionNo};
 use bng_lane::{Lane, LaneRules};
 use bng_verdict::{AuthAsk, QuestionNo};
+use std::alloc::Global;
+use std::process::Abort;
 use std::test::Fail;
 
 const SERVER: Peer = Peer {
@@ -29,6 +31,9 @@ const ACCEPT: &str = "020000149ef2e97b4e94755c8f16b6394f6e0595";
 const REJECT: &str = "03000014072453aba835418a6fe17de435de3db1";
 
 const ACCEPT_1: &str = "020100145ea7681f4b7cdfda62b84e3bebfe8d14";
+
+// The first of them with one octet changed.
+const WITH_ONE_OCTET_CHANGED: &str = "020000149ef2e97b4e94755c8f16b6394f6e0594";
 
 fn rules(tries: u8) -> LaneRules {
     let mut secret = ArrayVec::new();
@@ -78,33 +83,93 @@ fn asked(lane: &mut Lane, ask: u64, now: u64) -> Option<(u8, Frame)> {
     Some(lane.ask(&question, &AUTHENTICATOR, now))
 }
 
+// Asks the question of this number, as `asked`: its identifier.
+fn ask(lane: &mut Lane, number: u64) -> Option<u8> {
+    match asked(lane, number, 0) {
+        Some((id, _)) => Some(id),
+        None => None,
+    }
+}
+
+// Hears a datagram, in hexadecimal digits, which has to answer this question.
+fn hear(
+    rt: &impl Abort,
+    alloc: Global,
+    lane: &mut Lane,
+    from: Peer,
+    datagram: &str,
+    answer: Option<QuestionNo>,
+) -> Result<(), Fail> {
+    let octets = hex::decode(alloc, datagram)?;
+    assert_holds(rt, lane.take(from, octets.as_slice()) == answer);
+    Ok(())
+}
+
+// Notes what became of a send. Nothing is said of it, so that no proof looks into the list of what was sent.
+fn note(lane: &mut Lane, id: u8, sent: bool) {
+    lane.note(id, sent);
+}
+
+// Hears the reply before its request was sent, and where the send failed; and then sends it.
+fn hear_too_soon(rt: &impl Abort, alloc: Global, lane: &mut Lane) -> Result<(), Fail> {
+    hear(rt, alloc, lane, SERVER, ACCEPT, None)?;
+    note(lane, 0, false);
+    hear(rt, alloc, lane, SERVER, ACCEPT, None)?;
+    note(lane, 0, true);
+    Ok(())
+}
+
+// Hears what is no reply: from another port, with another Identifier, with one octet changed, and one octet alone.
+fn hear_others(rt: &impl Abort, alloc: Global, lane: &mut Lane) -> Result<(), Fail> {
+    hear(rt, alloc, lane, STRANGER, ACCEPT, None)?;
+    hear(rt, alloc, lane, SERVER, ACCEPT_1, None)?;
+    hear(rt, alloc, lane, SERVER, WITH_ONE_OCTET_CHANGED, None)?;
+    hear(rt, alloc, lane, SERVER, "02", None)
+}
+
 #[test]
 fn a_reply_counts_once_and_after_its_request_was_sent(rt: HostRuntime) -> Result<(), Fail> {
     let mut lane = Lane::open(rt.alloc(), rules(3))?;
     assert_holds(&rt, lane.server() == SERVER);
-    let (id, _) = asked(&mut lane, 7, 0).ok_or("no room")?;
-    assert_same(&rt, &id, &0);
-
-    let right = hex::decode(rt.alloc(), ACCEPT)?;
-    let of_another = hex::decode(rt.alloc(), ACCEPT_1)?;
-    let changed = hex::decode(rt.alloc(), "020000149ef2e97b4e94755c8f16b6394f6e0594")?;
-    assert_holds(&rt, lane.take(SERVER, right.as_slice()) == None);
-    lane.note(0, false);
-    assert_holds(&rt, lane.take(SERVER, right.as_slice()) == None);
-    lane.note(0, true);
-    let cases = [
-        (STRANGER, right.as_slice(), None),
-        (SERVER, of_another.as_slice(), None),
-        (SERVER, changed.as_slice(), None),
-        (SERVER, b"\x02", None),
-        (SERVER, right.as_slice(), Some(number(7))),
-        (SERVER, right.as_slice(), None),
-    ];
-    for (from, octets, answer) in cases {
-        assert_holds(&rt, lane.take(from, octets) == answer);
-    }
+    assert_holds(&rt, ask(&mut lane, 7) == Some(0));
+    hear_too_soon(&rt, rt.alloc(), &mut lane)?;
+    hear_others(&rt, rt.alloc(), &mut lane)?;
+    hear(&rt, rt.alloc(), &mut lane, SERVER, ACCEPT, Some(number(7)))?;
+    hear(&rt, rt.alloc(), &mut lane, SERVER, ACCEPT, None)?;
     assert_holds(&rt, lane.deadline() == None);
     Ok(())
+}
+
+// Whether the request with this identifier and these octets is sent again at this moment.
+fn is_resent(lane: &mut Lane, id: u8, frame: &Frame, now: u64) -> bool {
+    match lane.resend(now) {
+        Some((again, octets)) => again == id && octets.payload() == frame.payload(),
+        None => false,
+    }
+}
+
+// No request is sent again at this moment.
+fn none_resent(lane: &mut Lane, now: u64) -> bool {
+    lane.resend(now).is_none()
+}
+
+// The question 7 is asked, and its request is sent again after 3 s.
+fn send_twice(rt: &impl Abort, lane: &mut Lane) -> Result<(), Fail> {
+    let (id, frame) = asked(lane, 7, 0).ok_or("no room")?;
+    note(lane, id, true);
+    assert_holds(rt, lane.deadline() == Some(3000));
+    assert_holds(rt, none_resent(lane, 2999));
+    assert_holds(rt, is_resent(lane, id, &frame, 3000));
+    Ok(())
+}
+
+// It is given up after 3 s more.
+fn give_up(rt: &impl Abort, lane: &mut Lane) {
+    assert_holds(rt, none_resent(lane, 3000));
+    assert_holds(rt, lane.give_up(5999) == None);
+    assert_holds(rt, none_resent(lane, 6000));
+    assert_holds(rt, lane.give_up(6000) == Some(number(7)));
+    assert_holds(rt, lane.give_up(6000) == None);
 }
 
 #[test]
@@ -112,46 +177,41 @@ fn a_request_is_sent_again_after_3_s_and_given_up_after_its_tries(
     rt: HostRuntime,
 ) -> Result<(), Fail> {
     let mut lane = Lane::open(rt.alloc(), rules(2))?;
-    let (id, frame) = asked(&mut lane, 7, 0).ok_or("no room")?;
-    lane.note(id, true);
-    assert_holds(&rt, lane.deadline() == Some(3000));
-    assert_holds(&rt, lane.resend(2999).is_none());
-    match lane.resend(3000) {
-        Some((again, octets)) => {
-            assert_same(&rt, &again, &id);
-            assert_same(&rt, &octets.payload(), &frame.payload());
-        }
-        None => assert!(rt; false, "it is not sent again"),
-    }
-    assert_holds(&rt, lane.resend(3000).is_none());
-    assert_holds(&rt, lane.give_up(5999) == None);
-    assert_holds(&rt, lane.resend(6000).is_none());
-    assert_holds(&rt, lane.give_up(6000) == Some(number(7)));
-    assert_holds(&rt, lane.give_up(6000) == None);
+    send_twice(&rt, &mut lane)?;
+    give_up(&rt, &mut lane);
     assert_holds(&rt, lane.deadline() == None);
     Ok(())
+}
+
+// Asks a question, whose request has this identifier, and sends it.
+fn send_one(rt: &impl Abort, lane: &mut Lane, id: u8) {
+    assert_holds(rt, ask(lane, u64::from(id)) == Some(id));
+    note(lane, id, true);
+}
+
+// Asks 256 questions, for more of which there is no room.
+fn send_all(rt: &impl Abort, lane: &mut Lane) {
+    for id in 0..=255u8 {
+        send_one(rt, lane, id);
+    }
+    assert_holds(rt, !lane.room());
+    assert_holds(rt, ask(lane, 256).is_none());
 }
 
 #[test]
 fn an_identifier_is_given_again_and_was_not_sent_then(rt: HostRuntime) -> Result<(), Fail> {
     let mut lane = Lane::open(rt.alloc(), rules(2))?;
-    for k in 0..256u64 {
-        let (id, _) = asked(&mut lane, k, 0).ok_or("no room")?;
-        assert_same(&rt, &u64::from(id), &k);
-        lane.note(id, true);
-    }
-    assert_holds(&rt, !lane.room());
-    assert_holds(&rt, asked(&mut lane, 256, 0).is_none());
-
-    let reject = hex::decode(rt.alloc(), REJECT)?;
-    assert_holds(&rt, lane.take(SERVER, reject.as_slice()) == Some(number(0)));
-    let (id, _) = asked(&mut lane, 256, 0).ok_or("no room")?;
-    assert_same(&rt, &id, &0);
-    assert_holds(&rt, lane.take(SERVER, reject.as_slice()) == None);
-    lane.note(0, true);
-    assert_holds(
+    send_all(&rt, &mut lane);
+    hear(&rt, rt.alloc(), &mut lane, SERVER, REJECT, Some(number(0)))?;
+    assert_holds(&rt, ask(&mut lane, 256) == Some(0));
+    hear(&rt, rt.alloc(), &mut lane, SERVER, REJECT, None)?;
+    note(&mut lane, 0, true);
+    hear(
         &rt,
-        lane.take(SERVER, reject.as_slice()) == Some(number(256)),
-    );
-    Ok(())
+        rt.alloc(),
+        &mut lane,
+        SERVER,
+        REJECT,
+        Some(number(256)),
+    )
 }

@@ -5,6 +5,8 @@ use bng_rad_client::{
     Asked, Client, DueRequest, Ignored, Lane, Owner, RadiusRules, RecordNo, Replied,
 };
 use bng_radius_wire::{Radius, Written, codes, write};
+use std::alloc::Global;
+use std::process::Abort;
 use std::test::Fail;
 
 const SERVER: Peer = Peer {
@@ -61,175 +63,244 @@ fn ask_bare(
     }
 }
 
-// The Access-Request of RFC 2865 section 7.1 without its attributes, and a reply to it by Python's hashlib.
-#[test]
-fn a_reply_counts_once_and_signed(rt: HostRuntime) -> Result<(), Fail> {
-    let mut client = Client::open(rt.alloc(), &rules(3))?;
-    let owner = Owner::Ask {
-        session: SessionNo(1025),
-        ask: 1,
-    };
-    let (id, frame) = ask_bare(&mut client, Lane::Auth, owner, codes::ACCESS_REQUEST, 0).ok_or(
+// The reply to the first Access-Request by Python's hashlib, and the same with one octet changed.
+const RIGHT: &str = "020000149ef2e97b4e94755c8f16b6394f6e0595";
+
+const WRONG: &str = "020000149ef2e97b4e94755c8f16b6394f6e0594";
+
+// What a packet of 20 octets cannot be a reply for: an Identifier that is not out, and the code of another lane.
+const WITH_IDENTIFIER_1: &str = "020100142e2e2e2e2e2e2e2e2e2e2e2e2e2e2e2e";
+
+const WITH_CODE_5: &str = "050000142e2e2e2e2e2e2e2e2e2e2e2e2e2e2e2e";
+
+const ASK: Owner = Owner::Ask {
+    session: SessionNo(1025),
+    ask: 1,
+};
+
+// Sends the Access-Request of RFC 2865 section 7.1 without its attributes.
+fn ask_first(rt: &impl Abort, alloc: Global, client: &mut Client) -> Result<(), Fail> {
+    let (id, frame) = ask_bare(client, Lane::Auth, ASK, codes::ACCESS_REQUEST, 0).ok_or(
         "not sent",
     )?;
-    assert_same(&rt, &id, &0);
-    let text = hex::encode(rt.alloc(), frame.payload())?;
+    assert_same(rt, &id, &0);
+    let text = hex::encode(alloc, frame.payload())?;
     assert_same(
-        &rt,
+        rt,
         &text.as_str(),
         &"010000140f403f9473978057bd83d5cb98f4227a",
     );
-    assert_holds(&rt, client.owner(Lane::Auth, 0) == Some(owner));
+    Ok(())
+}
 
-    let right = hex::decode(rt.alloc(), "020000149ef2e97b4e94755c8f16b6394f6e0595")?;
-    let wrong = hex::decode(rt.alloc(), "020000149ef2e97b4e94755c8f16b6394f6e0594")?;
-    let cases = [
-        (
-            STRANGER,
-            right.as_slice(),
-            Replied::Ignored(Ignored::Stranger),
-        ),
-        (SERVER, b"\x02\x00", Replied::Ignored(Ignored::Malformed)),
-        (
-            SERVER,
-            b"\x02\x01\x00\x14................",
-            Replied::Ignored(Ignored::NotPending),
-        ),
-        (
-            SERVER,
-            b"\x05\x00\x00\x14................",
-            Replied::Ignored(Ignored::Malformed),
-        ),
-        (
-            SERVER,
-            wrong.as_slice(),
-            Replied::Ignored(Ignored::WrongDigest),
-        ),
-        (SERVER, right.as_slice(), Replied::Matched(owner)),
-        (
-            SERVER,
-            right.as_slice(),
-            Replied::Ignored(Ignored::NotPending),
-        ),
-    ];
-    for (from, bytes, answer) in cases {
-        assert_holds(&rt, client.reply(Lane::Auth, from, bytes) == answer);
-    }
+// Hears a datagram, in hexadecimal digits, on the lane Auth.
+fn hear(
+    rt: &impl Abort,
+    alloc: Global,
+    client: &mut Client,
+    from: Peer,
+    datagram: &str,
+    answer: Replied,
+) -> Result<(), Fail> {
+    let octets = hex::decode(alloc, datagram)?;
+    assert_holds(
+        rt,
+        client.reply(Lane::Auth, from, octets.as_slice()) == answer,
+    );
+    Ok(())
+}
+
+// Hears from the server what is ignored for this cause.
+fn hear_ignored(
+    rt: &impl Abort,
+    alloc: Global,
+    client: &mut Client,
+    datagram: &str,
+    cause: Ignored,
+) -> Result<(), Fail> {
+    hear(rt, alloc, client, SERVER, datagram, Replied::Ignored(cause))
+}
+
+// Hears what is no reply: of another address, two octets, with another Identifier, another code, and with one octet
+// changed.
+fn hear_others(rt: &impl Abort, alloc: Global, client: &mut Client) -> Result<(), Fail> {
+    let stranger = Replied::Ignored(Ignored::Stranger);
+    hear(rt, alloc, client, STRANGER, RIGHT, stranger)?;
+    hear_ignored(rt, alloc, client, "0200", Ignored::Malformed)?;
+    hear_ignored(rt, alloc, client, WITH_IDENTIFIER_1, Ignored::NotPending)?;
+    hear_ignored(rt, alloc, client, WITH_CODE_5, Ignored::Malformed)?;
+    hear_ignored(rt, alloc, client, WRONG, Ignored::WrongDigest)
+}
+
+// Hears the reply, and hears it again.
+fn hear_twice(rt: &impl Abort, alloc: Global, client: &mut Client) -> Result<(), Fail> {
+    hear(rt, alloc, client, SERVER, RIGHT, Replied::Matched(ASK))?;
+    hear_ignored(rt, alloc, client, RIGHT, Ignored::NotPending)
+}
+
+#[test]
+fn a_reply_counts_once_and_signed(rt: HostRuntime) -> Result<(), Fail> {
+    let mut client = Client::open(rt.alloc(), &rules(3))?;
+    ask_first(&rt, rt.alloc(), &mut client)?;
+    assert_holds(&rt, client.owner(Lane::Auth, 0) == Some(ASK));
+    hear_others(&rt, rt.alloc(), &mut client)?;
+    hear_twice(&rt, rt.alloc(), &mut client)?;
     assert_holds(&rt, client.owner(Lane::Auth, 0) == None);
     Ok(())
 }
 
-#[test]
-fn a_request_is_sent_again_every_3_s_and_given_up_after_tries(rt: HostRuntime) -> Result<(), Fail> {
-    let mut client = Client::open(rt.alloc(), &rules(2))?;
-    let owner = Owner::Ask {
-        session: SessionNo(1025),
-        ask: 1,
-    };
-    let (_, frame) = ask_bare(&mut client, Lane::Auth, owner, codes::ACCESS_REQUEST, 0).ok_or(
-        "not sent",
-    )?;
-    assert_holds(&rt, client.deadline(Lane::Auth) == Some(3000));
-    assert_holds(&rt, client.deadline(Lane::Acct) == None);
-    assert_holds(&rt, client.due(2999, false).is_none());
-    match client.due(3000, false) {
+// Whether the Access-Request with Identifier 0 is sent again at this moment, with the octets of this frame.
+fn is_resent(client: &mut Client, now: u64, frame: &Frame) -> bool {
+    match client.due(now, false) {
         Some(
             DueRequest::Resend {
                 lane: Lane::Auth,
                 id: 0,
                 frame: again,
             },
-        ) => assert_same(&rt, &again.payload(), &frame.payload()),
-        _ => assert!(rt; false, "it is not sent again"),
+        ) => again.payload() == frame.payload(),
+        _ => false,
     }
-    assert_holds(&rt, client.due(3000, false).is_none());
-    assert_holds(&rt, client.due(5999, true).is_none());
-    assert_holds(&rt, client.due(6000, false).is_none());
-    match client.due(6000, true) {
-        Some(DueRequest::TimedOut(whose)) => assert_holds(&rt, whose == owner),
-        _ => assert!(rt; false, "it is not given up"),
+}
+
+// The lane of the request that is sent again at this moment.
+fn resent_in(client: &mut Client, now: u64) -> Option<Lane> {
+    match client.due(now, false) {
+        Some(DueRequest::Resend { lane, .. }) => Some(lane),
+        _ => None,
     }
-    assert_holds(&rt, client.owner(Lane::Auth, 0) == None);
+}
+
+// The identifier of the request that is sent again at this moment.
+fn resent(client: &mut Client, now: u64) -> Option<u8> {
+    match client.due(now, false) {
+        Some(DueRequest::Resend { id, .. }) => Some(id),
+        _ => None,
+    }
+}
+
+// Whose request is given up at this moment.
+fn given_up(client: &mut Client, now: u64) -> Option<Owner> {
+    match client.due(now, true) {
+        Some(DueRequest::TimedOut(whose)) => Some(whose),
+        _ => None,
+    }
+}
+
+// Nothing of this kind is due at this moment.
+fn none_due(client: &mut Client, now: u64, timeouts: bool) -> bool {
+    client.due(now, timeouts).is_none()
+}
+
+// An Access-Request is sent again after 3 s.
+fn send_twice(rt: &impl Abort, client: &mut Client) -> Result<(), Fail> {
+    let (_, frame) = ask_bare(client, Lane::Auth, ASK, codes::ACCESS_REQUEST, 0).ok_or("not sent")?;
+    assert_holds(rt, client.deadline(Lane::Auth) == Some(3000));
+    assert_holds(rt, client.deadline(Lane::Acct) == None);
+    assert_holds(rt, none_due(client, 2999, false));
+    assert_holds(rt, is_resent(client, 3000, &frame));
+    Ok(())
+}
+
+// It is given up after 3 s more.
+fn give_up(rt: &impl Abort, client: &mut Client) {
+    assert_holds(rt, none_due(client, 3000, false));
+    assert_holds(rt, none_due(client, 5999, true));
+    assert_holds(rt, none_due(client, 6000, false));
+    assert_holds(rt, given_up(client, 6000) == Some(ASK));
+    assert_holds(rt, client.owner(Lane::Auth, 0) == None);
+}
+
+// Asks a bare Accounting-Request for this record: its identifier.
+fn ask_record(client: &mut Client, record: u32, now: u64) -> Option<u8> {
+    let owner = Owner::Record(RecordNo(record));
+    match ask_bare(client, Lane::Acct, owner, codes::ACCOUNTING_REQUEST, now) {
+        Some((id, _)) => Some(id),
+        None => None,
+    }
+}
+
+#[test]
+fn a_request_is_sent_again_every_3_s_and_given_up_after_tries(rt: HostRuntime) -> Result<(), Fail> {
+    let mut client = Client::open(rt.alloc(), &rules(2))?;
+    send_twice(&rt, &mut client)?;
+    give_up(&rt, &mut client);
 
     // An Accounting-Request is sent again without end.
-    let owner = Owner::Record(RecordNo(7));
-    let _ = ask_bare(&mut client, Lane::Acct, owner, codes::ACCOUNTING_REQUEST, 0).ok_or(
-        "not sent",
-    )?;
+    assert_holds(&rt, ask_record(&mut client, 7, 0).is_some());
     for k in 1..6u64 {
-        match client.due(3000 * k, false) {
-            Some(
-                DueRequest::Resend {
-                    lane: Lane::Acct,
-                    ..
-                },
-            ) => {}
-            _ => assert!(rt; false, "it is not sent again at {k}"),
-        }
-        assert_holds(&rt, client.due(3000 * k, true).is_none());
+        assert_holds(&rt, resent_in(&mut client, 3000 * k) == Some(Lane::Acct));
+        assert_holds(&rt, none_due(&mut client, 3000 * k, true));
     }
     Ok(())
+}
+
+// Asks for a record where there is room: it has this identifier.
+fn ask_one(rt: &impl Abort, client: &mut Client, record: u32) {
+    assert_holds(rt, client.room(Lane::Acct));
+    match ask_record(client, record, 0) {
+        Some(id) => assert_same(rt, &u32::from(id), &record),
+        None => assert!(rt; false, "it waits"),
+    }
+}
+
+// Frees an identifier, whose record has the same number, and gives it to the record 256.
+fn give_again(rt: &impl Abort, client: &mut Client, id: u8) {
+    let owner = Owner::Record(RecordNo(u32::from(id)));
+    assert_holds(rt, client.withdraw(Lane::Acct, id) == Some(owner));
+    assert_holds(rt, ask_record(client, 256, 0) == Some(id));
 }
 
 #[test]
 fn identifiers_go_round_and_the_257th_request_waits(rt: HostRuntime) -> Result<(), Fail> {
     let mut client = Client::open(rt.alloc(), &rules(2))?;
     for k in 0..256u32 {
-        assert_holds(&rt, client.room(Lane::Acct));
-        let owner = Owner::Record(RecordNo(k));
-        let (id, _) = ask_bare(&mut client, Lane::Acct, owner, codes::ACCOUNTING_REQUEST, 0).ok_or(
-            "waits",
-        )?;
-        assert_same(&rt, &u32::from(id), &k);
+        ask_one(&rt, &mut client, k);
     }
     assert_holds(&rt, !client.room(Lane::Acct));
     assert_holds(&rt, client.room(Lane::Auth));
-    let late = Owner::Record(RecordNo(256));
-    assert_holds(
-        &rt,
-        ask_bare(&mut client, Lane::Acct, late, codes::ACCOUNTING_REQUEST, 0).is_none(),
-    );
+    assert_holds(&rt, ask_record(&mut client, 256, 0).is_none());
     for id in [5, 3] {
-        assert_holds(
-            &rt,
-            client.withdraw(Lane::Acct, id) == Some(Owner::Record(RecordNo(u32::from(id)))),
-        );
-        let (given, _) = ask_bare(
-            &mut client,
-            Lane::Acct,
-            late,
-            codes::ACCOUNTING_REQUEST,
-            0,
-        ).ok_or("waits")?;
-        assert_same(&rt, &given, &id);
+        give_again(&rt, &mut client, id);
     }
     assert_holds(&rt, client.withdraw(Lane::Auth, 3) == None);
     Ok(())
 }
 
+// Asks for the record 1 at these moments, after each of which the deadline is this one.
+fn ask_four(rt: &impl Abort, client: &mut Client) {
+    assert_holds(rt, client.deadline(Lane::Acct) == None);
+    for (now, first) in [(50, 3050), (20, 3020), (20, 3020), (90, 3020)] {
+        assert_holds(rt, ask_record(client, 1, now).is_some());
+        assert_holds(rt, client.deadline(Lane::Acct) == Some(first));
+    }
+}
+
+// Sends the two again that were asked at the moment 20.
+fn send_two_again(rt: &impl Abort, client: &mut Client) {
+    assert_holds(rt, !client.is_due(3019));
+    assert_holds(rt, none_due(client, 3019, false));
+    assert_holds(rt, client.is_due(3020));
+    for id in [1, 2] {
+        assert_holds(rt, resent(client, 3020) == Some(id));
+    }
+    assert_holds(rt, none_due(client, 3020, false));
+}
+
+// Frees the identifier of a request of the record 1, after which the deadline is this one.
+fn withdraw(rt: &impl Abort, client: &mut Client, id: u8, first: Option<u64>) {
+    let owner = Owner::Record(RecordNo(1));
+    assert_holds(rt, client.withdraw(Lane::Acct, id) == Some(owner));
+    assert_holds(rt, client.deadline(Lane::Acct) == first);
+}
+
 #[test]
 fn the_deadline_is_that_of_the_oldest_request(rt: HostRuntime) -> Result<(), Fail> {
     let mut client = Client::open(rt.alloc(), &rules(3))?;
-    let owner = Owner::Record(RecordNo(1));
-    let code = codes::ACCOUNTING_REQUEST;
-    assert_holds(&rt, client.deadline(Lane::Acct) == None);
-    for (now, first) in [(50, 3050), (20, 3020), (20, 3020), (90, 3020)] {
-        ask_bare(&mut client, Lane::Acct, owner, code, now).ok_or("not sent")?;
-        assert_holds(&rt, client.deadline(Lane::Acct) == Some(first));
-    }
-    assert_holds(&rt, !client.is_due(3019));
-    assert_holds(&rt, client.due(3019, false).is_none());
-    assert_holds(&rt, client.is_due(3020));
-    for id in [1, 2] {
-        match client.due(3020, false) {
-            Some(DueRequest::Resend { id: sent, .. }) => assert_holds(&rt, sent == id),
-            _ => return Err(Fail::from("not sent again")),
-        }
-    }
-    assert_holds(&rt, client.due(3020, false).is_none());
+    ask_four(&rt, &mut client);
+    send_two_again(&rt, &mut client);
     for (id, first) in [(0, Some(3090)), (3, Some(6020)), (1, Some(6020)), (2, None)] {
-        assert_holds(&rt, client.withdraw(Lane::Acct, id) == Some(owner));
-        assert_holds(&rt, client.deadline(Lane::Acct) == first);
+        withdraw(&rt, &mut client, id, first);
     }
     assert_holds(&rt, client.withdraw(Lane::Acct, 2) == None);
     Ok(())

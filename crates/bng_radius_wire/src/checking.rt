@@ -10,7 +10,7 @@ use crate::places::{
 const LENGTH: u8 = 18;
 
 /// Whether the digests of a reply are right.
-#[derive(Clone, Copy, PartialEq, Eq, Debug)]
+#[derive(Clone, Copy, PartialEq, Eq)]
 pub enum Checked {
     Right,
     WrongDigest,

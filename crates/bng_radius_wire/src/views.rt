@@ -11,7 +11,7 @@ pub struct Radius<'a> {
 }
 
 /// An attribute (RFC 2865 section 5). `kind` is its type, one of `kinds` or another; the value has 253 octets at most.
-#[derive(Clone, Copy, Debug)]
+#[derive(Clone, Copy)]
 pub struct Attribute<'a> {
     pub kind: u8,
     pub value: &'a [u8],

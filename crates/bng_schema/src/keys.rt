@@ -1,5 +1,5 @@
 /// A table of the configuration, in the order in which the tables are looked at.
-#[derive(Clone, Copy, PartialEq, Eq, Debug)]
+#[derive(Clone, Copy)]
 pub enum Table {
     /// `gateway`
     Gateway,
@@ -26,7 +26,7 @@ pub enum Table {
 }
 
 /// A key of a table, in the order in which the keys are looked at.
-#[derive(Clone, Copy, PartialEq, Eq, Debug)]
+#[derive(Clone, Copy)]
 pub enum Field {
     /// `gateway.name`
     GatewayName,
@@ -120,14 +120,14 @@ pub enum Field {
 
 /// A key of the configuration: a table as a whole, or a key of its entry at a place, from 0. A table that is no list has
 /// one entry.
-#[derive(Clone, Copy, PartialEq, Eq, Debug)]
+#[derive(Clone, Copy)]
 pub enum Key {
     Whole(Table),
     Of(Field, usize),
 }
 
 /// What may stand at a key. A pair of numbers is the least and the most.
-#[derive(Clone, Copy, PartialEq, Eq, Debug)]
+#[derive(Clone, Copy)]
 pub enum Form {
     /// A table.
     OneTable,

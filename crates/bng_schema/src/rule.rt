@@ -20,7 +20,7 @@ use crate::types::has_type;
 use toml::Value;
 
 /// A rule of the document, in the order in which the rules are looked at. They are told by these names.
-#[derive(Clone, Copy, PartialEq, Eq, Debug)]
+#[derive(Clone, Copy)]
 pub enum Rule {
     /// A table or a key that must be there is missing.
     C4,

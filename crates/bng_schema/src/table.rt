@@ -5,6 +5,9 @@ ghost use Rattle.bng_schema.specs.Table.{row_view};
 
 use crate::keys::{Field, Form, Key, Table};
 
+/// The highest rate of a meter, in octets a second.
+const RATE_MOST: u64 = 1_000_000_000_000;
+
 /// What there is to know of a key: the table in which it stands, its name there, whether it must be there, and what may
 /// stand there. A table itself stands in none: its row names it twice.
 #[derive(Clone, Copy)]
@@ -214,14 +217,10 @@ fn field_row(field: Field) -> Row
         Field::PoolFirst => needed(Table::Pool, "first", Form::AddressText),
         Field::PoolLast => needed(Table::Pool, "last", Form::AddressText),
         Field::ProfileName => needed(Table::Profile, "name", Form::LabelText),
-        Field::ProfileUpCir => other(Table::Profile, "up_cir", Form::Number(1, 1_000_000_000_000)),
+        Field::ProfileUpCir => other(Table::Profile, "up_cir", Form::Number(1, RATE_MOST)),
         Field::ProfileUpCbs => other(Table::Profile, "up_cbs", Form::Number(0, 4_294_967_295)),
         Field::ProfileUpEbs => other(Table::Profile, "up_ebs", Form::Number(0, 4_294_967_295)),
-        Field::ProfileDownCir => other(
-            Table::Profile,
-            "down_cir",
-            Form::Number(1, 1_000_000_000_000),
-        ),
+        Field::ProfileDownCir => other(Table::Profile, "down_cir", Form::Number(1, RATE_MOST)),
         Field::ProfileDownCbs => other(Table::Profile, "down_cbs", Form::Number(0, 4_294_967_295)),
         Field::ProfileDownEbs => other(Table::Profile, "down_ebs", Form::Number(0, 4_294_967_295)),
         Field::StaticPort => needed(Table::Static, "port", Form::PortNumber),

@@ -11,7 +11,7 @@ use crate::table::{TABLES, fields_of, row_of};
 use toml::Value;
 
 /// A name that there is not: a key of the entry of a table at a place, from 0, or a table of the document.
-#[derive(Clone, Copy, Debug)]
+#[derive(Clone, Copy)]
 pub struct Unknown<'a> {
     pub entry: Option<(Table, usize)>,
     pub name: &'a str,

@@ -12,7 +12,7 @@ use bng_discovery::{Answer, ErrorTag, PortRules, answer};
 use bng_pppoe_wire::Pppoe;
 
 /// What a discovery frame is answered.
-#[derive(Clone, Copy, PartialEq, Eq, Debug)]
+#[derive(Clone, Copy)]
 pub(crate) enum Reply {
     /// A PADO.
     Offer,

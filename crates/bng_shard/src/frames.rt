@@ -69,7 +69,7 @@ pub(crate) fn drive_at(
 }
 
 // What a frame that names a session is to do.
-#[derive(Clone, Copy, PartialEq, Eq, Debug)]
+#[derive(Clone, Copy)]
 pub(crate) enum Control {
     /// There is no such session.
     Unknown,

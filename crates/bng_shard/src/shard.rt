@@ -40,7 +40,7 @@ use std::marker::Model;
 use std::mem;
 
 /// What a shard was not opened or made ready for.
-#[derive(Clone, Copy, PartialEq, Eq, Debug)]
+#[derive(Clone, Copy, Debug)]
 pub enum ShardError {
     OutOfMemory,
 }

@@ -4,7 +4,7 @@ use bng_base::{Book, Circuit, Ip4, TermId};
 
 /// A term that is there: its session and its number in its shard, its circuit, and its address; the User-Name (RFC 2865 section 5.1)
 /// and the Class attributes, each whole (section 5.25), of its records, and the moment at which it began, in milliseconds.
-#[derive(Clone, Debug, Drop)]
+#[derive(Drop)]
 pub struct LiveTerm {
     pub term: TermId,
     pub circuit: Circuit,
@@ -15,7 +15,7 @@ pub struct LiveTerm {
 }
 
 /// A live term of which an Interim is due: what `LiveTerm` says, and the octets and packets that it carried so far.
-#[derive(Clone, Debug, Drop)]
+#[derive(Drop)]
 pub struct ReportedTerm {
     pub term: LiveTerm,
     pub carried: Book,
@@ -23,7 +23,7 @@ pub struct ReportedTerm {
 
 /// A term that ended, of which a Stop is formed: what `LiveTerm` says, and the cause of its end (Acct-Terminate-Cause, RFC 2866 section
 /// 5.10), and the octets and packets that it carried.
-#[derive(Clone, Debug, Drop)]
+#[derive(Drop)]
 pub struct EndedTerm {
     pub term: TermId,
     pub circuit: Circuit,

@@ -14,7 +14,7 @@ use bng_grant::{Grant, grant_of};
 use bng_verdict::verdict_of;
 
 /// What is asked of the pools of addresses: nothing, one address, or any address of the pool at this place, from 0.
-#[derive(Clone, Copy, PartialEq, Eq, Debug)]
+#[derive(Clone, Copy)]
 pub enum Wish {
     Nothing,
     Address(Ip4),

@@ -1,13 +1,13 @@
 use std::alloc::AllocError;
 
 /// Each session number of the shard is used; the value comes back.
-#[derive(Debug, Drop)]
+#[derive(Drop)]
 pub struct Full<V> {
     pub value: V,
 }
 
 /// Why slots were not opened.
-#[derive(Debug, Clone, Copy, PartialEq, Eq)]
+#[derive(Debug, Clone, Copy)]
 pub enum SlotError {
     /// There is no memory for the slots and their indexes.
     OutOfMemory,

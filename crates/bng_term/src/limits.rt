@@ -1,7 +1,7 @@
 //! What a term is granted.
 
 /// The limits of a term, in seconds. A timeout of 0 is none.
-#[derive(Clone, Copy, PartialEq, Eq, Debug)]
+#[derive(Clone, Copy)]
 pub struct Limits {
     /// Session-Timeout (RFC 2865 section 5.27): how long the term lasts at most.
     pub session_timeout: u32,

@@ -9,7 +9,7 @@ pub struct QuestionNo {
 }
 
 /// The question of a session: is this the peer that it says it is? The circuit is that of the session.
-#[derive(Clone, Debug, Drop)]
+#[derive(Drop)]
 pub struct AuthAsk {
     pub number: QuestionNo,
     pub circuit: Circuit,

@@ -11,7 +11,7 @@ use bng_radius_wire::codes::{ACCESS_ACCEPT, ACCESS_CHALLENGE, ACCESS_REJECT};
 use bng_radius_wire::{Radius, read};
 
 /// What was found of a peer: whether it is accepted, and the text of the reply that tells it so.
-#[derive(Clone, Debug, Drop)]
+#[derive(Drop)]
 pub struct Verdict {
     pub yes: bool,
     pub text: ArrayVec<u8, 253>,

@@ -24,7 +24,7 @@ pub enum Command {
 }
 
 /// Why no command was read.
-#[derive(Clone, Copy, PartialEq, Eq, Debug)]
+#[derive(Clone, Copy, Debug)]
 pub enum WordsError {
     /// The words are no command.
     Refused,

@@ -3,7 +3,7 @@ ghost use Rattle.bng_words.specs.Words.{dashed};
 ghost use Rattle.bng_words.specs.declared.option.OptionName.{OptionName};
 
 /// An option of some command.
-#[derive(Clone, Copy, PartialEq, Eq, Debug)]
+#[derive(Clone, Copy)]
 pub(crate) enum OptionName {
     Trace,
     Rounds,

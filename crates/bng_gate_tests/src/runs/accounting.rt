@@ -4,14 +4,12 @@ use super::authentication::{LEAVES, PAP, begun, reply};
 use super::forwarding::FROM_CORE;
 use super::host::from_host;
 use super::logins::{ANY, ASKS, TAKES, records, response, run_in};
-use super::{
-    CONFIGURATION, Ended, PACKET, SERVE, assert_err, assert_status, frame_of, loopback, run_at,
-    seed,
-};
+use super::{CONFIGURATION, Ended, PACKET, assert_err, assert_status, frame_of, loopback, run_by};
 use crate::asserts::{assert_holds, assert_same};
 use bng_base::Role;
-use bng_plant::{Arrival, MemoryClock, MemoryPlant, NoTrace};
+use bng_plant::{Arrival, MemoryPlant};
 use std::alloc::{AllocError, Global};
+use std::process::Abort;
 use std::sync::Wait;
 use std::test::Fail;
 use std::thread::Threads;
@@ -74,63 +72,72 @@ fn run_slow<R: Threads + Wait + Sync>(
     script: Vec<Arrival>,
 ) -> Result<Ended, AllocError> {
     let plant = MemoryPlant::new(alloc, script, Vec::new(alloc), 64)?;
-    let clock = MemoryClock::new(alloc, 1000, 1_700_000_000, 64)?;
-    let entropy = seed(alloc, &[])?;
-    run_at(
-        rt,
-        alloc,
-        &SERVE,
-        CONFIGURATION,
-        plant,
-        clock,
-        entropy,
-        &mut NoTrace,
-        &[],
-    )
+    run_by(rt, alloc, CONFIGURATION, plant, 1000)
+}
+
+/// The reply to the Start comes 1,000 ms after it, from this port, and then `stop`.
+fn acknowledged(alloc: Global, port: u16) -> Result<Vec<Arrival>, Fail> {
+    let started = hex::decode(alloc, STARTED)?;
+    let mut script = Vec::new(alloc);
+    let reply = Arrival::new(Role::Acct, loopback(port), started.as_slice());
+    script.push(reply.after(1))?;
+    script.push(stop())?;
+    Ok(script)
+}
+
+/// How many times a run sent the Start.
+fn starts(alloc: Global, ended: &Ended) -> Result<usize, Fail> {
+    let start = hex::decode(alloc, START)?;
+    let sent = ended.plant.sent().iter();
+    let starts = sent.filter(|datagram| datagram.octets.as_slice() == start.as_slice());
+    Ok(starts.count())
+}
+
+/// Whether all that a run sent from this place on has the Identifier 1.
+fn are_stops(ended: &Ended, place: usize) -> bool {
+    let mut rest = ended.plant.sent().iter().skip(place);
+    rest.all(|datagram| datagram.octets.as_slice().get(1) == Some(&1))
+}
+
+/// Where the reply comes from this port, the Start is sent so many times.
+fn starts_where_acknowledged<R: Threads + Wait + Sync + Abort>(
+    rt: &R,
+    alloc: Global,
+    port: u16,
+    sends: usize,
+) -> Result<(), Fail> {
+    let ended = run_slow(rt, alloc, acknowledged(alloc, port)?)?;
+    assert_status(rt, &ended, 6);
+    assert_same(rt, &starts(alloc, &ended)?, &sends);
+    // `stopping` and the Stop come after them, and the Stop alone once no session is left.
+    assert_holds(rt, are_stops(&ended, sends.saturating_add(2)));
+    Ok(())
 }
 
 #[test]
 fn a_start_is_sent_again_until_it_is_acknowledged(rt: HostRuntime) -> Result<(), Fail> {
     let alloc = rt.alloc();
-    let start = hex::decode(alloc, START)?;
-    let started = hex::decode(alloc, STARTED)?;
-    // The reply comes 1,000 ms after the Start, from this port: from 1814 it is no reply.
-    for (port, sends) in [(1814, 2), (1813, 1)] {
-        let mut script = Vec::new(alloc);
-        let reply = Arrival::new(Role::Acct, loopback(port), started.as_slice());
-        script.push(reply.after(1))?;
-        script.push(stop())?;
-        let ended = run_slow(&rt, alloc, script)?;
-        assert_status(&rt, &ended, 6);
-        let sent = ended.plant.sent().iter();
-        let starts = sent.filter(|datagram| datagram.octets.as_slice() == start.as_slice());
-        assert_same(&rt, &starts.count(), &sends);
-        // `stopping` and the Stop come after them, and the Stop alone once no session is left.
-        let mut rest = ended.plant.sent().iter().skip(sends + 2);
-        assert_holds(
-            &rt,
-            rest.all(|datagram| datagram.octets.as_slice().get(1) == Some(&1)),
-        );
-    }
-    Ok(())
+    // From 1814 it is no reply.
+    starts_where_acknowledged(&rt, alloc, 1814, 2)?;
+    starts_where_acknowledged(&rt, alloc, 1813, 1)
+}
+
+/// Each reply comes 1,000 ms after its request. With the first one come a packet of the circuit and one to it.
+fn stopped(alloc: Global) -> Result<Vec<Arrival>, Fail> {
+    let mut script = Vec::new(alloc);
+    script.push(response(alloc, STARTED)?.after(1))?;
+    let frame = frame_of(alloc, &PACKET)?;
+    script.push(Arrival::new(Role::Access(1), loopback(9011), frame.as_slice()))?;
+    script.push(Arrival::new(Role::Core, loopback(9001), &FROM_CORE))?;
+    script.push(stop())?;
+    script.push(response(alloc, STOPPED)?.after(1))?;
+    Ok(script)
 }
 
 #[test]
 fn a_stop_is_waited_for_until_it_is_acknowledged(rt: HostRuntime) -> Result<(), Fail> {
     let alloc = rt.alloc();
-    let started = hex::decode(alloc, STARTED)?;
-    let stopped = hex::decode(alloc, STOPPED)?;
-    // Each reply comes 1,000 ms after its request. With the first one come a packet of the circuit and one to it.
-    let mut script = Vec::new(alloc);
-    let reply = Arrival::new(Role::Acct, loopback(1813), started.as_slice());
-    script.push(reply.after(1))?;
-    let frame = frame_of(alloc, &PACKET)?;
-    script.push(Arrival::new(Role::Access(1), loopback(9011), frame.as_slice()))?;
-    script.push(Arrival::new(Role::Core, loopback(9001), &FROM_CORE))?;
-    script.push(stop())?;
-    let last = Arrival::new(Role::Acct, loopback(1813), stopped.as_slice());
-    script.push(last.after(1))?;
-    let ended = run_slow(&rt, alloc, script)?;
+    let ended = run_slow(&rt, alloc, stopped(alloc)?)?;
     assert_status(&rt, &ended, 0);
     assert_err(&rt, &ended, b"");
     assert_holds(
@@ -139,16 +146,7 @@ fn a_stop_is_waited_for_until_it_is_acknowledged(rt: HostRuntime) -> Result<(), 
             b"stopped in=84 out=20\nlive in=0 out=0\ntotal in=84 out=20\nworker 0 in=84 out=20\nprofile default in=84 out=20\n",
         ),
     );
-    let requests: [&str; 2] = [START, STOP];
-    let sent = ended.plant.sent().iter();
-    let mut records = sent.filter(|datagram| datagram.role == Role::Acct);
-    for request in requests {
-        let request = hex::decode(alloc, request)?;
-        let record = records.next().expect(&rt, "a record");
-        assert_same(&rt, &record.octets.as_slice(), &request.as_slice());
-    }
-    assert_holds(&rt, records.next().is_none());
-    Ok(())
+    records(&rt, alloc, &ended, &[START, STOP])
 }
 
 /// A subscriber logs in, at moments that are 30 s apart, with an Interim due each 60 s, and sends a packet 30 s after its Start. Its first

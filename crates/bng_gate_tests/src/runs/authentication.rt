@@ -5,11 +5,11 @@ use super::host::{
     ACK, ACKED, ASKED, PADS, PADT, REQUEST, SESSIONS, TO_HOST, framed, from_host, session,
 };
 use super::{
-    Ended, SERVE, accounts, assert_status, loopback, run_at, run_over, seed, sends, sends_from,
+    Ended, SERVE, accounts, assert_status, loopback, others, run_by, run_over, sends, sends_from,
 };
 use crate::asserts::assert_same;
 use bng_base::Role;
-use bng_plant::{Arrival, MemoryClock, MemoryPlant, NoTrace};
+use bng_plant::{Arrival, MemoryPlant};
 use std::alloc::{AllocError, Global};
 use std::process::Abort;
 use std::sync::Wait;
@@ -165,19 +165,7 @@ fn run_pap<R: Threads + Wait + Sync>(
     fails: &[u64],
 ) -> Result<Ended, AllocError> {
     let plant = MemoryPlant::new(alloc, script, fails.to_vec(alloc)?, 64)?;
-    let clock = MemoryClock::new(alloc, step, 1_700_000_000, 64)?;
-    let entropy = seed(alloc, &[])?;
-    run_at(
-        rt,
-        alloc,
-        &SERVE,
-        PAP,
-        plant,
-        clock,
-        entropy,
-        &mut NoTrace,
-        &[],
-    )
+    run_by(rt, alloc, PAP, plant, step)
 }
 
 /// A run over PAP ended with this status. It sent what a password brings about until its Access-Request went out, and then these, not
@@ -190,6 +178,14 @@ pub(super) fn sends_after(
     rest: &[(Role, u16, &[u8])],
 ) -> Result<(), Fail> {
     assert_status(rt, ended, status);
+    assert_same(rt, &others(ended).saturating_sub(4), &rest.len());
+    sends_question(rt, alloc, ended)?;
+    sends_from(rt, ended, 4, rest);
+    Ok(())
+}
+
+/// The first four datagrams that a run over PAP sent are what a password brings about until its Access-Request went out.
+fn sends_question(rt: &impl Abort, alloc: Global, ended: &Ended) -> Result<(), Fail> {
     let port = Role::Access(1);
     let asked = framed(alloc, &TO_HOST, PAP_ASKED)?;
     let acked = framed(alloc, &TO_HOST, &ACKED)?;
@@ -200,11 +196,7 @@ pub(super) fn sends_after(
         (port, 9011, acked.as_slice()),
         (Role::Auth, 1812, request.as_slice()),
     ];
-    let sent = ended.plant.sent().iter();
-    let others = sent.filter(|datagram| datagram.role != Role::Acct).count();
-    assert_same(rt, &others.saturating_sub(front.len()), &rest.len());
     sends_from(rt, ended, 0, &front);
-    sends_from(rt, ended, front.len(), rest);
     Ok(())
 }
 

@@ -3,9 +3,10 @@
 use super::authentication::stop;
 use super::logins::run_in;
 use super::{
-    CONFIGURATION, Ended, SERVE, a_turn_later, assert_err, assert_status, has, loopback, run_over,
+    CONFIGURATION, Ended, SERVE, a_turn_later, assert_err, assert_status, goes_to, has, loopback,
+    run_over,
 };
-use crate::asserts::{assert_holds, assert_same};
+use crate::asserts::assert_holds;
 use bng_base::Role;
 use bng_plant::Arrival;
 use std::alloc::{AllocError, Global};
@@ -49,6 +50,16 @@ pub(super) fn asks(alloc: Global, octets: &str) -> Result<Arrival, Fail> {
     Ok(Arrival::new(Role::Coa, loopback(3798), octets.as_slice()))
 }
 
+/// These requests come in one turn, and then `stop`.
+pub(super) fn all_ask(alloc: Global, requests: &[&str]) -> Result<Vec<Arrival>, Fail> {
+    let mut script = Vec::new(alloc);
+    for octets in requests {
+        script.push(asks(alloc, *octets)?)?;
+    }
+    script.push(stop(0))?;
+    Ok(script)
+}
+
 /// A packet of the circuit comes, of 100 octets.
 pub(super) fn packet_100() -> Arrival {
     Arrival::new(Role::Access(1), loopback(9011), OF_100)
@@ -80,51 +91,64 @@ pub(super) fn replies(
     let sent = ended.plant.sent().iter();
     let mut replies = sent.filter(|datagram| datagram.role == Role::Coa);
     for octets in wanted {
-        let octets = hex::decode(alloc, *octets)?;
         let reply = replies.next().expect(rt, "a reply");
-        assert_same(rt, &reply.peer, &loopback(3798));
-        assert_same(rt, &reply.octets.as_slice(), &octets.as_slice());
+        goes_to(rt, alloc, reply, loopback(3798), *octets)?;
     }
     assert_holds(rt, replies.next().is_none());
     Ok(())
 }
 
-#[test]
-fn a_packet_is_in_the_book_of_the_profile_that_is_in_force(rt: HostRuntime) -> Result<(), Fail> {
-    let alloc = rt.alloc();
-    // A request is handled before the packets of its round.
+/// A request is handled before the packets of its round.
+fn together(alloc: Global) -> Result<Vec<Arrival>, Fail> {
     let mut script = Vec::new(alloc);
     script.push(asks(alloc, TO_GOLD)?)?;
     script.push(packet_100())?;
     script.push(packet_200())?;
     script.push(stop(0))?;
-    let together = run_changes(&rt, alloc, script, 10)?;
-    // The first packet comes a round before the request.
+    Ok(script)
+}
+
+/// The first packet comes a round before the request.
+fn apart(alloc: Global) -> Result<Vec<Arrival>, Fail> {
     let mut script = Vec::new(alloc);
     script.push(packet_100())?;
     script.push(a_turn_later())?;
     script.push(asks(alloc, TO_GOLD)?)?;
     script.push(packet_200())?;
     script.push(stop(0))?;
-    let apart = run_changes(&rt, alloc, script, 10)?;
-    let books: [(&Ended, &[u8]); 2] = [
-        (
-            &together,
-            b"profile bronze in=0 out=0\nprofile gold in=300 out=0\n",
-        ),
-        (
-            &apart,
-            b"profile bronze in=100 out=0\nprofile gold in=200 out=0\n",
-        ),
-    ];
-    for (ended, book) in books {
-        assert_status(&rt, ended, 6);
-        assert_err(&rt, ended, NOT_STOPPED);
-        assert_holds(&rt, has(ended.out.text(), b"worker 0 in=300 out=0\n"));
-        assert_holds(&rt, has(ended.out.text(), book));
-        replies(&rt, alloc, ended, &[GOLD])?;
-    }
-    Ok(())
+    Ok(script)
+}
+
+/// A run whose one request is acknowledged counts 300 octets, and has this in its books.
+fn counts<R: Threads + Wait + Sync + Abort>(
+    rt: &R,
+    alloc: Global,
+    script: Vec<Arrival>,
+    book: &[u8],
+) -> Result<(), Fail> {
+    let ended = run_changes(rt, alloc, script, 10)?;
+    assert_status(rt, &ended, 6);
+    assert_err(rt, &ended, NOT_STOPPED);
+    assert_holds(rt, has(ended.out.text(), b"worker 0 in=300 out=0\n"));
+    assert_holds(rt, has(ended.out.text(), book));
+    replies(rt, alloc, &ended, &[GOLD])
+}
+
+#[test]
+fn a_packet_is_in_the_book_of_the_profile_that_is_in_force(rt: HostRuntime) -> Result<(), Fail> {
+    let alloc = rt.alloc();
+    counts(
+        &rt,
+        alloc,
+        together(alloc)?,
+        b"profile bronze in=0 out=0\nprofile gold in=300 out=0\n",
+    )?;
+    counts(
+        &rt,
+        alloc,
+        apart(alloc)?,
+        b"profile bronze in=100 out=0\nprofile gold in=200 out=0\n",
+    )
 }
 
 /// The first request with one octet of its authenticator changed; one with the Acct-Session-Id of no session; and one with a Framed-Route,
@@ -174,111 +198,123 @@ const GOLD_BY_ADDRESS: &str = "2b01002076e7cb11c2c27a73eb854f8bd792732008060a000
 const BRONZE_BY_ADDRESS: &str =
     "2b020022742b02eb6052b032b3287d479503eb7408060a0000020b0862726f6e7a65";
 
-#[test]
-fn a_reply_is_kept_for_30_seconds(rt: HostRuntime) -> Result<(), Fail> {
-    let alloc = rt.alloc();
-    // The first request comes again when another one has changed the term back. Where its reply is kept, it changes nothing.
-    let rows: [(u64, &[u8]); 4] = [
-        (
-            29_000,
-            b"profile bronze in=100 out=0\nprofile gold in=0 out=0\n",
-        ),
-        (
-            29_999,
-            b"profile bronze in=100 out=0\nprofile gold in=0 out=0\n",
-        ),
-        (
-            30_000,
-            b"profile bronze in=0 out=0\nprofile gold in=100 out=0\n",
-        ),
-        (
-            31_000,
-            b"profile bronze in=0 out=0\nprofile gold in=100 out=0\n",
-        ),
-    ];
-    for (step, book) in rows {
-        let mut script = Vec::new(alloc);
-        script.push(asks(alloc, GOLD_BY_ADDRESS)?)?;
-        script.push(asks(alloc, BRONZE_BY_ADDRESS)?)?;
-        script.push(a_turn_later())?;
-        script.push(asks(alloc, GOLD_BY_ADDRESS)?)?;
-        script.push(packet_100())?;
-        script.push(stop(0))?;
-        let ended = run_changes(&rt, alloc, script, step)?;
-        replies(
-            &rt,
-            alloc,
-            &ended,
-            &[
-                "2c0100145c467510e2651b7703733cfee348d138",
-                "2c020014d01d93049d6135bdfea91973cccc2c0a",
-                "2c0100145c467510e2651b7703733cfee348d138",
-            ],
-        )?;
-        assert_holds(&rt, has(ended.out.text(), book));
-    }
+/// The first request comes again when another one has changed the term back.
+fn comes_again(alloc: Global) -> Result<Vec<Arrival>, Fail> {
+    let mut script = Vec::new(alloc);
+    script.push(asks(alloc, GOLD_BY_ADDRESS)?)?;
+    script.push(asks(alloc, BRONZE_BY_ADDRESS)?)?;
+    script.push(a_turn_later())?;
+    script.push(asks(alloc, GOLD_BY_ADDRESS)?)?;
+    script.push(packet_100())?;
+    script.push(stop(0))?;
+    Ok(script)
+}
+
+/// The replies to the three.
+const THREE_REPLIES: &[&str] = &[
+    "2c0100145c467510e2651b7703733cfee348d138",
+    "2c020014d01d93049d6135bdfea91973cccc2c0a",
+    "2c0100145c467510e2651b7703733cfee348d138",
+];
+
+/// How many milliseconds later it comes, and the books then. Where its reply is kept, it changes nothing.
+const KEPT: &[(u64, &[u8])] = &[
+    (
+        29_000,
+        b"profile bronze in=100 out=0\nprofile gold in=0 out=0\n",
+    ),
+    (
+        29_999,
+        b"profile bronze in=100 out=0\nprofile gold in=0 out=0\n",
+    ),
+    (
+        30_000,
+        b"profile bronze in=0 out=0\nprofile gold in=100 out=0\n",
+    ),
+    (
+        31_000,
+        b"profile bronze in=0 out=0\nprofile gold in=100 out=0\n",
+    ),
+];
+
+/// Where it comes so many milliseconds later, all three have their replies, and this is in the books.
+fn is_kept<R: Threads + Wait + Sync + Abort>(
+    rt: &R,
+    alloc: Global,
+    step: u64,
+    book: &[u8],
+) -> Result<(), Fail> {
+    let ended = run_changes(rt, alloc, comes_again(alloc)?, step)?;
+    replies(rt, alloc, &ended, THREE_REPLIES)?;
+    assert_holds(rt, has(ended.out.text(), book));
     Ok(())
 }
 
 #[test]
+fn a_reply_is_kept_for_30_seconds(rt: HostRuntime) -> Result<(), Fail> {
+    let alloc = rt.alloc();
+    for (step, book) in KEPT {
+        is_kept(&rt, alloc, *step, book)?;
+    }
+    Ok(())
+}
+
+/// Requests with Proxy-States and a Message-Authenticator, one that is acknowledged and one that is refused, and one with two States, of
+/// which the first is repeated; and the replies to them.
+const REPEATED: &[&str] = &[
+    "2b05004e0bd205613d9ea79214c15423cc0ef218210470312c1a363535336631303030343031303030303030303030303031210470320b06676f6c6450129c6efa5db2ffaa27db45d63a29b26d86",
+    "2b06004e5b1bf12651fe2456184db07fe05fe155210470312c1a3635353366313030303430323030303030303030303030310b06676f6c642104703250127eb9edaecd54dbc0c9d0b30fc961686e",
+    "2b070040d7442f75370bcbd6246558282d9d57c42c1a3635353366313030303430313030303030303030303030311804737418047576210470310b06676f6c64",
+];
+
+const REPEATS: &[&str] = &[
+    "2c05002eee56e8b08e89fcae29e02adc6816d230210470312104703250120e53bd83d41f5a3166fe769b1215179f",
+    "2d060034a077e1df5073d917b0f491d949b0914b21047031210470326506000001f7501217a29f859258df6b1c215fcdccc6552b",
+    "2d0700221dc3b1174bd532015918c337847edd422104703118047374650600000191",
+];
+
+#[test]
 fn a_reply_repeats_what_the_request_has_for_it(rt: HostRuntime) -> Result<(), Fail> {
     let alloc = rt.alloc();
-    // Proxy-States and a Message-Authenticator, with an acknowledgement and with a refusal; and two States, of which the first is repeated.
-    let requests: [&str; 3] = [
-        "2b05004e0bd205613d9ea79214c15423cc0ef218210470312c1a363535336631303030343031303030303030303030303031210470320b06676f6c6450129c6efa5db2ffaa27db45d63a29b26d86",
-        "2b06004e5b1bf12651fe2456184db07fe05fe155210470312c1a3635353366313030303430323030303030303030303030310b06676f6c642104703250127eb9edaecd54dbc0c9d0b30fc961686e",
-        "2b070040d7442f75370bcbd6246558282d9d57c42c1a3635353366313030303430313030303030303030303030311804737418047576210470310b06676f6c64",
-    ];
+    let ended = run_changes(&rt, alloc, all_ask(alloc, REPEATED)?, 10)?;
+    replies(&rt, alloc, &ended, REPEATS)
+}
+
+/// Requests for shard 3, for shard 1, for nobody's address, the first one again, and for a shard that is none; and the replies.
+const REQUESTS: &[&str] = &[
+    "2b02003496c594e8312c654e252706f3a642d7f02c1a3635353366313030306330313030303030303030303030310b06676f6c64",
+    "2b0300367373c28cfb57f6880ba6c3d8af26ec652c1a3635353366313030303430313030303030303030303030310b0862726f6e7a65",
+    "2b040020f63c1a6fccd076fe318b25b3427903ae08060a0000090b06676f6c64",
+    TO_GOLD,
+    "2b0500348b5b72f9c6b92910e1b75cc7e2d0ef702c1a3635353366313030313030313030303030303030303030310b06676f6c64",
+];
+
+const REPLIES: &[&str] = &[
+    GOLD,
+    GOLD,
+    "2d04001a0a2fe67291b22f15049913b279bf8e3f6506000001f7",
+    "2d05001aba5cde827155bddbcb297ab8cab7efc96506000001f7",
+    "2c030014dd53c9d6b4bf174d1771c44be786e541",
+    "2d02001aa3cad7b34dce56fe2bd648fa733335556506000001f7",
+];
+
+/// The first one, and a turn later the others.
+fn repeats(alloc: Global) -> Result<Vec<Arrival>, Fail> {
     let mut script = Vec::new(alloc);
-    for octets in requests {
-        script.push(asks(alloc, octets)?)?;
+    script.push(asks(alloc, TO_GOLD)?)?;
+    script.push(a_turn_later())?;
+    for octets in REQUESTS {
+        script.push(asks(alloc, *octets)?)?;
     }
     script.push(stop(0))?;
-    let ended = run_changes(&rt, alloc, script, 10)?;
-    replies(
-        &rt,
-        alloc,
-        &ended,
-        &[
-            "2c05002eee56e8b08e89fcae29e02adc6816d230210470312104703250120e53bd83d41f5a3166fe769b1215179f",
-            "2d060034a077e1df5073d917b0f491d949b0914b21047031210470326506000001f7501217a29f859258df6b1c215fcdccc6552b",
-            "2d0700221dc3b1174bd532015918c337847edd422104703118047374650600000191",
-        ],
-    )
+    Ok(script)
 }
 
 #[test]
 fn repeats_come_first_and_then_requests_that_lead_nowhere(rt: HostRuntime) -> Result<(), Fail> {
     let alloc = rt.alloc();
-    // Requests for shard 3, for shard 1, for nobody's address, the first one again, and for a shard that is none.
-    let requests: [&str; 5] = [
-        "2b02003496c594e8312c654e252706f3a642d7f02c1a3635353366313030306330313030303030303030303030310b06676f6c64",
-        "2b0300367373c28cfb57f6880ba6c3d8af26ec652c1a3635353366313030303430313030303030303030303030310b0862726f6e7a65",
-        "2b040020f63c1a6fccd076fe318b25b3427903ae08060a0000090b06676f6c64",
-        TO_GOLD,
-        "2b0500348b5b72f9c6b92910e1b75cc7e2d0ef702c1a3635353366313030313030313030303030303030303030310b06676f6c64",
-    ];
-    let mut script = Vec::new(alloc);
-    script.push(asks(alloc, TO_GOLD)?)?;
-    script.push(a_turn_later())?;
-    for octets in requests {
-        script.push(asks(alloc, octets)?)?;
-    }
-    script.push(stop(0))?;
-    let ended = run_changes(&rt, alloc, script, 10)?;
-    replies(
-        &rt,
-        alloc,
-        &ended,
-        &[
-            GOLD,
-            GOLD,
-            "2d04001a0a2fe67291b22f15049913b279bf8e3f6506000001f7",
-            "2d05001aba5cde827155bddbcb297ab8cab7efc96506000001f7",
-            "2c030014dd53c9d6b4bf174d1771c44be786e541",
-            "2d02001aa3cad7b34dce56fe2bd648fa733335556506000001f7",
-        ],
-    )
+    let ended = run_changes(&rt, alloc, repeats(alloc)?, 10)?;
+    replies(&rt, alloc, &ended, REPLIES)
 }
 
 #[test]

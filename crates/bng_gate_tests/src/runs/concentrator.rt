@@ -4,7 +4,7 @@
 //! independent ChaCha20 gives: sixteen octets for the key of the cookies, for each item of a turn, and then for each request of it.
 use super::authentication::{reply, stop};
 use super::logins::run_in;
-use super::{Ended, assert_status, has};
+use super::{Ended, assert_status, goes_to, has};
 use crate::asserts::{assert_holds, assert_octets, assert_same};
 use bng_base::{Ip4, Peer, Role};
 use bng_plant::Arrival;
@@ -235,17 +235,20 @@ pub(super) fn tells(
     ended: &Ended,
     wanted: &[(Peer, &str)],
 ) -> Result<(), Fail> {
-    let sent = ended.plant.sent().iter();
-    let all = sent.filter(|datagram| datagram.role == Role::Tunnel);
-    assert_same(rt, &all.count(), &wanted.len());
+    assert_same(rt, &told(ended), &wanted.len());
     let sent = ended.plant.sent().iter();
     let all = sent.filter(|datagram| datagram.role == Role::Tunnel);
     for (datagram, (peer, octets)) in all.zip(wanted) {
-        assert_same(rt, &datagram.peer, peer);
-        let octets = hex::decode(alloc, *octets)?;
-        assert_octets(rt, datagram.octets.as_slice(), octets.as_slice());
+        goes_to(rt, alloc, datagram, *peer, *octets)?;
     }
     Ok(())
+}
+
+/// How many datagrams a run sent to the other ends of tunnels.
+fn told(ended: &Ended) -> usize {
+    let sent = ended.plant.sent().iter();
+    sent.filter(|datagram| datagram.role == Role::Tunnel)
+        .count()
 }
 
 /// The one request that a run sent to Auth is this.

@@ -1,12 +1,14 @@
 //! What a run has counted, while it serves and in the end.
 use super::forwarding::{FROM_CORE, PADDED, SPOOFED};
 use super::{
-    Ended, PACKET, SERVE, TWO_PORTS, a_turn_later, assert_out, frame_of, has, loopback, run_over,
+    Ended, PACKET, SERVE, TWO_PORTS, a_turn_later, assert_out, frame_of, has_all, loopback,
+    run_over,
 };
 use crate::asserts::{assert_count, assert_octets};
 use bng_base::Role;
 use bng_plant::Arrival;
 use std::alloc::{AllocError, Global};
+use std::process::Abort;
 use std::test::Fail;
 
 /// A Stop (RFC 2866 section 5.1) of the first circuit: 104 octets in two packets in, 20 in one out (sections 5.3, 5.4, 5.8 and 5.9).
@@ -45,16 +47,6 @@ fn packets(alloc: Global) -> Result<Vec<Arrival>, AllocError> {
     Ok(script)
 }
 
-/// Whether the octets have all of these in them.
-fn has_all(octets: &[u8], parts: &[&[u8]]) -> bool {
-    for part in parts {
-        if !has(octets, part) {
-            return false;
-        }
-    }
-    true
-}
-
 /// How many Accounting-Requests a run sent that have all of these.
 fn records(ended: &Ended, attributes: &[&[u8]]) -> usize {
     let sent = ended.plant.sent().iter();
@@ -64,17 +56,22 @@ fn records(ended: &Ended, attributes: &[&[u8]]) -> usize {
         .count()
 }
 
+/// The first datagram that a run sent from Control has these octets.
+fn first_answer(rt: &impl Abort, ended: &Ended, wanted: &[u8]) {
+    let sent = ended.plant.sent().iter();
+    let mut answers = sent.filter(|datagram| datagram.role == Role::Control);
+    let answer = answers.next().expect(rt, "an answer");
+    assert_octets(rt, answer.octets.as_slice(), wanted);
+}
+
 #[test]
 fn sums_count_octets_packets_terms_stops_and_drops(rt: HostRuntime) -> Result<(), Fail> {
     let alloc = rt.alloc();
     let script = packets(alloc)?;
     let ended = run_over(&rt, alloc, &SERVE, TWO_PORTS, script, &[], &[])?;
-    let sent = ended.plant.sent().iter();
-    let mut answers = sent.filter(|datagram| datagram.role == Role::Control);
-    let answer = answers.next().expect(&rt, "an answer");
-    assert_octets(
+    first_answer(
         &rt,
-        answer.octets.as_slice(),
+        &ended,
         b"stopped in=0 out=0\nlive in=104 out=20\ntotal in=104 out=20\nworker 0 in=104 out=20\nprofile default in=104 out=20\ndrop Malformed 0\ndrop NoSession 0\ndrop NotOpen 0\ndrop Expired 0\ndrop Spoofed 1\ndrop TooBig 0\ndrop Exceeded 0\ndrop LinkFailed 0\ndrop WantOfMemory 0\n",
     );
     assert_out(

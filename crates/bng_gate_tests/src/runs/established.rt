@@ -7,8 +7,9 @@ use super::concentrator::{
 use super::logins::run_in as run_tunnels;
 use super::{a_turn_later, assert_status, has};
 use crate::asserts::assert_holds;
-use bng_base::Role;
+use bng_base::{Peer, Role};
 use bng_plant::Arrival;
+use std::alloc::Global;
 use std::test::Fail;
 
 /// The ICCN of session 0402, which there is not, as the fourth message, the StopCCN after its ZLB, and a PPP frame of that session.
@@ -74,33 +75,38 @@ const HELLO: &str = "c802001400050000000100028008000000000006";
 
 const HELLO_OF_PEER: &str = "c802001404010000000200018008000000000006";
 
-#[test]
-fn a_tunnel_that_falls_silent_is_cleared(rt: HostRuntime) -> Result<(), Fail> {
-    let alloc = rt.alloc();
+/// What a peer is told that falls silent once its tunnel is established.
+const TOLD_TO_SILENT: &[(Peer, &str)] = &[
+    (PLAIN, SCCRP),
+    (PLAIN, ZLB_2),
+    (PLAIN, HELLO),
+    (PLAIN, HELLO),
+    (PLAIN, HELLO),
+    (PLAIN, HELLO),
+    (PLAIN, HELLO),
+    (PLAIN, HELLO),
+];
+
+const SETS_UP: &[(Peer, &str)] = &[(PLAIN, SCCRQ), (PLAIN, SCCCN)];
+
+/// 60 s after the last message a HELLO goes out, and again after 1, 3, 7, 15 and 23 s more; 31 s after the first the tunnel is cleared. Then
+/// comes a HELLO of the peer.
+fn silence(alloc: Global) -> Result<Vec<Arrival>, Fail> {
     let mut script = Vec::new(alloc);
-    then_come(alloc, &mut script, &[(PLAIN, SCCRQ), (PLAIN, SCCCN)])?;
-    // 60 s after the last message a HELLO goes out, and again after 1, 3, 7, 15 and 23 s more; 31 s after the first the tunnel is cleared.
+    then_come(alloc, &mut script, SETS_UP)?;
     let late = hex::decode(alloc, HELLO_OF_PEER)?;
     script.push(Arrival::new(Role::Tunnel, PLAIN, late.as_slice()).after(92))?;
     script.push(stop(0))?;
-    let ended = run_tunnels(&rt, alloc, TUNNELS, script, 1000)?;
+    Ok(script)
+}
+
+#[test]
+fn a_tunnel_that_falls_silent_is_cleared(rt: HostRuntime) -> Result<(), Fail> {
+    let alloc = rt.alloc();
+    let ended = run_tunnels(&rt, alloc, TUNNELS, silence(alloc)?, 1000)?;
     assert_status(&rt, &ended, 0);
     assert_holds(&rt, has(ended.out.text(), b"drop NoSession 1\n"));
-    tells(
-        &rt,
-        alloc,
-        &ended,
-        &[
-            (PLAIN, SCCRP),
-            (PLAIN, ZLB_2),
-            (PLAIN, HELLO),
-            (PLAIN, HELLO),
-            (PLAIN, HELLO),
-            (PLAIN, HELLO),
-            (PLAIN, HELLO),
-            (PLAIN, HELLO),
-        ],
-    )
+    tells(&rt, alloc, &ended, TOLD_TO_SILENT)
 }
 
 /// The peer's StopCCN for tunnel 0401 as its third message, and the ZLB for it.
@@ -133,34 +139,42 @@ const STOPS_7: &str = "c80200240007000000010002800800000000000480080000000904018
 
 const STOPS_6: &str = "c80200240006000000010002800800000000000480080000000904028008000000010006";
 
+/// The first tunnel comes and goes; the second comes, and then the third; and what their peer is told.
+const FIRST: &[(Peer, &str)] = &[(PLAIN, SCCRQ), (PLAIN, SCCCN), (PLAIN, STOP_OF_PEER)];
+
+const SECOND: &[(Peer, &str)] = &[(PLAIN, SCCRQ_6), (PLAIN, SCCCN_0402)];
+
+const THIRD: &[(Peer, &str)] = &[(PLAIN, SCCRQ_7), (PLAIN, SCCCN)];
+
+const TOLD_OF_THREE: &[(Peer, &str)] = &[
+    (PLAIN, SCCRP),
+    (PLAIN, ZLB_2),
+    (PLAIN, ZLB_3),
+    (PLAIN, SCCRP_6),
+    (PLAIN, ZLB_6),
+    (PLAIN, SCCRP_7),
+    (PLAIN, ZLB_7),
+    (PLAIN, STOPS_7),
+    (PLAIN, STOPS_6),
+];
+
+/// The three tunnels, each in its turn, and then `stop`.
+fn three_tunnels(alloc: Global) -> Result<Vec<Arrival>, Fail> {
+    let mut script = Vec::new(alloc);
+    then_come(alloc, &mut script, FIRST)?;
+    script.push(a_turn_later())?;
+    then_come(alloc, &mut script, SECOND)?;
+    script.push(a_turn_later())?;
+    then_come(alloc, &mut script, THIRD)?;
+    script.push(stop(0))?;
+    Ok(script)
+}
+
 #[test]
 fn the_number_of_a_cleared_tunnel_rests_for_31_seconds(rt: HostRuntime) -> Result<(), Fail> {
     let alloc = rt.alloc();
     // At 31 s the first tunnel comes and goes. 15.5 s later its number rests, and 31 s later it is given again.
-    let mut script = Vec::new(alloc);
-    let first = [(PLAIN, SCCRQ), (PLAIN, SCCCN), (PLAIN, STOP_OF_PEER)];
-    then_come(alloc, &mut script, &first)?;
-    script.push(a_turn_later())?;
-    then_come(alloc, &mut script, &[(PLAIN, SCCRQ_6), (PLAIN, SCCCN_0402)])?;
-    script.push(a_turn_later())?;
-    then_come(alloc, &mut script, &[(PLAIN, SCCRQ_7), (PLAIN, SCCCN)])?;
-    script.push(stop(0))?;
-    let ended = run_tunnels(&rt, alloc, TUNNELS, script, 15_500)?;
+    let ended = run_tunnels(&rt, alloc, TUNNELS, three_tunnels(alloc)?, 15_500)?;
     assert_status(&rt, &ended, 0);
-    tells(
-        &rt,
-        alloc,
-        &ended,
-        &[
-            (PLAIN, SCCRP),
-            (PLAIN, ZLB_2),
-            (PLAIN, ZLB_3),
-            (PLAIN, SCCRP_6),
-            (PLAIN, ZLB_6),
-            (PLAIN, SCCRP_7),
-            (PLAIN, ZLB_7),
-            (PLAIN, STOPS_7),
-            (PLAIN, STOPS_6),
-        ],
-    )
+    tells(&rt, alloc, &ended, TOLD_OF_THREE)
 }

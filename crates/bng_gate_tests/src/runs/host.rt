@@ -120,10 +120,24 @@ pub(super) fn from_host(alloc: Global, payload: &[u8]) -> Result<Arrival, AllocE
 /// A PADR, and these frames of the session that it makes.
 pub(super) fn session(alloc: Global, payloads: &[&[u8]]) -> Result<Vec<Arrival>, AllocError> {
     let mut script = Vec::new(alloc);
-    let padr = request(&HOST);
-    script.push(Arrival::new(Role::Access(1), loopback(9011), &padr))?;
+    script.push(padr())?;
+    then_hears(alloc, &mut script, payloads)?;
+    Ok(script)
+}
+
+/// The host's PADR.
+fn padr() -> Arrival {
+    Arrival::new(Role::Access(1), loopback(9011), &request(&HOST))
+}
+
+/// Frames of the host's session come next with these payloads.
+pub(super) fn then_hears(
+    alloc: Global,
+    script: &mut Vec<Arrival>,
+    payloads: &[&[u8]],
+) -> Result<(), AllocError> {
     for payload in payloads {
         script.push(from_host(alloc, payload)?)?;
     }
-    Ok(script)
+    Ok(())
 }

@@ -4,13 +4,13 @@ use super::authentication::{
     ACCEPT, LEAVES, LEFT, OWN_ADDRESS, PAP, PASSED, PASSWORD, TERMINATE, begun, reply, sends_after,
     stop,
 };
-use super::host::{ACKED, PADT, REQUEST, TO_HOST, framed, from_host, request};
+use super::host::{ACKED, PADT, REQUEST, TO_HOST, framed, from_host, request, then_hears};
 use super::{
-    Ended, SERVE, assert_err, assert_out, assert_status, has, loopback, run_at, seed, sends_from,
+    Ended, assert_err, assert_out, assert_status, goes_to, has, loopback, run_by, sends_from,
 };
 use crate::asserts::{assert_holds, assert_same};
 use bng_base::Role;
-use bng_plant::{Arrival, MemoryClock, MemoryPlant, NoTrace};
+use bng_plant::{Arrival, MemoryPlant};
 use std::alloc::{AllocError, Global};
 use std::process::Abort;
 use std::sync::Wait;
@@ -162,19 +162,7 @@ pub(super) fn run_in<R: Threads + Wait + Sync>(
     step: u64,
 ) -> Result<Ended, AllocError> {
     let plant = MemoryPlant::new(alloc, script, Vec::new(alloc), 128)?;
-    let clock = MemoryClock::new(alloc, step, 1_700_000_000, 64)?;
-    let entropy = seed(alloc, &[])?;
-    run_at(
-        rt,
-        alloc,
-        &SERVE,
-        configuration,
-        plant,
-        clock,
-        entropy,
-        &mut NoTrace,
-        &[],
-    )
+    run_by(rt, alloc, configuration, plant, step)
 }
 
 /// A datagram to Acct from the server.
@@ -183,15 +171,16 @@ pub(super) fn response(alloc: Global, octets: &str) -> Result<Arrival, Fail> {
     Ok(Arrival::new(Role::Acct, loopback(1813), octets.as_slice()))
 }
 
+/// By these frames the host comes to its address and sends a packet.
+const COMES: &[&[u8]] = &[ANY, ASKS, TAKES, FROM_HOST];
+
 /// A host logs in, at moments that are 1,000 ms apart: this Access-Accept comes in the second turn; in the third the server has the Start,
 /// the host comes to its address, and a packet goes each way.
 fn arrival(alloc: Global, accept: &str) -> Result<Vec<Arrival>, Fail> {
     let mut script = begun(alloc)?;
     script.push(reply(alloc, 1812, accept)?)?;
     script.push(response(alloc, STARTED)?)?;
-    for heard in [ANY, ASKS, TAKES, FROM_HOST] {
-        script.push(from_host(alloc, heard)?)?;
-    }
+    then_hears(alloc, &mut script, COMES)?;
     script.push(Arrival::new(Role::Core, loopback(9001), FROM_CORE))?;
     Ok(script)
 }
@@ -215,10 +204,8 @@ pub(super) fn records_begin(
     let sent = ended.plant.sent().iter();
     let mut records = sent.filter(|datagram| datagram.role == Role::Acct);
     for octets in wanted {
-        let octets = hex::decode(alloc, *octets)?;
         let record = records.next().expect(rt, "a record");
-        assert_same(rt, &record.peer, &loopback(1813));
-        assert_same(rt, &record.octets.as_slice(), &octets.as_slice());
+        goes_to(rt, alloc, record, loopback(1813), *octets)?;
     }
     Ok(())
 }

@@ -80,18 +80,22 @@ fn next_turn() -> Arrival {
     Arrival::new(Role::Control, loopback(5), b"next")
 }
 
+/// A packet comes after so many waits, and one in the next turn.
+fn two_packets(script: &mut Vec<Arrival>, waits: u32) -> Result<(), AllocError> {
+    script.push(packet().after(waits))?;
+    script.push(next_turn())?;
+    script.push(packet())?;
+    Ok(())
+}
+
 /// In turns that are 1 ms apart a packet comes at 1, 333, 334, 666, 667 and 1,000 ms. The reply to the Start comes in the second turn, and
 /// that to the Stop in the second one of the grace. A turn in which nothing comes waits once.
 fn by_the_millisecond(alloc: Global) -> Result<Vec<Arrival>, Fail> {
     let mut script = Vec::new(alloc);
     script.push(packet())?;
     script.push(response(alloc, STARTED)?)?;
-    script.push(packet().after(330))?;
-    script.push(next_turn())?;
-    script.push(packet())?;
-    script.push(packet().after(331))?;
-    script.push(next_turn())?;
-    script.push(packet())?;
+    two_packets(&mut script, 330)?;
+    two_packets(&mut script, 331)?;
     script.push(packet().after(332))?;
     script.push(stop(0))?;
     script.push(response(alloc, STOPPED)?.after(1))?;

@@ -1,12 +1,16 @@
 //! Requests of a RADIUS server that are refused, each cause of it, those that are passed over, and how many come in one turn (RFC 5176
 //! sections 3 and 3.5). They and the replies were made as those about the circuit.
 use super::authentication::stop;
-use super::changes::{TO_GOLD, asks, packet_100, replies, run_changes};
+use super::changes::{TO_GOLD, all_ask, asks, packet_100, replies, run_changes};
 use super::has;
 use crate::asserts::{assert_holds, assert_same};
-use bng_base::{Ip4, Peer, Role};
+use bng_base::{Datagram, Ip4, Peer, Role};
 use bng_plant::Arrival;
+use std::alloc::Global;
+use std::process::Abort;
+use std::sync::Wait;
 use std::test::Fail;
+use std::thread::Threads;
 
 /// Requests and the replies to them. Of several causes of a refusal the first counts: NAS Identification Mismatch (403), Unsupported Attribute
 /// (401), Invalid Request (404), Invalid Attribute Value (407), Missing Attribute (402), Session Context Not Found (503) (RFC 5176 section 3.5).
@@ -107,15 +111,22 @@ const VERDICTS: &[(&str, &str)] = &[
     ),
 ];
 
+/// A run with this request has this one reply.
+fn is_replied<R: Threads + Wait + Sync + Abort>(
+    rt: &R,
+    alloc: Global,
+    request: &str,
+    reply: &str,
+) -> Result<(), Fail> {
+    let ended = run_changes(rt, alloc, all_ask(alloc, &[request])?, 10)?;
+    replies(rt, alloc, &ended, &[reply])
+}
+
 #[test]
 fn each_cause_refuses_and_the_first_counts(rt: HostRuntime) -> Result<(), Fail> {
     let alloc = rt.alloc();
     for (request, reply) in VERDICTS {
-        let mut script = Vec::new(alloc);
-        script.push(asks(alloc, *request)?)?;
-        script.push(stop(0))?;
-        let ended = run_changes(&rt, alloc, script, 10)?;
-        replies(&rt, alloc, &ended, &[*reply])?;
+        is_replied(&rt, alloc, *request, *reply)?;
     }
     Ok(())
 }
@@ -218,6 +229,16 @@ const NAMELESS: [&str; 33] = [
     "28210014c9973309073b66d7178c0b22caafb973",
 ];
 
+/// This is the reply with Missing Attribute to the request of this Identifier.
+fn lacks_attribute(rt: &impl Abort, found: Option<&Datagram>, id: u8) {
+    let datagram = found.expect(rt, "a datagram");
+    let octets = datagram.octets.as_slice();
+    assert_same(rt, &datagram.role, &Role::Coa);
+    assert_holds(rt, octets.starts_with(&[0x2a, id, 0, 0x1a]));
+    assert_holds(rt, octets.ends_with(b"\x65\x06\x00\x00\x01\x92"));
+    assert_same(rt, &octets.len(), &26);
+}
+
 #[test]
 fn a_turn_takes_32_requests(rt: HostRuntime) -> Result<(), Fail> {
     let alloc = rt.alloc();
@@ -231,19 +252,12 @@ fn a_turn_takes_32_requests(rt: HostRuntime) -> Result<(), Fail> {
     let sent = ended.plant.sent().iter();
     let mut others = sent.filter(|datagram| datagram.role != Role::Acct);
     // A packet is sent before the replies of its turn: with it comes the 33rd request.
-    for place in 0..34u8 {
-        let datagram = others.next().expect(&rt, "a datagram");
-        if place == 32 {
-            assert_same(&rt, &datagram.role, &Role::Core);
-        } else {
-            let id = if place < 32 { place + 1 } else { 33 };
-            let octets = datagram.octets.as_slice();
-            assert_same(&rt, &datagram.role, &Role::Coa);
-            assert_holds(&rt, octets.starts_with(&[0x2a, id, 0, 0x1a]));
-            assert_holds(&rt, octets.ends_with(b"\x65\x06\x00\x00\x01\x92"));
-            assert_same(&rt, &octets.len(), &26);
-        }
+    for id in 1..33u8 {
+        lacks_attribute(&rt, others.next(), id);
     }
+    let datagram = others.next().expect(&rt, "a datagram");
+    assert_same(&rt, &datagram.role, &Role::Core);
+    lacks_attribute(&rt, others.next(), 33);
     let last = others.next().expect(&rt, "an answer");
     assert_same(&rt, &last.role, &Role::Control);
     assert_holds(&rt, others.next().is_none());

@@ -4,13 +4,10 @@ ghost use Rattle.bng_base.specs.Causes.{HasCause};
 ghost use Rattle.bng_plant.specs.Calls.{IsFilled};
 
 use super::concentrator::{PLAIN, TUNNELS};
-use super::{SERVE, loopback, seed};
+use super::{SERVE, around, loopback, run_with, seed};
 use crate::asserts::{assert_holds, assert_same};
 use bng_base::{Frame, Peer, Received, Role};
-use bng_gate::run;
-use bng_plant::{
-    Bound, MemoryClock, MemoryFile, MemoryFiles, MemorySink, NoTrace, OpenGate, Plant, Sending,
-};
+use bng_plant::{Bound, MemoryClock, NoTrace, Plant, Sending};
 use std::alloc::{AllocError, Global};
 use std::sync::Wait;
 use std::test::Fail;
@@ -134,29 +131,17 @@ fn run_over_it<R: Threads + Wait + Sync>(
     alloc: Global,
     plant: &mut Concentrator,
 ) -> Result<u8, AllocError> {
-    let mut words = Vec::new(alloc);
-    for word in &SERVE {
-        words.push(String::from_str(alloc, *word)?)?;
-    }
-    let mut files = Vec::new(alloc);
-    files.push(MemoryFile::new(alloc, "bng.toml", TUNNELS.as_bytes())?)?;
-    let mut files = MemoryFiles::new(alloc, files, Vec::new(alloc), 8)?;
+    let mut around = around(alloc, &SERVE, TUNNELS, &[])?;
     let mut clock = MemoryClock::new(alloc, 10, 1_700_000_000, 64)?;
     let mut entropy = seed(alloc, &[])?;
-    let mut out = MemorySink::new(alloc, Vec::new(alloc), 1024)?;
-    let mut err = MemorySink::new(alloc, Vec::new(alloc), 1024)?;
-    Ok(run(
+    Ok(run_with(
         rt,
         alloc,
-        &words,
-        &mut files,
+        &mut around,
         plant,
         &mut clock,
         &mut entropy,
         &mut NoTrace,
-        &mut out,
-        &mut err,
-        &OpenGate,
     ))
 }
 

@@ -9,7 +9,7 @@ use super::concentrator::{
 use super::logins::{records, records_begin, response};
 use super::{a_turn_later, assert_status, has};
 use crate::asserts::{assert_count, assert_holds, assert_same};
-use bng_base::Role;
+use bng_base::{Peer, Role};
 use bng_plant::Arrival;
 use std::alloc::Global;
 use std::process::Abort;
@@ -156,80 +156,83 @@ const STOP_OF_PEER: &str =
 
 const ZLB_9: &str = "c802000c0005000000040009";
 
-#[test]
-fn a_stop_ccn_ends_the_three_live_calls_of_its_tunnel(rt: HostRuntime) -> Result<(), Fail> {
-    let alloc = rt.alloc();
+/// The messages and frames by which the three calls come to their questions, what their peer is told, and the records.
+const THREE_BEGIN: &[(Peer, &str)] = &[
+    (PLAIN, SCCRQ),
+    (PLAIN, SCCCN),
+    (PLAIN, THREE_ICRQ_0),
+    (PLAIN, THREE_ICRQ_1),
+    (PLAIN, THREE_ICRQ_2),
+    (PLAIN, THREE_ICCN_0),
+    (PLAIN, THREE_ICCN_1),
+    (PLAIN, THREE_ICCN_2),
+    (PLAIN, REQUEST),
+    (PLAIN, THREE_REQUEST_1),
+    (PLAIN, THREE_REQUEST_2),
+    (PLAIN, THREE_ACK_0),
+    (PLAIN, THREE_ACK_1),
+    (PLAIN, THREE_ACK_2),
+    (PLAIN, PASSWORD),
+    (PLAIN, THREE_PASSWORD_1),
+    (PLAIN, THREE_PASSWORD_2),
+];
+
+const THREE_TOLD: &[(Peer, &str)] = &[
+    (PLAIN, SCCRP),
+    (PLAIN, ZLB_2),
+    (PLAIN, THREE_ICRP_0),
+    (PLAIN, THREE_ICRP_1),
+    (PLAIN, THREE_ICRP_2),
+    (PLAIN, THREE_ZLB_0),
+    (PLAIN, THREE_ASKED_0),
+    (PLAIN, THREE_ZLB_1),
+    (PLAIN, THREE_ASKED_1),
+    (PLAIN, THREE_ZLB_2),
+    (PLAIN, THREE_ASKED_2),
+    (PLAIN, ACKED),
+    (PLAIN, THREE_ACKED_1),
+    (PLAIN, THREE_ACKED_2),
+    (PLAIN, PASSED),
+    (PLAIN, OWN),
+    (PLAIN, THREE_PASSED_1),
+    (PLAIN, THREE_OWN_1),
+    (PLAIN, THREE_PASSED_2),
+    (PLAIN, THREE_OWN_2),
+    (PLAIN, ZLB_9),
+];
+
+const THREE_RECORDS: &[&str] = &[
+    START_0,
+    THREE_START_1,
+    THREE_START_2,
+    THREE_STOP_0,
+    THREE_STOP_1,
+    THREE_STOP_2,
+];
+
+const THREE_ACCEPTS: &[&str] = &[THREE_ACCEPT_0, THREE_ACCEPT_1, THREE_ACCEPT_2];
+
+/// The three calls are accepted, and a turn later their tunnel ends.
+fn three_calls(alloc: Global) -> Result<Vec<Arrival>, Fail> {
     let mut script = Vec::new(alloc);
-    let begins = [
-        (PLAIN, SCCRQ),
-        (PLAIN, SCCCN),
-        (PLAIN, THREE_ICRQ_0),
-        (PLAIN, THREE_ICRQ_1),
-        (PLAIN, THREE_ICRQ_2),
-        (PLAIN, THREE_ICCN_0),
-        (PLAIN, THREE_ICCN_1),
-        (PLAIN, THREE_ICCN_2),
-        (PLAIN, REQUEST),
-        (PLAIN, THREE_REQUEST_1),
-        (PLAIN, THREE_REQUEST_2),
-        (PLAIN, THREE_ACK_0),
-        (PLAIN, THREE_ACK_1),
-        (PLAIN, THREE_ACK_2),
-        (PLAIN, PASSWORD),
-        (PLAIN, THREE_PASSWORD_1),
-        (PLAIN, THREE_PASSWORD_2),
-    ];
-    then_come(alloc, &mut script, &begins)?;
-    for accept in [THREE_ACCEPT_0, THREE_ACCEPT_1, THREE_ACCEPT_2] {
-        script.push(reply(alloc, 1812, accept)?)?;
+    then_come(alloc, &mut script, THREE_BEGIN)?;
+    for accept in THREE_ACCEPTS {
+        script.push(reply(alloc, 1812, *accept)?)?;
     }
     script.push(a_turn_later())?;
     then_come(alloc, &mut script, &[(PLAIN, STOP_OF_PEER)])?;
     script.push(stop(0))?;
-    let ended = run_calls(&rt, alloc, script, 10)?;
+    Ok(script)
+}
+
+#[test]
+fn a_stop_ccn_ends_the_three_live_calls_of_its_tunnel(rt: HostRuntime) -> Result<(), Fail> {
+    let alloc = rt.alloc();
+    let ended = run_calls(&rt, alloc, three_calls(alloc)?, 10)?;
     assert_status(&rt, &ended, 6);
     // One ZLB is the last that is told: no CDN goes out, and at the stop there is no tunnel.
-    tells(
-        &rt,
-        alloc,
-        &ended,
-        &[
-            (PLAIN, SCCRP),
-            (PLAIN, ZLB_2),
-            (PLAIN, THREE_ICRP_0),
-            (PLAIN, THREE_ICRP_1),
-            (PLAIN, THREE_ICRP_2),
-            (PLAIN, THREE_ZLB_0),
-            (PLAIN, THREE_ASKED_0),
-            (PLAIN, THREE_ZLB_1),
-            (PLAIN, THREE_ASKED_1),
-            (PLAIN, THREE_ZLB_2),
-            (PLAIN, THREE_ASKED_2),
-            (PLAIN, ACKED),
-            (PLAIN, THREE_ACKED_1),
-            (PLAIN, THREE_ACKED_2),
-            (PLAIN, PASSED),
-            (PLAIN, OWN),
-            (PLAIN, THREE_PASSED_1),
-            (PLAIN, THREE_OWN_1),
-            (PLAIN, THREE_PASSED_2),
-            (PLAIN, THREE_OWN_2),
-            (PLAIN, ZLB_9),
-        ],
-    )?;
-    records_begin(
-        &rt,
-        alloc,
-        &ended,
-        &[
-            START_0,
-            THREE_START_1,
-            THREE_START_2,
-            THREE_STOP_0,
-            THREE_STOP_1,
-            THREE_STOP_2,
-        ],
-    )
+    tells(&rt, alloc, &ended, THREE_TOLD)?;
+    records_begin(&rt, alloc, &ended, THREE_RECORDS)
 }
 
 /// The gateway's HELLO; and the Stop of the term 90 s after its Start, with the cause Lost Carrier, and the Accounting-Response to it.
@@ -240,46 +243,47 @@ const SILENT_STOP: &str =
 
 const SILENT_STOPPED: &str = "050100142f9e66d6e35d631750078c92f3a30eba";
 
-#[test]
-fn a_tunnel_that_falls_silent_ends_its_live_call(rt: HostRuntime) -> Result<(), Fail> {
-    let alloc = rt.alloc();
+/// What the peer of a tunnel is told that falls silent.
+const TOLD_TO_SILENT: &[(Peer, &str)] = &[
+    (PLAIN, SCCRP),
+    (PLAIN, ZLB_2),
+    (PLAIN, ICRP),
+    (PLAIN, ZLB_4),
+    (PLAIN, ASKED),
+    (PLAIN, ACKED),
+    (PLAIN, PASSED),
+    (PLAIN, OWN),
+    (PLAIN, TO_BE),
+    (PLAIN, GETS),
+    (PLAIN, HELLO),
+    (PLAIN, HELLO),
+    (PLAIN, HELLO),
+    (PLAIN, HELLO),
+    (PLAIN, HELLO),
+    (PLAIN, HELLO),
+];
+
+const TAKES_ADDRESS: &[(Peer, &str)] = &[(PLAIN, ANY), (PLAIN, ASKS), (PLAIN, TAKES)];
+
+/// 60 s after the ICCN a HELLO goes out, and again after 1, 3, 7, 15 and 23 s more; 31 s after the first the tunnel is cleared. Then comes a
+/// packet of its call.
+fn silence(alloc: Global) -> Result<Vec<Arrival>, Fail> {
     let mut script = begun(alloc, ACCEPT)?;
-    then_come(
-        alloc,
-        &mut script,
-        &[(PLAIN, ANY), (PLAIN, ASKS), (PLAIN, TAKES)],
-    )?;
+    then_come(alloc, &mut script, TAKES_ADDRESS)?;
     script.push(response(alloc, STARTED)?)?;
-    // 60 s after the ICCN a HELLO goes out, and again after 1, 3, 7, 15 and 23 s more; 31 s after the first the tunnel is cleared.
     script.push(response(alloc, SILENT_STOPPED)?.after(90))?;
     then_come(alloc, &mut script, &[(PLAIN, PACKET)])?;
     script.push(stop(0))?;
-    let ended = run_calls(&rt, alloc, script, 1000)?;
+    Ok(script)
+}
+
+#[test]
+fn a_tunnel_that_falls_silent_ends_its_live_call(rt: HostRuntime) -> Result<(), Fail> {
+    let alloc = rt.alloc();
+    let ended = run_calls(&rt, alloc, silence(alloc)?, 1000)?;
     assert_status(&rt, &ended, 0);
     assert_holds(&rt, has(ended.out.text(), b"drop NoSession 1\n"));
-    tells(
-        &rt,
-        alloc,
-        &ended,
-        &[
-            (PLAIN, SCCRP),
-            (PLAIN, ZLB_2),
-            (PLAIN, ICRP),
-            (PLAIN, ZLB_4),
-            (PLAIN, ASKED),
-            (PLAIN, ACKED),
-            (PLAIN, PASSED),
-            (PLAIN, OWN),
-            (PLAIN, TO_BE),
-            (PLAIN, GETS),
-            (PLAIN, HELLO),
-            (PLAIN, HELLO),
-            (PLAIN, HELLO),
-            (PLAIN, HELLO),
-            (PLAIN, HELLO),
-            (PLAIN, HELLO),
-        ],
-    )?;
+    tells(&rt, alloc, &ended, TOLD_TO_SILENT)?;
     records(&rt, alloc, &ended, &[START, SILENT_STOP])
 }
 

@@ -10,6 +10,7 @@ use bng_base::{Claim, Ip4, Range};
 use bng_pool::{Pool, PoolError, PoolSeat, seats_in_one_hand_are_a_table};
 use std::alloc::Global;
 use std::marker::Model;
+use std::process::Abort;
 use std::sync::Wait;
 use std::test::Fail;
 
@@ -102,6 +103,15 @@ impl Plain {
 
 const FIRST: u32 = 0x0a00_0000;
 
+// The three addresses of the first range, and the one behind them.
+const ONE: Ip4 = Ip4(0x0a00_0010);
+
+const TWO: Ip4 = Ip4(0x0a00_0011);
+
+const THREE: Ip4 = Ip4(0x0a00_0012);
+
+const BEHIND: Ip4 = Ip4(0x0a00_0013);
+
 // Two ranges, of three addresses and of one.
 fn open_two(alloc: Global, shards: u16) -> Result<Plain, PoolError>
     requires { (1 ≤ shards) × (shards ≤ 64) }
@@ -144,34 +154,55 @@ fn free<R: Wait>(rt: &R, plain: &mut Plain, shard: u16, a: Ip4) -> bool
     true
 }
 
+fn claim_two(rt: &impl Abort, plain: &mut Plain, last: u16)
+    requires { (length plain.old.0 ≡ 2) × (last < plain.old.2) }
+    ensures { (plain.new.0 ≡ plain.old.0) × (plain.new.2 ≡ plain.old.2) × (plain.new.3 ≡ plain.old.3) }
+{
+    assert_same(rt, &plain.look(ONE), &None);
+    assert_same(rt, &plain.scan(usize::from(last), 0), &Claim::Claimed(ONE));
+    assert_same(rt, &take(plain, 0, ONE), &Some(Claim::Held(ONE)));
+    assert_same(rt, &take(plain, 0, THREE), &Some(Claim::Claimed(THREE)));
+    assert_same(rt, &take(plain, 0, BEHIND), &None);
+}
+
+fn claim_the_rest(rt: &impl Abort, plain: &mut Plain, last: u16)
+    requires { (length plain.old.0 ≡ 2) × (last < plain.old.2) }
+    ensures { (plain.new.0 ≡ plain.old.0) × (plain.new.2 ≡ plain.old.2) × (plain.new.3 ≡ plain.old.3) }
+{
+    assert_same(rt, &plain.scan(usize::from(last), 0), &Claim::Claimed(TWO));
+    assert_same(rt, &plain.scan(0, 0), &Claim::Exhausted(0));
+    assert_same(rt, &plain.scan(0, 1), &Claim::Claimed(Ip4(FIRST)));
+}
+
+fn look_at_three(rt: &impl Abort, plain: &mut Plain, last: u16)
+    ensures { plain.new ≡ plain.old }
+{
+    assert_same(rt, &plain.look(ONE), &Some(last));
+    assert_same(rt, &plain.look(THREE), &Some(0));
+    assert_same(rt, &plain.look(BEHIND), &None);
+}
+
+// The last shard gives an address back, and the first one claims it.
+fn hand_over<R: Wait + Abort>(rt: &R, plain: &mut Plain, last: u16)
+    requires { (length plain.old.0 ≡ 2) × (last < plain.old.2) × (plain.old.3 ≡ 0) }
+{
+    assert_holds(rt, free(rt, plain, last, TWO));
+    assert_holds(rt, !free(rt, plain, last, TWO));
+    assert_same(rt, &plain.look(TWO), &None);
+    assert_same(rt, &plain.look(ONE), &Some(last));
+    assert_same(rt, &plain.scan(0, 0), &Claim::Claimed(TWO));
+    assert_same(rt, &plain.look(TWO), &Some(0));
+}
+
 #[test]
 fn seats_of_one_thread_answer_as_a_table(rt: HostRuntime) -> Result<(), Fail> {
     for shards in [1, 3] {
         let last: u16 = shards - 1;
-        let of_last = usize::from(last);
-        let (one, two, three) = (Ip4(FIRST + 16), Ip4(FIRST + 17), Ip4(FIRST + 18));
         let mut plain = open_two(rt.alloc(), shards)?;
-        assert_same(&rt, &plain.look(one), &None);
-        assert_same(&rt, &plain.scan(of_last, 0), &Claim::Claimed(one));
-        assert_same(&rt, &take(&mut plain, 0, one), &Some(Claim::Held(one)));
-        assert_same(
-            &rt,
-            &take(&mut plain, 0, three),
-            &Some(Claim::Claimed(three)),
-        );
-        assert_same(&rt, &take(&mut plain, 0, Ip4(FIRST + 19)), &None);
-        assert_same(&rt, &plain.scan(of_last, 0), &Claim::Claimed(two));
-        assert_same(&rt, &plain.scan(0, 0), &Claim::Exhausted(0));
-        assert_same(&rt, &plain.scan(0, 1), &Claim::Claimed(Ip4(FIRST)));
-        assert_same(&rt, &plain.look(one), &Some(last));
-        assert_same(&rt, &plain.look(three), &Some(0));
-        assert_same(&rt, &plain.look(Ip4(FIRST + 19)), &None);
-        assert_holds(&rt, free(&rt, &mut plain, last, two));
-        assert_holds(&rt, !free(&rt, &mut plain, last, two));
-        assert_same(&rt, &plain.look(two), &None);
-        assert_same(&rt, &plain.look(one), &Some(last));
-        assert_same(&rt, &plain.scan(0, 0), &Claim::Claimed(two));
-        assert_same(&rt, &plain.look(two), &Some(0));
+        claim_two(&rt, &mut plain, last);
+        claim_the_rest(&rt, &mut plain, last);
+        look_at_three(&rt, &mut plain, last);
+        hand_over(&rt, &mut plain, last);
     }
     Ok(())
 }

@@ -97,43 +97,49 @@ fn answer_to(pool: &mut PlainPool, call: Call) -> Answer
     }
 }
 
+const AT_0: Ip4 = Ip4(0x0a00_0000);
+
+const AT_16: Ip4 = Ip4(0x0a00_0010);
+
+const AT_17: Ip4 = Ip4(0x0a00_0011);
+
+const AT_18: Ip4 = Ip4(0x0a00_0012);
+
+const STEPS: &[(Call, Answer)] = &[
+    (Call::Has(0), Answer::Yes),
+    (Call::Has(1), Answer::No),
+    (Call::Has(15), Answer::No),
+    (Call::Has(16), Answer::Yes),
+    (Call::Has(18), Answer::Yes),
+    (Call::Has(19), Answer::No),
+    (Call::Look(17), Answer::Holder(None)),
+    (Call::Claim(2, 17), Answer::Took(Claim::Claimed(AT_17))),
+    (Call::Claim(0, 17), Answer::Took(Claim::Held(AT_17))),
+    (Call::Claim(2, 17), Answer::Took(Claim::Held(AT_17))),
+    (Call::Claim(0, 19), Answer::No),
+    (Call::Look(17), Answer::Holder(Some(2))),
+    (Call::Look(16), Answer::Holder(None)),
+    (Call::Look(19), Answer::Holder(None)),
+    (Call::Scan(0, 0), Answer::Took(Claim::Claimed(AT_16))),
+    (Call::Scan(1, 0), Answer::Took(Claim::Claimed(AT_18))),
+    (Call::Scan(1, 0), Answer::Took(Claim::Exhausted(0))),
+    (Call::Scan(1, 1), Answer::Took(Claim::Claimed(AT_0))),
+    (Call::Scan(2, 1), Answer::Took(Claim::Exhausted(1))),
+    (Call::GiveBack(17), Answer::Yes),
+    (Call::GiveBack(17), Answer::No),
+    (Call::Look(17), Answer::Holder(None)),
+    (Call::Look(16), Answer::Holder(Some(0))),
+    (Call::Look(18), Answer::Holder(Some(1))),
+    (Call::Scan(1, 0), Answer::Took(Claim::Claimed(AT_17))),
+    (Call::Look(17), Answer::Holder(Some(1))),
+    (Call::Scan(0, 0), Answer::Took(Claim::Exhausted(0))),
+];
+
 #[test]
 fn a_pool_for_one_thread_answers_as_a_table(rt: HostRuntime) -> Result<(), Fail> {
-    let steps = [
-        (Call::Has(0), Answer::Yes),
-        (Call::Has(1), Answer::No),
-        (Call::Has(15), Answer::No),
-        (Call::Has(16), Answer::Yes),
-        (Call::Has(18), Answer::Yes),
-        (Call::Has(19), Answer::No),
-        (Call::Look(17), Answer::Holder(None)),
-        (
-            Call::Claim(2, 17),
-            Answer::Took(Claim::Claimed(address(17))),
-        ),
-        (Call::Claim(0, 17), Answer::Took(Claim::Held(address(17)))),
-        (Call::Claim(2, 17), Answer::Took(Claim::Held(address(17)))),
-        (Call::Claim(0, 19), Answer::No),
-        (Call::Look(17), Answer::Holder(Some(2))),
-        (Call::Look(16), Answer::Holder(None)),
-        (Call::Look(19), Answer::Holder(None)),
-        (Call::Scan(0, 0), Answer::Took(Claim::Claimed(address(16)))),
-        (Call::Scan(1, 0), Answer::Took(Claim::Claimed(address(18)))),
-        (Call::Scan(1, 0), Answer::Took(Claim::Exhausted(0))),
-        (Call::Scan(1, 1), Answer::Took(Claim::Claimed(address(0)))),
-        (Call::Scan(2, 1), Answer::Took(Claim::Exhausted(1))),
-        (Call::GiveBack(17), Answer::Yes),
-        (Call::GiveBack(17), Answer::No),
-        (Call::Look(17), Answer::Holder(None)),
-        (Call::Look(16), Answer::Holder(Some(0))),
-        (Call::Look(18), Answer::Holder(Some(1))),
-        (Call::Scan(1, 0), Answer::Took(Claim::Claimed(address(17)))),
-        (Call::Look(17), Answer::Holder(Some(1))),
-        (Call::Scan(0, 0), Answer::Took(Claim::Exhausted(0))),
-    ];
     let mut pool = open_two(rt.alloc())?;
-    for (call, answer) in steps {
-        assert_same(&rt, &answer_to(&mut pool, call), &answer);
+    for (call, answer) in STEPS {
+        assert_same(&rt, &answer_to(&mut pool, *call), answer);
     }
     Ok(())
 }

@@ -2,6 +2,8 @@ use crate::asserts::{assert_holds, assert_same};
 use arrayvec::ArrayVec;
 use bng_base::{Frame, Ip4, Peer};
 use bng_coa::{Admitted, ChangeVerdict, CoaDesk, CoaRules, Ignored};
+use std::alloc::Global;
+use std::process::Abort;
 use std::test::Fail;
 
 const PEER: Peer = Peer {
@@ -38,45 +40,81 @@ fn rules() -> CoaRules {
     CoaRules { peers, secret }
 }
 
-// The replies by Python's hashlib and hmac.
+// Requests, what is decided of each, and the replies by Python's hashlib and hmac.
+const REPLIES: &[(&str, ChangeVerdict, &str)] = &[
+    (
+        CHANGE,
+        ChangeVerdict::Applied,
+        "2ca40026871180fc2ef71d01a496f6c911ff9a835012bacb10a5e7cada74c81936c189d7569b",
+    ),
+    (
+        DISCONNECT,
+        ChangeVerdict::Refused(503),
+        "2ab6002c48ee3a63c12f1378538ef31c014974946506000001f7501214776f6a16d76ce194042f1f31730b89",
+    ),
+    (
+        UNKNOWN,
+        ChangeVerdict::Refused(503),
+        "2d0d001a559dd4ee3600464768a43d213a7a644c6506000001f7",
+    ),
+];
+
+// Admits a request where none is in hand, and writes its reply. It is new, and has the number 0.
+fn answer(
+    rt: &impl Abort,
+    desk: &mut CoaDesk,
+    request: &[u8],
+    verdict: ChangeVerdict,
+    frame: &mut Frame,
+) {
+    assert_holds(rt, desk.in_hand() == 0);
+    match desk.admit(PEER, request, 1000, 1_700_000_000) {
+        Admitted::New(number) => {
+            assert_same(rt, &number, &0);
+            desk.answer(number, verdict, frame);
+        }
+        _ => assert!(rt; false, "it is not new"),
+    }
+}
+
+// Asserts that a request has this reply again, where none is in hand.
+fn assert_repeated(rt: &impl Abort, desk: &mut CoaDesk, request: &[u8], frame: &Frame) {
+    assert_holds(rt, desk.in_hand() == 0);
+    match desk.admit(PEER, request, 30_999, 1_700_000_000) {
+        Admitted::Repeat(again) => assert_same(rt, &again.payload(), &frame.payload()),
+        _ => assert!(rt; false, "it is not repeated"),
+    }
+}
+
+// Asserts the octets of a frame, in hexadecimal digits.
+fn assert_payload(rt: &impl Abort, alloc: Global, frame: &Frame, octets: &str) -> Result<(), Fail> {
+    let text = hex::encode(alloc, frame.payload())?;
+    assert_same(rt, &text.as_str(), &octets);
+    Ok(())
+}
+
+// Answers a request, in hexadecimal digits, with this reply, and once more.
+fn answer_twice(
+    rt: &impl Abort,
+    alloc: Global,
+    desk: &mut CoaDesk,
+    request: &str,
+    verdict: ChangeVerdict,
+    reply: &str,
+) -> Result<(), Fail> {
+    let request = hex::decode(alloc, request)?;
+    let mut frame = Frame::new();
+    answer(rt, desk, request.as_slice(), verdict, &mut frame);
+    assert_payload(rt, alloc, &frame, reply)?;
+    assert_repeated(rt, desk, request.as_slice(), &frame);
+    Ok(())
+}
+
 #[test]
 fn answers_the_requests_of_another_client(rt: HostRuntime) -> Result<(), Fail> {
     let mut desk = CoaDesk::open(rt.alloc(), &rules())?;
-    let cases = [
-        (
-            CHANGE,
-            ChangeVerdict::Applied,
-            "2ca40026871180fc2ef71d01a496f6c911ff9a835012bacb10a5e7cada74c81936c189d7569b",
-        ),
-        (
-            DISCONNECT,
-            ChangeVerdict::Refused(503),
-            "2ab6002c48ee3a63c12f1378538ef31c014974946506000001f7501214776f6a16d76ce194042f1f31730b89",
-        ),
-        (
-            UNKNOWN,
-            ChangeVerdict::Refused(503),
-            "2d0d001a559dd4ee3600464768a43d213a7a644c6506000001f7",
-        ),
-    ];
-    for (request, verdict, reply) in cases {
-        let request = hex::decode(rt.alloc(), request)?;
-        let mut frame = Frame::new();
-        assert_holds(&rt, desk.in_hand() == 0);
-        match desk.admit(PEER, request.as_slice(), 1000, 1_700_000_000) {
-            Admitted::New(number) => {
-                assert_same(&rt, &number, &0);
-                desk.answer(number, verdict, &mut frame);
-            }
-            _ => assert!(rt; false, "it is not new"),
-        }
-        let text = hex::encode(rt.alloc(), frame.payload())?;
-        assert_same(&rt, &text.as_str(), &reply);
-        assert_holds(&rt, desk.in_hand() == 0);
-        match desk.admit(PEER, request.as_slice(), 30_999, 1_700_000_000) {
-            Admitted::Repeat(again) => assert_same(&rt, &again.payload(), &frame.payload()),
-            _ => assert!(rt; false, "it is not repeated"),
-        }
+    for (request, verdict, reply) in REPLIES {
+        answer_twice(&rt, rt.alloc(), &mut desk, request, *verdict, reply)?;
     }
     Ok(())
 }
@@ -84,45 +122,83 @@ fn answers_the_requests_of_another_client(rt: HostRuntime) -> Result<(), Fail> {
 // A Disconnect-Request with the Event-Timestamp 1,700,000,000, by Python's hashlib.
 const STAMPED: &str = "280b00249132f9dd356ca7ec4b5c9c1de03311b12c0a303030303030303137066553f100";
 
-#[test]
-fn passes_datagrams_over_for_their_first_cause(rt: HostRuntime) -> Result<(), Fail> {
-    let mut desk = CoaDesk::open(rt.alloc(), &rules())?;
-    let right = hex::decode(rt.alloc(), STAMPED)?;
-    let mut wrong = hex::decode(rt.alloc(), STAMPED)?;
-    assert_holds(&rt, wrong.len() > 5);
-    wrong[5] ^= 1;
-    let reply = hex::decode(rt.alloc(), "29010014000000000000000000000000000000ff")?;
-    let cases = [
-        (STRANGER, b"".as_slice(), 0, Ignored::Stranger),
-        (PEER, b"\x2b\x00".as_slice(), 0, Ignored::Malformed),
-        (PEER, reply.as_slice(), 0, Ignored::Malformed),
-        (PEER, wrong.as_slice(), 0, Ignored::WrongDigest),
-        (PEER, right.as_slice(), 1_699_999_699, Ignored::Stale),
-        (PEER, right.as_slice(), 1_700_000_301, Ignored::Stale),
-    ];
-    for (from, bytes, wall, cause) in cases {
-        assert_holds(&rt, desk.in_hand() == 0);
-        match desk.admit(from, bytes, 0, wall) {
-            Admitted::Ignored(why) => assert_holds(&rt, why == cause),
-            _ => assert!(rt; false, "it is not ignored"),
-        }
+// The same with one bit of its authenticator changed, and a CoA-ACK.
+const CHANGED: &str = "280b00249133f9dd356ca7ec4b5c9c1de03311b12c0a303030303030303137066553f100";
+
+const REPLY: &str = "29010014000000000000000000000000000000ff";
+
+// Admits a datagram, in hexadecimal digits, at a second where none is in hand: the cause for which it is passed over.
+fn cause(
+    rt: &impl Abort,
+    alloc: Global,
+    desk: &mut CoaDesk,
+    from: Peer,
+    datagram: &str,
+    wall: u64,
+) -> Result<Option<Ignored>, Fail> {
+    let octets = hex::decode(alloc, datagram)?;
+    assert_holds(rt, desk.in_hand() == 0);
+    match desk.admit(from, octets.as_slice(), 0, wall) {
+        Admitted::Ignored(why) => Ok(Some(why)),
+        _ => Ok(None),
     }
-    assert_holds(&rt, desk.in_hand() == 0);
+}
+
+// Asserts that a datagram is passed over for this cause.
+fn assert_ignored(
+    rt: &impl Abort,
+    alloc: Global,
+    desk: &mut CoaDesk,
+    datagram: &str,
+    wall: u64,
+    why: Ignored,
+) -> Result<(), Fail> {
     assert_holds(
-        &rt,
+        rt,
+        cause(rt, alloc, desk, PEER, datagram, wall)? == Some(why),
+    );
+    Ok(())
+}
+
+// Asserts that the request is new at the last second of those in which it is not stale, and then in hand.
+fn take_in(rt: &impl Abort, desk: &mut CoaDesk, request: &[u8]) {
+    assert_holds(rt, desk.in_hand() == 0);
+    assert_holds(
+        rt,
         matches!(
-            desk.admit(PEER, right.as_slice(), 0, 1_700_000_300),
+            desk.admit(PEER, request, 0, 1_700_000_300),
             Admitted::New(0)
         ),
     );
-    assert_holds(&rt, desk.in_hand() == 1);
+    assert_holds(rt, desk.in_hand() == 1);
     assert_holds(
-        &rt,
+        rt,
         matches!(
-            desk.admit(PEER, right.as_slice(), 0, 1_700_000_300),
+            desk.admit(PEER, request, 0, 1_700_000_300),
             Admitted::InHand
         ),
     );
+}
+
+// Datagrams, each with the second at which it comes, and the cause for which it is passed over.
+const IGNORED: &[(&str, u64, Ignored)] = &[
+    ("2b00", 0, Ignored::Malformed),
+    (REPLY, 0, Ignored::Malformed),
+    (CHANGED, 0, Ignored::WrongDigest),
+    (STAMPED, 1_699_999_699, Ignored::Stale),
+    (STAMPED, 1_700_000_301, Ignored::Stale),
+];
+
+#[test]
+fn passes_datagrams_over_for_their_first_cause(rt: HostRuntime) -> Result<(), Fail> {
+    let mut desk = CoaDesk::open(rt.alloc(), &rules())?;
+    let stranger = cause(&rt, rt.alloc(), &mut desk, STRANGER, "", 0)?;
+    assert_holds(&rt, stranger == Some(Ignored::Stranger));
+    for (datagram, wall, why) in IGNORED {
+        assert_ignored(&rt, rt.alloc(), &mut desk, datagram, *wall, *why)?;
+    }
+    let right = hex::decode(rt.alloc(), STAMPED)?;
+    take_in(&rt, &mut desk, right.as_slice());
     Ok(())
 }
 
@@ -133,24 +209,31 @@ const PROXIED: &str =
 const PROXIED_NAK: &str =
     "2d0c002614b18cf388807a0b203c91ebfcdbd9ca210470312104703218047374650600000191";
 
+// Admits a request where none is in hand, and writes its refusal for an unsupported attribute.
+fn refuse(rt: &impl Abort, desk: &mut CoaDesk, request: &[u8], frame: &mut Frame) {
+    assert_holds(rt, desk.in_hand() == 0);
+    match desk.admit(PEER, request, 0, 0) {
+        Admitted::New(number) => desk.answer(number, ChangeVerdict::Refused(401), frame),
+        _ => assert!(rt; false, "it is not new"),
+    }
+}
+
+// Asserts that a request is new after 30 s, where none is in hand.
+fn assert_new(rt: &impl Abort, desk: &mut CoaDesk, request: &[u8]) {
+    assert_holds(rt, desk.in_hand() == 0);
+    assert_holds(
+        rt,
+        matches!(desk.admit(PEER, request, 30_000, 0), Admitted::New(0)),
+    );
+}
+
 #[test]
 fn repeats_proxy_states_and_the_first_state(rt: HostRuntime) -> Result<(), Fail> {
     let mut desk = CoaDesk::open(rt.alloc(), &rules())?;
     let request = hex::decode(rt.alloc(), PROXIED)?;
     let mut frame = Frame::new();
-    match desk.admit(PEER, request.as_slice(), 0, 0) {
-        Admitted::New(number) => desk.answer(number, ChangeVerdict::Refused(401), &mut frame),
-        _ => assert!(rt; false, "it is not new"),
-    }
-    let text = hex::encode(rt.alloc(), frame.payload())?;
-    assert_same(&rt, &text.as_str(), &PROXIED_NAK);
-    assert_holds(&rt, desk.in_hand() == 0);
-    assert_holds(
-        &rt,
-        matches!(
-            desk.admit(PEER, request.as_slice(), 30_000, 0),
-            Admitted::New(0)
-        ),
-    );
+    refuse(&rt, &mut desk, request.as_slice(), &mut frame);
+    assert_payload(&rt, rt.alloc(), &frame, PROXIED_NAK)?;
+    assert_new(&rt, &mut desk, request.as_slice());
     Ok(())
 }

@@ -344,40 +344,43 @@ const EIGHT: Range = Range {
 
 // A request stands in the shard of the session number that its Acct-Session-Id names, whatever that is, and in that of the holder of its
 // Framed-IP-Address. There is one shard, and it holds 10.0.0.2.
+// Requests, and where they stand.
+const CASES: &[(&str, Whose)] = &[
+    // session 2, the session 1025 of another shard, and a text that is no session's
+    (
+        "2801002e000000000000000000000000000000002c1a363535336631303030303032303030303030303030303031",
+        Whose::Stands(0),
+    ),
+    (
+        "2801002e000000000000000000000000000000002c1a363535336631303030343031303030303030303030303031",
+        Whose::Loose(Fate::Consumed),
+    ),
+    (
+        "2801001e000000000000000000000000000000002c0a3030303030303031",
+        Whose::Stands(0),
+    ),
+    // an address that is held, one that is free, neither, and no request
+    (DISCONNECTS, Whose::Stands(0)),
+    (
+        "2801001a0000000000000000000000000000000008060a000009",
+        Whose::Loose(Fate::Consumed),
+    ),
+    (
+        "2801001700000000000000000000000000000000010366",
+        Whose::Loose(Fate::Consumed),
+    ),
+    (NO_REQUEST, Whose::Loose(Fate::Consumed)),
+];
+
 #[test]
 fn a_request_stands_in_the_shard_of_its_term(rt: HostRuntime) -> Result<(), Fail> {
     let alloc = rt.alloc();
     let rules = rules(alloc)?;
     let mut pool = PlainPool::open(alloc, &[EIGHT], 1)?;
     let _held = pool.scan(0, 0);
-    let stands = Whose::Stands(0);
-    let loose = Whose::Loose(Fate::Consumed);
-    let cases = [
-        // session 2, the session 1025 of another shard, and a text that is no session's
-        (
-            "2801002e000000000000000000000000000000002c1a363535336631303030303032303030303030303030303031",
-            stands,
-        ),
-        (
-            "2801002e000000000000000000000000000000002c1a363535336631303030343031303030303030303030303031",
-            loose,
-        ),
-        (
-            "2801001e000000000000000000000000000000002c0a3030303030303031",
-            stands,
-        ),
-        // an address that is held, one that is free, neither, and no request
-        (DISCONNECTS, stands),
-        (
-            "2801001a0000000000000000000000000000000008060a000009",
-            loose,
-        ),
-        ("2801001700000000000000000000000000000000010366", loose),
-        (NO_REQUEST, loose),
-    ];
-    for (request, whose) in cases {
-        let item = change(&rt, alloc, 1, request)?;
-        assert_same(&rt, &whose_is(&rules, &pool, &item), &whose);
+    for (request, whose) in CASES {
+        let item = change(&rt, alloc, 1, *request)?;
+        assert_same(&rt, &whose_is(&rules, &pool, &item), whose);
     }
     Ok(())
 }

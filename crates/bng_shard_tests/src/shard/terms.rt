@@ -286,26 +286,38 @@ fn terms_are_shown_by_their_numbers_until_they_leave(rt: HostRuntime) -> Result<
     Ok(())
 }
 
-#[test]
-fn a_stop_says_what_its_term_carried(rt: HostRuntime) -> Result<(), Fail> {
-    let alloc = rt.alloc();
+// The shard 1 with one circuit, of whose term a packet of 84 octets was sent.
+fn open_charged(rt: &impl Abort, alloc: Global) -> Result<Bench, Fail> {
     let circuit = circuit();
     let packet = sent(&circuit, 84);
     let mut shard = open_with(alloc, &circuit)?;
     let _charged = charge_first(&mut shard, &circuit, &packet);
-    let circuits = std::slice::from_ref(&circuit);
-    let mut bench = bench_of(&rt, alloc, shard, circuits)?;
-    let _outs = end(&rt, alloc, &mut bench);
-    let mut carried = NOTHING;
-    carried.input = 84;
-    carried.input_packets = 1;
+    bench_of(rt, alloc, shard, std::slice::from_ref(&circuit))
+}
+
+// What that packet is in a book.
+const OF_84: Book = Book {
+    input: 84,
+    output: 0,
+    input_packets: 1,
+    output_packets: 0,
+};
+
+// The term that leaves next carried this.
+fn assert_carried(rt: &impl Abort, bench: &mut Bench, wanted: Book) {
     let reaped = bench.reap();
     assert_holds(
-        &rt,
-        reaped
-            .as_ref()
-            .is_some_and(|ended| ended.carried == carried),
+        rt,
+        reaped.as_ref().is_some_and(|ended| ended.carried == wanted),
     );
+}
+
+#[test]
+fn a_stop_says_what_its_term_carried(rt: HostRuntime) -> Result<(), Fail> {
+    let alloc = rt.alloc();
+    let mut bench = open_charged(&rt, alloc)?;
+    let _outs = end(&rt, alloc, &mut bench);
+    assert_carried(&rt, &mut bench, OF_84);
     assert_same(&rt, &bench.shard.carried(Ip4(0x0a000002)), &None);
     Ok(())
 }

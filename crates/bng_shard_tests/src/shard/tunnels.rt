@@ -4,7 +4,7 @@ use super::{
     Bench, NOTHING, TWO, assert_due, assert_sessions, item, octets, open_bench, peer, rules,
 };
 use crate::asserts::{assert_count, assert_octets, assert_same};
-use bng_base::{DropCause, Fate, ItemKind, Role};
+use bng_base::{DropCause, Fate, ItemKind, OutRecord, Role};
 use std::alloc::Global;
 use std::process::Abort;
 use std::test::Fail;
@@ -66,6 +66,11 @@ fn answer(
     let outs = bench.round(rt, alloc, &mut tally, now, came);
     assert_count(rt, outs.len(), 1);
     assert_octets(rt, octets(&outs, 0), wanted);
+    assert_to_sender(rt, &outs);
+}
+
+// The first out goes to the tunnels' peer.
+fn assert_to_sender(rt: &impl Abort, outs: &[OutRecord]) {
     if let Some(out) = outs.get(0) {
         assert_same(rt, &out.role, &Role::Tunnel);
         assert_same(rt, &out.to, &peer(9011));

@@ -1,6 +1,6 @@
 //! The script, octet by octet, against the standards.
-use crate::plant::PeerPlant;
 use bng_base::{Frame, Ip4, Peer, Received, Role};
+use bng_peer::PeerPlant;
 use bng_plant::{Clock, Plant, Sending};
 use std::alloc::Global;
 use std::process::Abort;
