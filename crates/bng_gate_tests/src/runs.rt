@@ -1,16 +1,10 @@
 //! Whole runs over the outside in memory.
 use crate::asserts::{assert_holds, assert_octets, assert_same};
 use bng_base::{Datagram, Ip4, Peer, Role};
-use bng_gate::run;
-use bng_plant::{
-    Arrival, MemoryClock, MemoryEntropy, MemoryFile, MemoryFiles, MemoryPlant, MemorySink, NoTrace,
-    OpenGate, Plant, Trace,
-};
+use bng_plant::{Arrival, MemoryPlant, MemorySink};
 use std::alloc::{AllocError, Global};
 use std::process::Abort;
-use std::sync::Wait;
 use std::test::Fail;
-use std::thread::Threads;
 
 mod accounting;
 mod authentication;
@@ -30,10 +24,13 @@ mod logins;
 mod metering;
 mod mru;
 mod refusals;
+mod running;
+mod sent;
 mod sequence;
 mod statistics;
 mod statuses;
 mod teardown;
+mod three_calls;
 mod tunnels;
 
 const CONFIGURATION: &str = r#"[gateway]
@@ -109,6 +106,48 @@ address = "10.0.0.3"
 user = "fixed2"
 "#;
 
+/// Two circuits of one shard, the one with the higher session number first.
+const FALLING_NUMBERS: &str = r#"[gateway]
+name = "bng1"
+address = "10.0.0.1"
+nas_ip = "192.168.1.16"
+[core]
+local = "127.0.0.1:9000"
+peer = "127.0.0.1:9001"
+[control]
+local = "127.0.0.1:9002"
+[radius]
+auth_local = "127.0.0.1:9003"
+auth_server = "127.0.0.1:1812"
+acct_local = "127.0.0.1:9004"
+acct_server = "127.0.0.1:1813"
+secret = "xyzzy5461"
+[[access]]
+local = "127.0.0.1:9010"
+peer = "127.0.0.1:9011"
+mac = "02:00:00:00:00:fe"
+[[access]]
+local = "127.0.0.1:9020"
+peer = "127.0.0.1:9021"
+mac = "02:00:00:00:00:fd"
+[[pool]]
+name = "main"
+first = "10.0.0.2"
+last = "10.0.0.101"
+[[static]]
+port = 1
+mac = "02:00:00:00:00:01"
+session = 1026
+address = "10.0.0.2"
+user = "fixed1"
+[[static]]
+port = 2
+mac = "02:00:00:00:00:02"
+session = 1025
+address = "10.0.0.3"
+user = "fixed2"
+"#;
+
 /// Ethernet, PPPoE and PPP before an 84-octet packet of the circuit.
 const HEADER: [u8; 22] = [
     0x02, 0, 0, 0, 0, 0xfe, 0x02, 0, 0, 0, 0, 0x01, 0x88, 0x64, 0x11, 0x00, 0x04, 0x01, 0x00, 0x56,
@@ -119,14 +158,6 @@ const HEADER: [u8; 22] = [
 const PACKET: [u8; 20] = [
     0x45, 0, 0, 0x54, 0, 1, 0, 0, 0x40, 1, 0xae, 0xa5, 10, 0, 0, 2, 0xc0, 0, 2, 1,
 ];
-
-/// The seed of the runs.
-const SEED: [u8; 32] = [
-    0x00, 0x01, 0x02, 0x03, 0x04, 0x05, 0x06, 0x07, 0x08, 0x09, 0x0a, 0x0b, 0x0c, 0x0d, 0x0e, 0x0f,
-    0x10, 0x11, 0x12, 0x13, 0x14, 0x15, 0x16, 0x17, 0x18, 0x19, 0x1a, 0x1b, 0xac, 0x1d, 0x1f, 0x25,
-];
-
-const SERVE: [&str; 2] = ["serve", "bng.toml"];
 
 fn loopback(port: u16) -> Peer {
     Peer {
@@ -211,22 +242,17 @@ fn a_turn_later() -> Arrival {
 /// The datagrams that a run sent, but for those of Acct, are these, of these roles and to these ports of 127.0.0.1.
 fn sends(rt: &impl Abort, ended: &Ended, wanted: &[(Role, u16, &[u8])]) {
     assert_same(rt, &others(ended), &wanted.len());
-    sends_from(rt, ended, 0, wanted);
+    let sent = ended.plant.sent().iter();
+    let others = sent.filter(|datagram| datagram.role != Role::Acct);
+    for (datagram, (role, port, octets)) in others.zip(wanted) {
+        assert_datagram(rt, datagram, *role, *port, octets);
+    }
 }
 
 /// How many datagrams a run sent, but for those of Acct.
 fn others(ended: &Ended) -> usize {
     let sent = ended.plant.sent().iter();
     sent.filter(|datagram| datagram.role != Role::Acct).count()
-}
-
-/// Of these datagrams those that a run sent from this place on, not counting those of Acct, are the first ones.
-fn sends_from(rt: &impl Abort, ended: &Ended, place: usize, wanted: &[(Role, u16, &[u8])]) {
-    let sent = ended.plant.sent().iter();
-    let others = sent.filter(|datagram| datagram.role != Role::Acct);
-    for (datagram, (role, port, octets)) in others.skip(place).zip(wanted) {
-        assert_datagram(rt, datagram, *role, *port, octets);
-    }
 }
 
 /// A datagram has this role, and goes with these octets to this port of 127.0.0.1.
@@ -283,189 +309,4 @@ fn assert_request(rt: &impl Abort, datagram: &Datagram) {
     assert_same(rt, &datagram.role, &Role::Acct);
     assert_same(rt, &datagram.peer, &loopback(1813));
     assert_same(rt, &datagram.octets.as_slice().first(), &Some(&4));
-}
-
-/// A source of one seed. The calls with these numbers fail.
-fn seed(alloc: Global, fails: &[u64]) -> Result<MemoryEntropy, AllocError> {
-    let mut seeds = Vec::new(alloc);
-    seeds.push(SEED)?;
-    Ok(MemoryEntropy::new(seeds, fails.to_vec(alloc)?))
-}
-
-/// What stands beside the plant in a run.
-#[derive(Drop)]
-struct Beside {
-    words: Vec<String>,
-    files: MemoryFiles,
-    out: MemorySink,
-    err: MemorySink,
-}
-
-/// These words, each in memory of its own.
-fn words_of(alloc: Global, words: &[&str]) -> Result<Vec<String>, AllocError> {
-    let mut list = Vec::new(alloc);
-    for word in words {
-        list.push(String::from_str(alloc, *word)?)?;
-    }
-    Ok(list)
-}
-
-/// One file, `bng.toml`.
-fn files_of(alloc: Global, configuration: &str) -> Result<MemoryFiles, AllocError> {
-    let mut files = Vec::new(alloc);
-    files.push(MemoryFile::new(alloc, "bng.toml", configuration.as_bytes())?)?;
-    MemoryFiles::new(alloc, files, Vec::new(alloc), 8)
-}
-
-/// An output whose calls with these numbers fail.
-fn sink(alloc: Global, fails: &[u64]) -> Result<MemorySink, AllocError> {
-    MemorySink::new(alloc, fails.to_vec(alloc)?, 1024)
-}
-
-/// These words, one file, and an output whose calls with these numbers fail.
-fn around(
-    alloc: Global,
-    words: &[&str],
-    configuration: &str,
-    out_fails: &[u64],
-) -> Result<Beside, AllocError> {
-    Ok(Beside {
-        words: words_of(alloc, words)?,
-        files: files_of(alloc, configuration)?,
-        out: sink(alloc, out_fails)?,
-        err: sink(alloc, &[])?,
-    })
-}
-
-/// The status of a run over these.
-fn run_with<R: Threads + Wait + Sync, P: Plant, T: Trace>(
-    rt: &R,
-    alloc: Global,
-    around: &mut Beside,
-    plant: &mut P,
-    clock: &mut MemoryClock,
-    entropy: &mut MemoryEntropy,
-    trace: &mut T,
-) -> u8 {
-    run(
-        rt,
-        alloc,
-        &around.words,
-        &mut around.files,
-        plant,
-        clock,
-        entropy,
-        trace,
-        &mut around.out,
-        &mut around.err,
-        &OpenGate,
-    )
-}
-
-/// A run of these words over one file, `bng.toml`.
-fn run_at<R: Threads + Wait + Sync, T: Trace>(
-    rt: &R,
-    alloc: Global,
-    words: &[&str],
-    configuration: &str,
-    mut plant: MemoryPlant,
-    mut clock: MemoryClock,
-    mut entropy: MemoryEntropy,
-    trace: &mut T,
-    out_fails: &[u64],
-) -> Result<Ended, AllocError> {
-    let mut around = around(alloc, words, configuration, out_fails)?;
-    let status = run_with(
-        rt,
-        alloc,
-        &mut around,
-        &mut plant,
-        &mut clock,
-        &mut entropy,
-        trace,
-    );
-    let Beside {
-        words: _,
-        files: _,
-        out,
-        err,
-    } = around;
-    Ok(Ended {
-        status,
-        plant,
-        out,
-        err,
-    })
-}
-
-/// The service over this plant with a seed and no trace, at moments that are so many milliseconds apart.
-fn run_by<R: Threads + Wait + Sync>(
-    rt: &R,
-    alloc: Global,
-    configuration: &str,
-    plant: MemoryPlant,
-    step: u64,
-) -> Result<Ended, AllocError> {
-    let clock = MemoryClock::new(alloc, step, 1_700_000_000, 64)?;
-    let entropy = seed(alloc, &[])?;
-    run_at(
-        rt,
-        alloc,
-        &SERVE,
-        configuration,
-        plant,
-        clock,
-        entropy,
-        &mut NoTrace,
-        &[],
-    )
-}
-
-/// A run of these words at moments 10 ms apart.
-fn run_told<R: Threads + Wait + Sync, T: Trace>(
-    rt: &R,
-    alloc: Global,
-    words: &[&str],
-    configuration: &str,
-    plant: MemoryPlant,
-    entropy: MemoryEntropy,
-    trace: &mut T,
-    out_fails: &[u64],
-) -> Result<Ended, AllocError> {
-    let clock = MemoryClock::new(alloc, 10, 1_700_000_000, 64)?;
-    run_at(
-        rt,
-        alloc,
-        words,
-        configuration,
-        plant,
-        clock,
-        entropy,
-        trace,
-        out_fails,
-    )
-}
-
-/// The same with a seed and no trace. The calls of the plant and of the output with these numbers fail.
-fn run_over<R: Threads + Wait + Sync>(
-    rt: &R,
-    alloc: Global,
-    words: &[&str],
-    configuration: &str,
-    script: Vec<Arrival>,
-    plant_fails: &[u64],
-    out_fails: &[u64],
-) -> Result<Ended, AllocError> {
-    let plant = MemoryPlant::new(alloc, script, plant_fails.to_vec(alloc)?, 64)?;
-    let entropy = seed(alloc, &[])?;
-    run_told(
-        rt,
-        alloc,
-        words,
-        configuration,
-        plant,
-        entropy,
-        &mut NoTrace,
-        out_fails,
-    )
 }

@@ -4,7 +4,8 @@ use super::authentication::{LEAVES, PAP, begun, reply};
 use super::forwarding::FROM_CORE;
 use super::host::from_host;
 use super::logins::{ANY, ASKS, TAKES, records, response, run_in};
-use super::{CONFIGURATION, Ended, PACKET, assert_err, assert_status, frame_of, loopback, run_by};
+use super::running::run_by;
+use super::{CONFIGURATION, Ended, PACKET, assert_err, assert_status, frame_of, loopback};
 use crate::asserts::{assert_holds, assert_same};
 use bng_base::Role;
 use bng_plant::{Arrival, MemoryPlant};
@@ -76,7 +77,7 @@ fn run_slow<R: Threads + Wait + Sync>(
 }
 
 /// The reply to the Start comes 1,000 ms after it, from this port, and then `stop`.
-fn acknowledged(alloc: Global, port: u16) -> Result<Vec<Arrival>, Fail> {
+fn replied(alloc: Global, port: u16) -> Result<Vec<Arrival>, Fail> {
     let started = hex::decode(alloc, STARTED)?;
     let mut script = Vec::new(alloc);
     let reply = Arrival::new(Role::Acct, loopback(port), started.as_slice());
@@ -94,23 +95,23 @@ fn starts(alloc: Global, ended: &Ended) -> Result<usize, Fail> {
 }
 
 /// Whether all that a run sent from this place on has the Identifier 1.
-fn are_stops(ended: &Ended, place: usize) -> bool {
+fn have_identifier_1(ended: &Ended, place: usize) -> bool {
     let mut rest = ended.plant.sent().iter().skip(place);
     rest.all(|datagram| datagram.octets.as_slice().get(1) == Some(&1))
 }
 
 /// Where the reply comes from this port, the Start is sent so many times.
-fn starts_where_acknowledged<R: Threads + Wait + Sync + Abort>(
+fn starts_where_replied<R: Threads + Wait + Sync + Abort>(
     rt: &R,
     alloc: Global,
     port: u16,
     sends: usize,
 ) -> Result<(), Fail> {
-    let ended = run_slow(rt, alloc, acknowledged(alloc, port)?)?;
+    let ended = run_slow(rt, alloc, replied(alloc, port)?)?;
     assert_status(rt, &ended, 6);
     assert_same(rt, &starts(alloc, &ended)?, &sends);
     // `stopping` and the Stop come after them, and the Stop alone once no session is left.
-    assert_holds(rt, are_stops(&ended, sends.saturating_add(2)));
+    assert_holds(rt, have_identifier_1(&ended, sends.saturating_add(2)));
     Ok(())
 }
 
@@ -118,8 +119,8 @@ fn starts_where_acknowledged<R: Threads + Wait + Sync + Abort>(
 fn a_start_is_sent_again_until_it_is_acknowledged(rt: HostRuntime) -> Result<(), Fail> {
     let alloc = rt.alloc();
     // From 1814 it is no reply.
-    starts_where_acknowledged(&rt, alloc, 1814, 2)?;
-    starts_where_acknowledged(&rt, alloc, 1813, 1)
+    starts_where_replied(&rt, alloc, 1814, 2)?;
+    starts_where_replied(&rt, alloc, 1813, 1)
 }
 
 /// Each reply comes 1,000 ms after its request. With the first one come a packet of the circuit and one to it.

@@ -1,12 +1,10 @@
 //! Logins of a host. The Access-Requests and the replies to them were made from the tables of RFC 2865 and RFC 2869 by a script over
 //! Python's hashlib and hmac. What is random in them an independent ChaCha20 gives: sixteen octets for the key of the cookies, for each
 //! item, and then for the request.
-use super::host::{
-    ACK, ACKED, ASKED, PADS, PADT, REQUEST, SESSIONS, TO_HOST, framed, from_host, session,
-};
-use super::{
-    Ended, SERVE, accounts, assert_status, loopback, others, run_by, run_over, sends, sends_from,
-};
+use super::host::{ACK, ACKED, ASKED, PADS, REQUEST, SESSIONS, from_host, session};
+use super::running::{SERVE, run_by, run_over};
+use super::sent::{OVER, STOPPING, Sent, sends_list, sends_list_from};
+use super::{Ended, accounts, assert_status, loopback, others};
 use crate::asserts::assert_same;
 use bng_base::Role;
 use bng_plant::{Arrival, MemoryPlant};
@@ -86,7 +84,7 @@ pub(super) const ACCEPT: &str = "02000014d1d08e7dcc0dcd18335311dc3b5a22c8";
 const REJECT: &str = "030000149310a318559c60d3dcd77ef016d42946";
 
 /// Datagrams that are no replies to it, with the ports that they come from.
-const IGNORED: [(u16, &str); 7] = [
+const IGNORED: &[(u16, &str)] = &[
     // the Access-Reject from elsewhere
     (1813, REJECT),
     // with Identifier 1
@@ -107,7 +105,7 @@ const IGNORED: [(u16, &str); 7] = [
 ];
 
 /// Replies that refuse the host, and its Authenticate-Nak.
-const REFUSALS: [(&str, &[u8]); 3] = [
+const REFUSALS: &[(&str, &[u8])] = &[
     (REJECT, b"\xc0\x23\x03\x07\x00\x05\x00"),
     // an Access-Challenge with a State and a Reply-Message
     (
@@ -175,79 +173,76 @@ pub(super) fn sends_after(
     alloc: Global,
     ended: &Ended,
     status: u8,
-    rest: &[(Role, u16, &[u8])],
+    rest: &[Sent<'_>],
 ) -> Result<(), Fail> {
     assert_status(rt, ended, status);
     assert_same(rt, &others(ended).saturating_sub(4), &rest.len());
-    sends_question(rt, alloc, ended)?;
-    sends_from(rt, ended, 4, rest);
-    Ok(())
+    sends_list_from(rt, alloc, ended, 0, QUESTION)?;
+    sends_list_from(rt, alloc, ended, 4, rest)
 }
 
-/// The first four datagrams that a run over PAP sent are what a password brings about until its Access-Request went out.
-fn sends_question(rt: &impl Abort, alloc: Global, ended: &Ended) -> Result<(), Fail> {
-    let port = Role::Access(1);
-    let asked = framed(alloc, &TO_HOST, PAP_ASKED)?;
-    let acked = framed(alloc, &TO_HOST, &ACKED)?;
-    let request = hex::decode(alloc, PAP_REQUEST)?;
-    let front: [(Role, u16, &[u8]); 4] = [
-        (port, 9011, &PADS),
-        (port, 9011, asked.as_slice()),
-        (port, 9011, acked.as_slice()),
-        (Role::Auth, 1812, request.as_slice()),
-    ];
-    sends_from(rt, ended, 0, &front);
-    Ok(())
-}
+/// What a password brings about until its Access-Request goes out.
+const QUESTION: &[Sent] = &[
+    Sent::Octets(Role::Access(1), 9011, &PADS),
+    Sent::ToHost(PAP_ASKED),
+    Sent::ToHost(&ACKED),
+    AGAIN,
+];
 
-#[test]
-fn a_password_is_asked_about_and_accepted(rt: HostRuntime) -> Result<(), Fail> {
-    let alloc = rt.alloc();
+/// The Access-Request.
+const AGAIN: Sent = Sent::Digits(Role::Auth, 1812, PAP_REQUEST);
+
+/// Another password comes while the first is asked about, and after its reply.
+fn two_passwords(alloc: Global) -> Result<Vec<Arrival>, Fail> {
     let mut script = begun(alloc)?;
-    // Another password while the first is asked about, and after its reply.
     script.push(from_host(alloc, PASSWORD_8)?.after(1))?;
     for (port, octets) in IGNORED {
-        script.push(reply(alloc, port, octets)?)?;
+        script.push(reply(alloc, *port, *octets)?)?;
     }
     script.push(reply(alloc, 1812, ACCEPT)?)?;
     script.push(reply(alloc, 1812, ACCEPT)?)?;
     script.push(reply(alloc, 1812, REJECT)?)?;
     script.push(from_host(alloc, PASSWORD_8)?)?;
     script.push(stop(3))?;
-    let ended = run_pap(&rt, alloc, script, 10, &[])?;
-    let passed = framed(alloc, &TO_HOST, PASSED)?;
-    let passed_8 = framed(alloc, &TO_HOST, PASSED_8)?;
-    let port = Role::Access(1);
-    let own = framed(alloc, &TO_HOST, OWN_ADDRESS)?;
-    // The server says nothing to the Start and the Stop of the term that began.
-    let rest: [(Role, u16, &[u8]); 5] = [
-        (port, 9011, passed.as_slice()),
-        (port, 9011, own.as_slice()),
-        (port, 9011, passed_8.as_slice()),
-        (Role::Control, 5, b"stopping\n"),
-        (port, 9011, &PADT),
-    ];
-    sends_after(&rt, alloc, &ended, 6, &rest)
+    Ok(script)
+}
+
+/// What is sent once the reply has come. The server says nothing to the Start and the Stop of the term that began.
+const BOTH_PASSED: &[Sent] = &[
+    Sent::ToHost(PASSED),
+    Sent::ToHost(OWN_ADDRESS),
+    Sent::ToHost(PASSED_8),
+    STOPPING,
+    OVER,
+];
+
+#[test]
+fn a_password_is_asked_about_and_accepted(rt: HostRuntime) -> Result<(), Fail> {
+    let alloc = rt.alloc();
+    let ended = run_pap(&rt, alloc, two_passwords(alloc)?, 10, &[])?;
+    sends_after(&rt, alloc, &ended, 6, BOTH_PASSED)
+}
+
+/// Where the server sends this, the host hears this Authenticate-Nak, and its link ends.
+fn is_refused<R: Threads + Wait + Sync + Abort>(
+    rt: &R,
+    alloc: Global,
+    octets: &str,
+    nak: &[u8],
+) -> Result<(), Fail> {
+    let mut script = begun(alloc)?;
+    script.push(reply(alloc, 1812, octets)?)?;
+    script.push(stop(0))?;
+    let ended = run_pap(rt, alloc, script, 10, &[])?;
+    let rest = [Sent::ToHost(nak), Sent::ToHost(TERMINATE), STOPPING, OVER];
+    sends_after(rt, alloc, &ended, 0, &rest)
 }
 
 #[test]
 fn a_refused_password_ends_the_link(rt: HostRuntime) -> Result<(), Fail> {
     let alloc = rt.alloc();
-    let terminate = framed(alloc, &TO_HOST, TERMINATE)?;
-    let port = Role::Access(1);
     for (octets, nak) in REFUSALS {
-        let mut script = begun(alloc)?;
-        script.push(reply(alloc, 1812, octets)?)?;
-        script.push(stop(0))?;
-        let ended = run_pap(&rt, alloc, script, 10, &[])?;
-        let nak = framed(alloc, &TO_HOST, nak)?;
-        let rest: [(Role, u16, &[u8]); 4] = [
-            (port, 9011, nak.as_slice()),
-            (port, 9011, terminate.as_slice()),
-            (Role::Control, 5, b"stopping\n"),
-            (port, 9011, &PADT),
-        ];
-        sends_after(&rt, alloc, &ended, 0, &rest)?;
+        is_refused(&rt, alloc, *octets, nak)?;
     }
     Ok(())
 }
@@ -258,7 +253,7 @@ fn silent<R: Threads + Wait + Sync + Abort>(
     rt: &R,
     alloc: Global,
     waits: u32,
-    rest: &[(Role, u16, &[u8])],
+    rest: &[Sent<'_>],
 ) -> Result<(), Fail> {
     let mut script = begun(alloc)?;
     script.push(stop(waits))?;
@@ -266,74 +261,95 @@ fn silent<R: Threads + Wait + Sync + Abort>(
     sends_after(rt, alloc, &ended, 0, rest)
 }
 
+/// After how many waits `stop` comes, and what is sent after the Access-Request.
+const SILENCES: &[(u32, &[Sent])] = &[
+    // 2,000 ms after the request: the turn of the ending, at 3,000 ms, sends it again
+    (1, &[STOPPING, OVER, AGAIN]),
+    // at 3,000 ms
+    (2, &[STOPPING, AGAIN, OVER]),
+    // at 5,000 ms
+    (4, &[AGAIN, STOPPING, OVER]),
+    // at 6,000 ms
+    (
+        5,
+        &[
+            AGAIN,
+            STOPPING,
+            Sent::ToHost(TIMED_OUT),
+            Sent::ToHost(TERMINATE),
+            OVER,
+        ],
+    ),
+];
+
 #[test]
 fn a_silent_server_is_asked_again_and_given_up(rt: HostRuntime) -> Result<(), Fail> {
     let alloc = rt.alloc();
-    let port = Role::Access(1);
-    let request = hex::decode(alloc, PAP_REQUEST)?;
-    let nak = framed(alloc, &TO_HOST, TIMED_OUT)?;
-    let terminate = framed(alloc, &TO_HOST, TERMINATE)?;
-    let again: (Role, u16, &[u8]) = (Role::Auth, 1812, request.as_slice());
-    let refused: (Role, u16, &[u8]) = (port, 9011, nak.as_slice());
-    let closed: (Role, u16, &[u8]) = (port, 9011, terminate.as_slice());
-    let stopping: (Role, u16, &[u8]) = (Role::Control, 5, b"stopping\n");
-    let over: (Role, u16, &[u8]) = (port, 9011, &PADT);
-    // `stop` 2,000 ms after the request: the turn of the ending, at 3,000 ms, sends it again.
-    silent(&rt, alloc, 1, &[stopping, over, again])?;
-    // At 3,000 ms.
-    silent(&rt, alloc, 2, &[stopping, again, over])?;
-    // At 5,000 ms.
-    silent(&rt, alloc, 4, &[again, stopping, over])?;
-    // At 6,000 ms.
-    silent(&rt, alloc, 5, &[again, stopping, refused, closed, over])
+    for (waits, rest) in SILENCES {
+        silent(&rt, alloc, *waits, rest)?;
+    }
+    Ok(())
 }
+
+/// The first reply comes 1,000 ms after the request, and the second one at 5,000 ms: at 3,000 ms the request is sent again.
+fn two_replies(alloc: Global) -> Result<Vec<Arrival>, Fail> {
+    let mut script = begun(alloc)?;
+    script.push(reply(alloc, 1812, REJECT)?)?;
+    script.push(reply(alloc, 1812, ACCEPT)?.after(3))?;
+    script.push(stop(0))?;
+    Ok(script)
+}
+
+const HAS_PASSED: &[Sent] = &[
+    Sent::ToHost(PASSED),
+    Sent::ToHost(OWN_ADDRESS),
+    STOPPING,
+    OVER,
+];
 
 #[test]
 fn a_request_that_did_not_go_has_no_reply(rt: HostRuntime) -> Result<(), Fail> {
     let alloc = rt.alloc();
-    let mut script = begun(alloc)?;
-    // The first comes 1,000 ms after the request, and the second one at 5,000 ms: at 3,000 ms the request is sent again.
-    script.push(reply(alloc, 1812, REJECT)?)?;
-    script.push(reply(alloc, 1812, ACCEPT)?.after(3))?;
-    script.push(stop(0))?;
     // Five binds, the receives of Control, of Acct, of Auth, five times of the access port and of the core, the sends of three frames,
     // and then that of the request.
-    let ended = run_pap(&rt, alloc, script, 1000, &[18])?;
+    let ended = run_pap(&rt, alloc, two_replies(alloc)?, 1000, &[18])?;
     assert_same(&rt, &ended.plant.faults(), &1);
-    let passed = framed(alloc, &TO_HOST, PASSED)?;
-    let port = Role::Access(1);
-    let own = framed(alloc, &TO_HOST, OWN_ADDRESS)?;
-    let rest: [(Role, u16, &[u8]); 4] = [
-        (port, 9011, passed.as_slice()),
-        (port, 9011, own.as_slice()),
-        (Role::Control, 5, b"stopping\n"),
-        (port, 9011, &PADT),
-    ];
-    sends_after(&rt, alloc, &ended, 6, &rest)
+    sends_after(&rt, alloc, &ended, 6, HAS_PASSED)
 }
 
-#[test]
-fn a_host_leaves_in_the_round_of_its_verdict(rt: HostRuntime) -> Result<(), Fail> {
-    let alloc = rt.alloc();
-    let port = Role::Access(1);
-    let request = hex::decode(alloc, PAP_REQUEST)?;
-    let passed = framed(alloc, &TO_HOST, PASSED)?;
-    let own = framed(alloc, &TO_HOST, OWN_ADDRESS)?;
-    let left = framed(alloc, &TO_HOST, LEFT)?;
-    // The reply of the server stands before the host's frame.
+/// The reply of the server stands before the host's frame.
+fn leaves_with_reply(alloc: Global) -> Result<Vec<Arrival>, Fail> {
     let mut script = begun(alloc)?;
     script.push(reply(alloc, 1812, ACCEPT)?)?;
     script.push(from_host(alloc, LEAVES)?)?;
     script.push(stop(0))?;
-    let ended = run_pap(&rt, alloc, script, 10, &[])?;
-    let rest: [(Role, u16, &[u8]); 5] = [
-        (port, 9011, passed.as_slice()),
-        (port, 9011, own.as_slice()),
-        (port, 9011, left.as_slice()),
-        (Role::Control, 5, b"stopping\n"),
-        (port, 9011, &PADT),
-    ];
-    sends_after(&rt, alloc, &ended, 6, &rest)?;
+    Ok(script)
+}
+
+/// That of no reply, 6,000 ms after the request, stands behind it.
+fn leaves_with_none(alloc: Global) -> Result<Vec<Arrival>, Fail> {
+    let mut script = begun(alloc)?;
+    script.push(from_host(alloc, LEAVES)?.after(5))?;
+    script.push(stop(0))?;
+    Ok(script)
+}
+
+/// What is sent then.
+const LEFT_WITH_REPLY: &[Sent] = &[
+    Sent::ToHost(PASSED),
+    Sent::ToHost(OWN_ADDRESS),
+    Sent::ToHost(LEFT),
+    STOPPING,
+    OVER,
+];
+
+const LEFT_WITH_NONE: &[Sent] = &[AGAIN, Sent::ToHost(LEFT), STOPPING, OVER];
+
+#[test]
+fn a_host_leaves_in_the_round_of_its_verdict(rt: HostRuntime) -> Result<(), Fail> {
+    let alloc = rt.alloc();
+    let ended = run_pap(&rt, alloc, leaves_with_reply(alloc)?, 10, &[])?;
+    sends_after(&rt, alloc, &ended, 6, LEFT_WITH_REPLY)?;
     // The term began and ended in one round: behind the four sends of the first turn and the three of that round stand its Stop, with
     // the cause User Request, and its Start.
     accounts(
@@ -343,48 +359,36 @@ fn a_host_leaves_in_the_round_of_its_verdict(rt: HostRuntime) -> Result<(), Fail
         &[b"\x28\x06\x00\x00\x00\x02", b"\x31\x06\x00\x00\x00\x01"],
     );
     accounts(&rt, &ended, 8, &[b"\x28\x06\x00\x00\x00\x01"]);
-    // That of no reply, 6,000 ms after the request, stands behind it.
-    let mut script = begun(alloc)?;
-    script.push(from_host(alloc, LEAVES)?.after(5))?;
-    script.push(stop(0))?;
-    let ended = run_pap(&rt, alloc, script, 1000, &[])?;
-    let rest: [(Role, u16, &[u8]); 4] = [
-        (Role::Auth, 1812, request.as_slice()),
-        (port, 9011, left.as_slice()),
-        (Role::Control, 5, b"stopping\n"),
-        (port, 9011, &PADT),
-    ];
-    sends_after(&rt, alloc, &ended, 0, &rest)
+    let ended = run_pap(&rt, alloc, leaves_with_none(alloc)?, 1000, &[])?;
+    sends_after(&rt, alloc, &ended, 0, LEFT_WITH_NONE)
 }
 
-#[test]
-fn a_response_is_asked_about_and_refused(rt: HostRuntime) -> Result<(), Fail> {
-    let alloc = rt.alloc();
+/// A host brings LCP to Opened with CHAP and sends its response, which is refused.
+fn responds(alloc: Global) -> Result<Vec<Arrival>, Fail> {
     let heard: [&[u8]; 3] = [&REQUEST, &ACK, RESPONSE];
     let mut script = session(alloc, &heard)?;
     script.push(reply(alloc, 1812, CHAP_REJECT)?)?;
     script.push(from_host(alloc, TERMINATED)?.after(1))?;
     script.push(stop(0))?;
-    let ended = run_over(&rt, alloc, &SERVE, SESSIONS, script, &[], &[])?;
+    Ok(script)
+}
+
+const NOT_PASSED: &[Sent] = &[
+    Sent::Octets(Role::Access(1), 9011, &PADS),
+    Sent::ToHost(&ASKED),
+    Sent::ToHost(&ACKED),
+    Sent::ToHost(CHALLENGE),
+    Sent::Digits(Role::Auth, 1812, CHAP_REQUEST),
+    Sent::ToHost(FAILURE),
+    Sent::ToHost(TERMINATE),
+    OVER,
+    STOPPING,
+];
+
+#[test]
+fn a_response_is_asked_about_and_refused(rt: HostRuntime) -> Result<(), Fail> {
+    let alloc = rt.alloc();
+    let ended = run_over(&rt, alloc, &SERVE, SESSIONS, responds(alloc)?, &[], &[])?;
     assert_status(&rt, &ended, 0);
-    let asked = framed(alloc, &TO_HOST, &ASKED)?;
-    let acked = framed(alloc, &TO_HOST, &ACKED)?;
-    let challenge = framed(alloc, &TO_HOST, CHALLENGE)?;
-    let request = hex::decode(alloc, CHAP_REQUEST)?;
-    let failure = framed(alloc, &TO_HOST, FAILURE)?;
-    let terminate = framed(alloc, &TO_HOST, TERMINATE)?;
-    let port = Role::Access(1);
-    let wanted: [(Role, u16, &[u8]); 9] = [
-        (port, 9011, &PADS),
-        (port, 9011, asked.as_slice()),
-        (port, 9011, acked.as_slice()),
-        (port, 9011, challenge.as_slice()),
-        (Role::Auth, 1812, request.as_slice()),
-        (port, 9011, failure.as_slice()),
-        (port, 9011, terminate.as_slice()),
-        (port, 9011, &PADT),
-        (Role::Control, 5, b"stopping\n"),
-    ];
-    sends(&rt, &ended, &wanted);
-    Ok(())
+    sends_list(&rt, alloc, &ended, NOT_PASSED)
 }

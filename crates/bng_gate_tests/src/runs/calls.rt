@@ -7,10 +7,12 @@ use super::concentrator::{
 };
 use super::host::{framed, request};
 use super::logins::{ANY as PPP_ANY, FROM_CORE, UP, records, response, run_in};
-use super::{assert_err, assert_out, assert_status, has, loopback};
+use super::{Ended, assert_err, assert_out, assert_status, has, loopback};
 use crate::asserts::{assert_holds, assert_octets, assert_same};
-use bng_base::Role;
+use bng_base::{Peer, Role};
 use bng_plant::Arrival;
+use std::alloc::Global;
+use std::process::Abort;
 use std::test::Fail;
 
 /// A ZLB that acknowledges the ICRQ a second time, and the StopCCN with the Result Code 6 after the ICCN.
@@ -21,36 +23,35 @@ const STOPS_4: &str = "c80200240005000000020004800800000000000480080000000904018
 /// The Configure-Request whose magic number is drawn for the seventh item. CHAP is asked for.
 const ASKED_7: &str = "000200050009ff03c02101010013010405dc0305c223050506a4c5c7c1";
 
+/// Messages that come twice, and what their peer is told.
+const TWICE: &[(Peer, &str)] = &[
+    (SECRET, SCCRQ_ASKS),
+    (SECRET, SCCRQ_ASKS),
+    (SECRET, SCCCN_ANSWERS),
+    (SECRET, SCCCN_ANSWERS),
+    (SECRET, ICRQ),
+    (SECRET, ICRQ),
+    (SECRET, ICCN),
+    (SECRET, ICCN),
+];
+
+const TOLD_TWICE: &[(Peer, &str)] = &[
+    (SECRET, SCCRP_ASKS),
+    (SECRET, ZLB),
+    (SECRET, ZLB_2),
+    (SECRET, ZLB_2),
+    (SECRET, ICRP),
+    (SECRET, ZLB_REPEAT),
+    (SECRET, ZLB_4),
+    (SECRET, ASKED_7),
+    (SECRET, ZLB_4),
+    (SECRET, STOPS_4),
+];
+
 #[test]
 fn messages_that_come_twice_make_one_tunnel_and_one_call(rt: HostRuntime) -> Result<(), Fail> {
     let alloc = rt.alloc();
-    serves(
-        &rt,
-        alloc,
-        &[
-            (SECRET, SCCRQ_ASKS),
-            (SECRET, SCCRQ_ASKS),
-            (SECRET, SCCCN_ANSWERS),
-            (SECRET, SCCCN_ANSWERS),
-            (SECRET, ICRQ),
-            (SECRET, ICRQ),
-            (SECRET, ICCN),
-            (SECRET, ICCN),
-        ],
-        &[
-            (SECRET, SCCRP_ASKS),
-            (SECRET, ZLB),
-            (SECRET, ZLB_2),
-            (SECRET, ZLB_2),
-            (SECRET, ICRP),
-            (SECRET, ZLB_REPEAT),
-            (SECRET, ZLB_4),
-            (SECRET, ASKED_7),
-            (SECRET, ZLB_4),
-            (SECRET, STOPS_4),
-        ],
-        b"drop NoSession 0\n",
-    )
+    serves(&rt, alloc, TWICE, TOLD_TWICE, b"drop NoSession 0\n")
 }
 
 /// The ICCN, with the Nr from before the ICRP, and the Configure-Request whose magic number is drawn for the fifth item.
@@ -59,27 +60,32 @@ const ICCN_EARLY: &str =
 
 const ASKED_5: &str = "000200050009ff03c02101010013010405dc0305c2230505060c1093ed";
 
+/// The ICCN comes before the ICRQ, and again after it; and what the peer is told.
+const ICCN_FIRST: &[(Peer, &str)] = &[
+    (PLAIN, SCCRQ),
+    (PLAIN, SCCCN),
+    (PLAIN, ICCN_EARLY),
+    (PLAIN, ICRQ),
+    (PLAIN, ICCN),
+];
+
+const TOLD_ICCN_FIRST: &[(Peer, &str)] = &[
+    (PLAIN, SCCRP),
+    (PLAIN, ZLB_2),
+    (PLAIN, ICRP),
+    (PLAIN, ZLB_4),
+    (PLAIN, ASKED_5),
+    (PLAIN, STOPS_4),
+];
+
 #[test]
 fn an_iccn_is_not_taken_before_the_icrq_that_was_lost(rt: HostRuntime) -> Result<(), Fail> {
     let alloc = rt.alloc();
     serves(
         &rt,
         alloc,
-        &[
-            (PLAIN, SCCRQ),
-            (PLAIN, SCCCN),
-            (PLAIN, ICCN_EARLY),
-            (PLAIN, ICRQ),
-            (PLAIN, ICCN),
-        ],
-        &[
-            (PLAIN, SCCRP),
-            (PLAIN, ZLB_2),
-            (PLAIN, ICRP),
-            (PLAIN, ZLB_4),
-            (PLAIN, ASKED_5),
-            (PLAIN, STOPS_4),
-        ],
+        ICCN_FIRST,
+        TOLD_ICCN_FIRST,
         b"drop NoSession 0\n",
     )
 }
@@ -88,27 +94,26 @@ fn an_iccn_is_not_taken_before_the_icrq_that_was_lost(rt: HostRuntime) -> Result
 pub(super) const PACKET: &str =
     "000204010401ff03002145000028000100004011ae910a000032c0000201000102030405060708090a0b0c0d0e0f10111213";
 
+/// Data comes before the ICCN; and what a peer is told up to its ICRP, and at the stop.
+const DATA_FIRST: &[(Peer, &str)] = &[
+    (PLAIN, SCCRQ),
+    (PLAIN, SCCCN),
+    (PLAIN, ICRQ),
+    (PLAIN, PACKET),
+    (PLAIN, REQUEST),
+];
+
+const TOLD_UP_TO_ICRP: &[(Peer, &str)] = &[
+    (PLAIN, SCCRP),
+    (PLAIN, ZLB_2),
+    (PLAIN, ICRP),
+    (PLAIN, STOPS_LATE),
+];
+
 #[test]
 fn data_before_the_iccn_is_not_heard(rt: HostRuntime) -> Result<(), Fail> {
     let alloc = rt.alloc();
-    serves(
-        &rt,
-        alloc,
-        &[
-            (PLAIN, SCCRQ),
-            (PLAIN, SCCCN),
-            (PLAIN, ICRQ),
-            (PLAIN, PACKET),
-            (PLAIN, REQUEST),
-        ],
-        &[
-            (PLAIN, SCCRP),
-            (PLAIN, ZLB_2),
-            (PLAIN, ICRP),
-            (PLAIN, STOPS_LATE),
-        ],
-        b"drop NotOpen 1\n",
-    )
+    serves(&rt, alloc, DATA_FIRST, TOLD_UP_TO_ICRP, b"drop NotOpen 1\n")
 }
 
 /// The Configure-Request for CHAP whose magic number is drawn for the fourth item. The SCCRP of tunnel 0402 to the concentrator with a
@@ -121,34 +126,33 @@ const SCCRP_DRAWN_7: &str =
 const PACKET_0402: &str =
     "000204020401ff03002145000028000100004011ae910a000032c0000201000102030405060708090a0b0c0d0e0f10111213";
 
+/// Data of another peer comes for the session, also from a tunnel of its own; and what both are told.
+const OF_OTHERS: &[(Peer, &str)] = &[
+    (PLAIN, SCCRQ),
+    (PLAIN, SCCCN),
+    (PLAIN, ICRQ),
+    (PLAIN, ICCN),
+    (SECRET, PACKET),
+    (SECRET, REQUEST),
+    (SECRET, SCCRQ),
+    (SECRET, PACKET_0402),
+];
+
+const TOLD_OTHERS: &[(Peer, &str)] = &[
+    (PLAIN, SCCRP),
+    (PLAIN, ZLB_2),
+    (PLAIN, ICRP),
+    (PLAIN, ZLB_4),
+    (PLAIN, ASKED_CHAP),
+    (SECRET, SCCRP_DRAWN_7),
+    (PLAIN, STOPS_4),
+    (SECRET, STOPS_0402),
+];
+
 #[test]
 fn data_of_another_peer_or_tunnel_leads_nowhere(rt: HostRuntime) -> Result<(), Fail> {
     let alloc = rt.alloc();
-    serves(
-        &rt,
-        alloc,
-        &[
-            (PLAIN, SCCRQ),
-            (PLAIN, SCCCN),
-            (PLAIN, ICRQ),
-            (PLAIN, ICCN),
-            (SECRET, PACKET),
-            (SECRET, REQUEST),
-            (SECRET, SCCRQ),
-            (SECRET, PACKET_0402),
-        ],
-        &[
-            (PLAIN, SCCRP),
-            (PLAIN, ZLB_2),
-            (PLAIN, ICRP),
-            (PLAIN, ZLB_4),
-            (PLAIN, ASKED_CHAP),
-            (SECRET, SCCRP_DRAWN_7),
-            (PLAIN, STOPS_4),
-            (SECRET, STOPS_0402),
-        ],
-        b"drop NoSession 3\n",
-    )
+    serves(&rt, alloc, OF_OTHERS, TOLD_OTHERS, b"drop NoSession 3\n")
 }
 
 /// The Configure-Ack to that for CHAP; the Challenge, whose Value is drawn for the sixth item; the Response of nemo with arctangent, the
@@ -206,40 +210,82 @@ const STOP: &str =
 
 const STOPPED: &str = "0501001490dc7fb8c1e06170b9e15859d1d7e0ce";
 
-#[test]
-fn a_subscriber_of_a_call_is_served_and_accounted_for(rt: HostRuntime) -> Result<(), Fail> {
-    let alloc = rt.alloc();
+/// By these a call comes to its question; by those its subscriber comes to its address and sends four packets; and what the peer is told.
+const BEGINS: &[(Peer, &str)] = &[
+    (PLAIN, SCCRQ),
+    (PLAIN, SCCCN),
+    (PLAIN, ICRQ),
+    (PLAIN, ICCN),
+    (PLAIN, REQUEST),
+    (PLAIN, ACK_CHAP),
+    (PLAIN, RESPONSE),
+];
+
+const VISITS: &[(Peer, &str)] = &[
+    (PLAIN, ANY),
+    (PLAIN, ASKS),
+    (PLAIN, TAKES),
+    (PLAIN, UP_LENGTH),
+    (PLAIN, UP_SEQUENCE),
+    (PLAIN, UP_OFFSET),
+    (PLAIN, UP_PRIORITY),
+];
+
+const TOLD: &[(Peer, &str)] = &[
+    (PLAIN, SCCRP),
+    (PLAIN, ZLB_2),
+    (PLAIN, ICRP),
+    (PLAIN, ZLB_4),
+    (PLAIN, ASKED_CHAP),
+    (PLAIN, ACKED),
+    (PLAIN, CHALLENGE),
+    (PLAIN, SUCCESS),
+    (PLAIN, OWN),
+    (PLAIN, TO_BE),
+    (PLAIN, GETS),
+    (PLAIN, DOWN),
+    (PLAIN, LEFT),
+    (PLAIN, CDN_3),
+    (PLAIN, STOPS_AFTER_CDN),
+];
+
+/// A subscriber of a call is accepted, its packets and one to it come, and it leaves.
+fn visit(alloc: Global) -> Result<Vec<Arrival>, Fail> {
     let mut script = Vec::new(alloc);
-    let begins = [
-        (PLAIN, SCCRQ),
-        (PLAIN, SCCCN),
-        (PLAIN, ICRQ),
-        (PLAIN, ICCN),
-        (PLAIN, REQUEST),
-        (PLAIN, ACK_CHAP),
-        (PLAIN, RESPONSE),
-    ];
-    then_come(alloc, &mut script, &begins)?;
+    then_come(alloc, &mut script, BEGINS)?;
     script.push(reply(alloc, 1812, ACCEPT)?)?;
     script.push(response(alloc, STARTED)?)?;
-    let visits = [
-        (PLAIN, ANY),
-        (PLAIN, ASKS),
-        (PLAIN, TAKES),
-        (PLAIN, UP_LENGTH),
-        (PLAIN, UP_SEQUENCE),
-        (PLAIN, UP_OFFSET),
-        (PLAIN, UP_PRIORITY),
-    ];
-    then_come(alloc, &mut script, &visits)?;
+    then_come(alloc, &mut script, VISITS)?;
     script.push(Arrival::new(Role::Core, loopback(9001), FROM_CORE))?;
-    then_come(alloc, &mut script, &[(PLAIN, LEAVES)])?;
+    then_leaves(alloc, &mut script)?;
+    Ok(script)
+}
+
+/// It leaves. LCP finishes 3 s after the Terminate-Request; the CDN for that is acknowledged a turn later.
+fn then_leaves(alloc: Global, script: &mut Vec<Arrival>) -> Result<(), Fail> {
+    then_come(alloc, script, &[(PLAIN, LEAVES)])?;
     script.push(response(alloc, STOPPED)?)?;
-    // LCP finishes 3 s after the Terminate-Request; the CDN for that is acknowledged a turn later.
     let heard = hex::decode(alloc, ZLB_OF_PEER)?;
     script.push(Arrival::new(Role::Tunnel, PLAIN, heard.as_slice()).after(2))?;
     script.push(stop(0))?;
-    let ended = run_in(&rt, alloc, TUNNELS, script, 1000)?;
+    Ok(())
+}
+
+/// Each datagram that a run sent to the core has these octets, and there are so many.
+fn sends_to_core(rt: &impl Abort, ended: &Ended, octets: &[u8], count: usize) {
+    let sent = ended.plant.sent().iter();
+    for packet in sent.filter(|datagram| datagram.role == Role::Core) {
+        assert_octets(rt, packet.octets.as_slice(), octets);
+    }
+    let sent = ended.plant.sent().iter();
+    let packets = sent.filter(|datagram| datagram.role == Role::Core);
+    assert_same(rt, &packets.count(), &count);
+}
+
+#[test]
+fn a_subscriber_of_a_call_is_served_and_accounted_for(rt: HostRuntime) -> Result<(), Fail> {
+    let alloc = rt.alloc();
+    let ended = run_in(&rt, alloc, TUNNELS, visit(alloc)?, 1000)?;
     assert_err(&rt, &ended, b"");
     assert_status(&rt, &ended, 0);
     assert_out(
@@ -247,36 +293,9 @@ fn a_subscriber_of_a_call_is_served_and_accounted_for(rt: HostRuntime) -> Result
         &ended,
         b"stopped in=160 out=28\nlive in=0 out=0\ntotal in=160 out=28\nworker 0 in=160 out=28\nprofile default in=160 out=28\ndrop Malformed 0\ndrop NoSession 0\ndrop NotOpen 0\ndrop Expired 0\ndrop Spoofed 0\ndrop TooBig 0\ndrop Exceeded 0\ndrop LinkFailed 0\ndrop WantOfMemory 0\n",
     );
-    let sent = ended.plant.sent().iter();
-    for packet in sent.filter(|datagram| datagram.role == Role::Core) {
-        assert_octets(&rt, packet.octets.as_slice(), UP);
-    }
-    let sent = ended.plant.sent().iter();
-    let packets = sent.filter(|datagram| datagram.role == Role::Core);
-    assert_same(&rt, &packets.count(), &4);
+    sends_to_core(&rt, &ended, UP, 4);
     asks(&rt, alloc, &ended, CHAP_QUESTION)?;
-    tells(
-        &rt,
-        alloc,
-        &ended,
-        &[
-            (PLAIN, SCCRP),
-            (PLAIN, ZLB_2),
-            (PLAIN, ICRP),
-            (PLAIN, ZLB_4),
-            (PLAIN, ASKED_CHAP),
-            (PLAIN, ACKED),
-            (PLAIN, CHALLENGE),
-            (PLAIN, SUCCESS),
-            (PLAIN, OWN),
-            (PLAIN, TO_BE),
-            (PLAIN, GETS),
-            (PLAIN, DOWN),
-            (PLAIN, LEFT),
-            (PLAIN, CDN_3),
-            (PLAIN, STOPS_AFTER_CDN),
-        ],
-    )?;
+    tells(&rt, alloc, &ended, TOLD)?;
     records(&rt, alloc, &ended, &[START, STOP])
 }
 
@@ -302,22 +321,22 @@ const PADS_0402: [u8; 32] = [
 const PPPOE_ASKED: &[u8] =
     b"\xc0\x21\x01\x01\x00\x12\x01\x04\x05\xd4\x03\x04\xc0\x23\x05\x06\x23\x20\x58\x76";
 
-#[test]
-fn a_call_and_a_host_share_the_numbers_of_sessions(rt: HostRuntime) -> Result<(), Fail> {
-    let alloc = rt.alloc();
+/// The messages of a call up to its ICRQ.
+const UP_TO_ICRQ: &[(Peer, &str)] = &[(PLAIN, SCCRQ), (PLAIN, SCCCN), (PLAIN, ICRQ)];
+
+/// They come, and then the host's PADR, a frame of it for the call's session, and `stop`.
+fn call_and_host(alloc: Global) -> Result<Vec<Arrival>, Fail> {
     let mut script = Vec::new(alloc);
-    then_come(
-        alloc,
-        &mut script,
-        &[(PLAIN, SCCRQ), (PLAIN, SCCCN), (PLAIN, ICRQ)],
-    )?;
+    then_come(alloc, &mut script, UP_TO_ICRQ)?;
     script.push(Arrival::new(Role::Access(1), loopback(9011), &request(&HOST)))?;
     let other = framed(alloc, &FROM_HOST_0401, PPP_ANY)?;
     script.push(Arrival::new(Role::Access(1), loopback(9011), other.as_slice()))?;
     script.push(stop(0))?;
-    let ended = run_calls(&rt, alloc, script, 10)?;
-    assert_status(&rt, &ended, 0);
-    assert_holds(&rt, has(ended.out.text(), b"drop NoSession 1\n"));
+    Ok(script)
+}
+
+/// The first two datagrams that a run sent on access port 1 are the PADS and the Configure-Request of session 0402.
+fn asks_0402(rt: &impl Abort, alloc: Global, ended: &Ended) -> Result<(), Fail> {
     let asked = framed(alloc, &TO_HOST_0402, PPPOE_ASKED)?;
     let mut sent = ended
         .plant
@@ -325,17 +344,17 @@ fn a_call_and_a_host_share_the_numbers_of_sessions(rt: HostRuntime) -> Result<()
         .iter()
         .filter(|datagram| datagram.role == Role::Access(1))
         .map(|datagram| datagram.octets.as_slice());
-    assert_same(&rt, &sent.next(), &Some(PADS_0402.as_slice()));
-    assert_same(&rt, &sent.next(), &Some(asked.as_slice()));
-    tells(
-        &rt,
-        alloc,
-        &ended,
-        &[
-            (PLAIN, SCCRP),
-            (PLAIN, ZLB_2),
-            (PLAIN, ICRP),
-            (PLAIN, STOPS_LATE),
-        ],
-    )
+    assert_same(rt, &sent.next(), &Some(PADS_0402.as_slice()));
+    assert_same(rt, &sent.next(), &Some(asked.as_slice()));
+    Ok(())
+}
+
+#[test]
+fn a_call_and_a_host_share_the_numbers_of_sessions(rt: HostRuntime) -> Result<(), Fail> {
+    let alloc = rt.alloc();
+    let ended = run_calls(&rt, alloc, call_and_host(alloc)?, 10)?;
+    assert_status(&rt, &ended, 0);
+    assert_holds(&rt, has(ended.out.text(), b"drop NoSession 1\n"));
+    asks_0402(&rt, alloc, &ended)?;
+    tells(&rt, alloc, &ended, TOLD_UP_TO_ICRP)
 }

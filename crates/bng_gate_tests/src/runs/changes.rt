@@ -2,9 +2,9 @@
 //! 5176 by a script over Python's hashlib and hmac, which makes of radclient's requests what radclient made.
 use super::authentication::stop;
 use super::logins::run_in;
+use super::running::{SERVE, run_over};
 use super::{
-    CONFIGURATION, Ended, SERVE, a_turn_later, assert_err, assert_status, goes_to, has, loopback,
-    run_over,
+    CONFIGURATION, Ended, a_turn_later, assert_err, assert_status, goes_to, has, loopback,
 };
 use crate::asserts::assert_holds;
 use bng_base::Role;
@@ -166,20 +166,28 @@ const WITH_ROUTE: &str =
 
 const NOT_SUPPORTED: &str = "2d04001aff4ddb48a325a253d9e355062ac13808650600000191";
 
-#[test]
-fn a_request_is_answered_once_and_its_reply_comes_again(rt: HostRuntime) -> Result<(), Fail> {
-    let alloc = rt.alloc();
+/// The first request once more, and the others.
+const AGAIN: &[&str] = &[TO_GOLD, CHANGED, UNKNOWN, WITH_ROUTE];
+
+/// The first request comes twice in one turn: while it is in hand it has no second reply. A turn later these come, and a
+/// packet.
+fn once_and_again(alloc: Global) -> Result<Vec<Arrival>, Fail> {
     let mut script = Vec::new(alloc);
     script.push(asks(alloc, TO_GOLD)?)?;
-    // While it is in hand it has no second reply.
     script.push(asks(alloc, TO_GOLD)?)?;
     script.push(a_turn_later())?;
-    for octets in [TO_GOLD, CHANGED, UNKNOWN, WITH_ROUTE] {
-        script.push(asks(alloc, octets)?)?;
+    for octets in AGAIN {
+        script.push(asks(alloc, *octets)?)?;
     }
     script.push(packet_100())?;
     script.push(stop(0))?;
-    let ended = run_changes(&rt, alloc, script, 10)?;
+    Ok(script)
+}
+
+#[test]
+fn a_request_is_answered_once_and_its_reply_comes_again(rt: HostRuntime) -> Result<(), Fail> {
+    let alloc = rt.alloc();
+    let ended = run_changes(&rt, alloc, once_and_again(alloc)?, 10)?;
     replies(&rt, alloc, &ended, &[GOLD, GOLD, NO_SESSION, NOT_SUPPORTED])?;
     // What was refused changed nothing.
     assert_holds(
@@ -218,7 +226,7 @@ const THREE_REPLIES: &[&str] = &[
 ];
 
 /// How many milliseconds later it comes, and the books then. Where its reply is kept, it changes nothing.
-const KEPT: &[(u64, &[u8])] = &[
+const STEPS: &[(u64, &[u8])] = &[
     (
         29_000,
         b"profile bronze in=100 out=0\nprofile gold in=0 out=0\n",
@@ -238,7 +246,7 @@ const KEPT: &[(u64, &[u8])] = &[
 ];
 
 /// Where it comes so many milliseconds later, all three have their replies, and this is in the books.
-fn is_kept<R: Threads + Wait + Sync + Abort>(
+fn has_books<R: Threads + Wait + Sync + Abort>(
     rt: &R,
     alloc: Global,
     step: u64,
@@ -253,8 +261,8 @@ fn is_kept<R: Threads + Wait + Sync + Abort>(
 #[test]
 fn a_reply_is_kept_for_30_seconds(rt: HostRuntime) -> Result<(), Fail> {
     let alloc = rt.alloc();
-    for (step, book) in KEPT {
-        is_kept(&rt, alloc, *step, book)?;
+    for (step, book) in STEPS {
+        has_books(&rt, alloc, *step, book)?;
     }
     Ok(())
 }
@@ -317,27 +325,27 @@ fn repeats_come_first_and_then_requests_that_lead_nowhere(rt: HostRuntime) -> Re
     replies(&rt, alloc, &ended, REPLIES)
 }
 
+/// A run over this configuration in which the bind of this number fails ends with status 3 and tells that the end for requests cannot be
+/// opened.
+fn is_unbound<R: Threads + Wait + Sync + Abort>(
+    rt: &R,
+    alloc: Global,
+    configuration: &str,
+    bind: u64,
+) -> Result<(), Fail> {
+    let script = Vec::new(alloc);
+    let ended = run_over(rt, alloc, &SERVE, configuration, script, &[bind], &[])?;
+    assert_status(rt, &ended, 3);
+    assert_err(rt, &ended, b"bng: cannot open coa\n");
+    Ok(())
+}
+
 #[test]
 fn an_end_for_requests_that_cannot_be_bound_is_told(rt: HostRuntime) -> Result<(), Fail> {
     let alloc = rt.alloc();
-    let configuration = with_changes(alloc, CONFIGURATION)?;
-    let text = configuration.as_str();
-    let unbound = run_over(&rt, alloc, &SERVE, text, Vec::new(alloc), &[6], &[])?;
-    assert_status(&rt, &unbound, 3);
-    assert_err(&rt, &unbound, b"bng: cannot open coa\n");
+    let mut configuration = with_changes(alloc, CONFIGURATION)?;
+    is_unbound(&rt, alloc, configuration.as_str(), 6)?;
     // It is bound behind the end for tunnels.
-    let mut both = configuration.clone()?;
-    both.push_str("[tunnel]\nlocal = \"127.0.0.1:1701\"\n")?;
-    let unbound = run_over(
-        &rt,
-        alloc,
-        &SERVE,
-        both.as_str(),
-        Vec::new(alloc),
-        &[7],
-        &[],
-    )?;
-    assert_status(&rt, &unbound, 3);
-    assert_err(&rt, &unbound, b"bng: cannot open coa\n");
-    Ok(())
+    configuration.push_str("[tunnel]\nlocal = \"127.0.0.1:1701\"\n")?;
+    is_unbound(&rt, alloc, configuration.as_str(), 7)
 }

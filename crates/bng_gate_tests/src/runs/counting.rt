@@ -1,9 +1,7 @@
 //! What a run has counted, while it serves and in the end.
 use super::forwarding::{FROM_CORE, PADDED, SPOOFED};
-use super::{
-    Ended, PACKET, SERVE, TWO_PORTS, a_turn_later, assert_out, frame_of, has_all, loopback,
-    run_over,
-};
+use super::running::{SERVE, run_over};
+use super::{Ended, PACKET, TWO_PORTS, a_turn_later, assert_out, frame_of, has_all, loopback};
 use crate::asserts::{assert_count, assert_octets};
 use bng_base::Role;
 use bng_plant::Arrival;

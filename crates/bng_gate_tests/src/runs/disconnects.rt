@@ -4,8 +4,9 @@ use super::authentication::{
     ACCEPT, LEAVES, LEFT, OWN_ADDRESS, PAP, PASSED, TERMINATE, begun, reply, sends_after, stop,
 };
 use super::changes::{asks, packet_100, replies, run_changes, with_changes};
-use super::host::{PADT, TO_HOST, framed, from_host};
+use super::host::from_host;
 use super::logins::run_in;
+use super::sent::{OVER, STOPPING, Sent};
 use super::{Ended, a_turn_later, assert_err, assert_status, has};
 use crate::asserts::assert_holds;
 use bng_base::Role;
@@ -45,11 +46,9 @@ const BY_ADDRESS: &str = "2801001a67d8ac8d5aaaaf45c996294fc62e597708060a000002";
 const BY_SESSION: &str =
     "2802002e2cd043697509f02108a66a218682c3a22c1a363535336631303030343031303030303030303030303031";
 
-#[test]
-fn a_circuit_is_disconnected_by_its_address(rt: HostRuntime) -> Result<(), Fail> {
-    let alloc = rt.alloc();
+/// The first packet passes; the next one comes in the round of the request, and the last one after it.
+fn two_requests(alloc: Global) -> Result<Vec<Arrival>, Fail> {
     let mut script = Vec::new(alloc);
-    // The first packet passes; the next one comes in the round of the request, and the last one after it.
     script.push(packet_100())?;
     script.push(a_turn_later())?;
     script.push(asks(alloc, BY_ADDRESS)?)?;
@@ -58,7 +57,19 @@ fn a_circuit_is_disconnected_by_its_address(rt: HostRuntime) -> Result<(), Fail>
     script.push(asks(alloc, BY_SESSION)?)?;
     script.push(packet_100())?;
     script.push(stop(0))?;
-    let ended = run_changes(&rt, alloc, script, 10)?;
+    Ok(script)
+}
+
+/// The replies. There is no session for the second request any more.
+const TWO_REPLIES: &[&str] = &[
+    "290100143a1ce75fd75b86922ee97c8f5cdec9de",
+    "2a02001a00533886fb3c54f0542bbf7c81c3406a6506000001f7",
+];
+
+#[test]
+fn a_circuit_is_disconnected_by_its_address(rt: HostRuntime) -> Result<(), Fail> {
+    let alloc = rt.alloc();
+    let ended = run_changes(&rt, alloc, two_requests(alloc)?, 10)?;
     assert_status(&rt, &ended, 6);
     assert_err(
         &rt,
@@ -67,16 +78,7 @@ fn a_circuit_is_disconnected_by_its_address(rt: HostRuntime) -> Result<(), Fail>
     );
     assert_holds(&rt, has(ended.out.text(), b"drop NotOpen 2\n"));
     stops_have(&rt, &ended, ADMIN_RESET);
-    // There is no session for the second request any more.
-    replies(
-        &rt,
-        alloc,
-        &ended,
-        &[
-            "290100143a1ce75fd75b86922ee97c8f5cdec9de",
-            "2a02001a00533886fb3c54f0542bbf7c81c3406a6506000001f7",
-        ],
-    )
+    replies(&rt, alloc, &ended, TWO_REPLIES)
 }
 
 /// A CoA-Request that brings the host's term to the profile gold, by the Acct-Session-Id of its first term, and its replies.
@@ -97,51 +99,64 @@ fn run_hosts<R: Threads + Wait + Sync>(
     Ok(run_in(rt, alloc, configuration.as_str(), script, 10)?)
 }
 
-#[test]
-fn a_term_is_changed_in_the_round_in_which_its_host_leaves(rt: HostRuntime) -> Result<(), Fail> {
-    let alloc = rt.alloc();
-    let port = Role::Access(1);
-    let passed = framed(alloc, &TO_HOST, PASSED)?;
-    let own = framed(alloc, &TO_HOST, OWN_ADDRESS)?;
-    let left = framed(alloc, &TO_HOST, LEFT)?;
-    let gold = hex::decode(alloc, GOLD)?;
-    let no_session = hex::decode(alloc, NO_SESSION)?;
-    // The request comes with the host's Terminate-Request and is handled first.
+/// The request comes with the host's Terminate-Request and is handled first.
+fn together(alloc: Global) -> Result<Vec<Arrival>, Fail> {
     let mut script = begun(alloc)?;
     script.push(reply(alloc, 1812, ACCEPT)?)?;
     script.push(asks(alloc, TO_GOLD)?)?;
     script.push(from_host(alloc, LEAVES)?)?;
     script.push(stop(0))?;
-    let ended = run_hosts(&rt, alloc, script)?;
-    let rest: [(Role, u16, &[u8]); 6] = [
-        (port, 9011, passed.as_slice()),
-        (port, 9011, own.as_slice()),
-        (port, 9011, left.as_slice()),
-        (Role::Coa, 3798, gold.as_slice()),
-        (Role::Control, 5, b"stopping\n"),
-        (port, 9011, &PADT),
-    ];
-    sends_after(&rt, alloc, &ended, 6, &rest)?;
-    stops_have(&rt, &ended, USER_REQUEST);
-    // It comes a round after it.
+    Ok(script)
+}
+
+/// It comes a round after it.
+fn apart(alloc: Global) -> Result<Vec<Arrival>, Fail> {
     let mut script = begun(alloc)?;
     script.push(reply(alloc, 1812, ACCEPT)?)?;
     script.push(a_turn_later())?;
     script.push(from_host(alloc, LEAVES)?)?;
     script.push(asks(alloc, TO_GOLD)?)?;
     script.push(stop(0))?;
-    let ended = run_hosts(&rt, alloc, script)?;
-    let rest: [(Role, u16, &[u8]); 6] = [
-        (port, 9011, passed.as_slice()),
-        (port, 9011, own.as_slice()),
-        (port, 9011, left.as_slice()),
-        (Role::Coa, 3798, no_session.as_slice()),
-        (Role::Control, 5, b"stopping\n"),
-        (port, 9011, &PADT),
-    ];
-    sends_after(&rt, alloc, &ended, 6, &rest)?;
-    stops_have(&rt, &ended, USER_REQUEST);
+    Ok(script)
+}
+
+/// What is sent then.
+const CHANGED: &[Sent] = &[
+    Sent::ToHost(PASSED),
+    Sent::ToHost(OWN_ADDRESS),
+    Sent::ToHost(LEFT),
+    Sent::Digits(Role::Coa, 3798, GOLD),
+    STOPPING,
+    OVER,
+];
+
+const NOT_CHANGED: &[Sent] = &[
+    Sent::ToHost(PASSED),
+    Sent::ToHost(OWN_ADDRESS),
+    Sent::ToHost(LEFT),
+    Sent::Digits(Role::Coa, 3798, NO_SESSION),
+    STOPPING,
+    OVER,
+];
+
+/// A run with this script ends with status 6. After the Access-Request it sends these, and its Stops have the cause User Request.
+fn leaves<R: Threads + Wait + Sync + Abort>(
+    rt: &R,
+    alloc: Global,
+    script: Vec<Arrival>,
+    rest: &[Sent<'_>],
+) -> Result<(), Fail> {
+    let ended = run_hosts(rt, alloc, script)?;
+    sends_after(rt, alloc, &ended, 6, rest)?;
+    stops_have(rt, &ended, USER_REQUEST);
     Ok(())
+}
+
+#[test]
+fn a_term_is_changed_in_the_round_in_which_its_host_leaves(rt: HostRuntime) -> Result<(), Fail> {
+    let alloc = rt.alloc();
+    leaves(&rt, alloc, together(alloc)?, CHANGED)?;
+    leaves(&rt, alloc, apart(alloc)?, NOT_CHANGED)
 }
 
 /// Two Disconnect-Requests about the address 10.0.0.2.
@@ -149,35 +164,36 @@ const FIRST: &str = "2801001a67d8ac8d5aaaaf45c996294fc62e597708060a000002";
 
 const SECOND: &str = "2802001ab8112ad96c9762e278568029bdad662008060a000002";
 
-#[test]
-fn an_address_that_is_claimed_in_the_round_leads_nowhere_yet(rt: HostRuntime) -> Result<(), Fail> {
-    let alloc = rt.alloc();
-    // The first request comes with the Access-Accept and stands before it, the second one in the next turn.
+/// The first request comes with the Access-Accept and stands before it, the second one in the next turn.
+fn around_accept(alloc: Global) -> Result<Vec<Arrival>, Fail> {
     let mut script = begun(alloc)?;
     script.push(asks(alloc, FIRST)?)?;
     script.push(reply(alloc, 1812, ACCEPT)?)?;
     script.push(asks(alloc, SECOND)?)?;
     script.push(stop(0))?;
-    let ended = run_hosts(&rt, alloc, script)?;
-    let port = Role::Access(1);
-    let passed = framed(alloc, &TO_HOST, PASSED)?;
-    let own = framed(alloc, &TO_HOST, OWN_ADDRESS)?;
-    let closed = framed(alloc, &TO_HOST, TERMINATE)?;
-    let no_session = hex::decode(
-        alloc,
+    Ok(script)
+}
+
+/// What is sent then.
+const DISCONNECTED: &[Sent] = &[
+    Sent::ToHost(PASSED),
+    Sent::ToHost(OWN_ADDRESS),
+    Sent::Digits(
+        Role::Coa,
+        3798,
         "2a01001a5f11d318cabd4264ad7999a0f6a69b936506000001f7",
-    )?;
-    let disconnected = hex::decode(alloc, "2902001449a88d160a686905d31fcd5893f9dc69")?;
-    let rest: [(Role, u16, &[u8]); 7] = [
-        (port, 9011, passed.as_slice()),
-        (port, 9011, own.as_slice()),
-        (Role::Coa, 3798, no_session.as_slice()),
-        (port, 9011, closed.as_slice()),
-        (Role::Coa, 3798, disconnected.as_slice()),
-        (Role::Control, 5, b"stopping\n"),
-        (port, 9011, &PADT),
-    ];
-    sends_after(&rt, alloc, &ended, 6, &rest)?;
+    ),
+    Sent::ToHost(TERMINATE),
+    Sent::Digits(Role::Coa, 3798, "2902001449a88d160a686905d31fcd5893f9dc69"),
+    STOPPING,
+    OVER,
+];
+
+#[test]
+fn an_address_that_is_claimed_in_the_round_leads_nowhere_yet(rt: HostRuntime) -> Result<(), Fail> {
+    let alloc = rt.alloc();
+    let ended = run_hosts(&rt, alloc, around_accept(alloc)?)?;
+    sends_after(&rt, alloc, &ended, 6, DISCONNECTED)?;
     stops_have(&rt, &ended, ADMIN_RESET);
     Ok(())
 }

@@ -1,11 +1,13 @@
 //! Sessions that hosts ask for.
+use super::authentication::stop;
 use super::host::{HOST, PADS, PADT, SESSIONS, request};
-use super::{
-    SERVE, assert_out, assert_status, loopback, run_over, run_told, script_of, seed, sends,
-};
+use super::running::{SERVE, run_by, run_over};
+use super::{Ended, assert_out, assert_status, loopback, sends};
 use crate::asserts::{assert_holds, assert_same};
 use bng_base::Role;
-use bng_plant::{Arrival, MemoryPlant, NoTrace};
+use bng_plant::{Arrival, MemoryPlant};
+use std::alloc::{AllocError, Global};
+use std::process::Abort;
 use std::test::Fail;
 
 /// A PADI for any service, with a Host-Uniq.
@@ -97,37 +99,48 @@ last = "10.0.0.101"
 pub(super) const NOTHING: &[u8] =
     b"stopped in=0 out=0\nlive in=0 out=0\ntotal in=0 out=0\nworker 0 in=0 out=0\nprofile default in=0 out=0\ndrop Malformed 0\ndrop NoSession 0\ndrop NotOpen 0\ndrop Expired 0\ndrop Spoofed 0\ndrop TooBig 0\ndrop Exceeded 0\ndrop LinkFailed 0\ndrop WantOfMemory 0\n";
 
-#[test]
-fn a_host_is_offered_a_session_and_gets_it_once(rt: HostRuntime) -> Result<(), Fail> {
-    let alloc = rt.alloc();
+/// The three PADIs and the PADR for the service video come from the host; then a PADR for any service with one bit of its cookie changed,
+/// twice one with the right cookie, and `stop`.
+fn asked(alloc: Global) -> Result<Vec<Arrival>, AllocError> {
     let padr = request(&HOST);
     let mut changed = padr;
     changed[51] ^= 1;
-    let port = Role::Access(1);
-    let list: [(Role, u16, &[u8]); 7] = [
-        (port, 9011, &PADI),
-        (port, 9011, &PADI_LARGE),
-        (port, 9011, &PADI_VIDEO),
-        (port, 9011, &PADR_VIDEO),
-        (port, 9011, &changed),
-        (port, 9011, &padr),
-        (port, 9011, &padr),
-    ];
-    let script = script_of(alloc, &list)?;
-    let ended = run_over(&rt, alloc, &SERVE, SESSIONS, script, &[], &[])?;
+    let mut script = Vec::new(alloc);
+    script.push(frame(&PADI))?;
+    script.push(frame(&PADI_LARGE))?;
+    script.push(frame(&PADI_VIDEO))?;
+    script.push(frame(&PADR_VIDEO))?;
+    script.push(frame(&changed))?;
+    script.push(frame(&padr))?;
+    script.push(frame(&padr))?;
+    script.push(stop(0))?;
+    Ok(script)
+}
+
+/// A frame comes to access port 1.
+fn frame(octets: &[u8]) -> Arrival {
+    Arrival::new(Role::Access(1), loopback(9011), octets)
+}
+
+/// What is sent for them.
+const ANSWERED: &[(Role, u16, &[u8])] = &[
+    (Role::Access(1), 9011, &PADO),
+    (Role::Access(1), 9011, &PADO),
+    (Role::Access(1), 9011, &REFUSED),
+    (Role::Access(1), 9011, &PADS),
+    (Role::Access(1), 9011, &ASKED),
+    (Role::Access(1), 9011, &PADS),
+    (Role::Control, 5, b"stopping\n"),
+    (Role::Access(1), 9011, &PADT),
+];
+
+#[test]
+fn a_host_is_offered_a_session_and_gets_it_once(rt: HostRuntime) -> Result<(), Fail> {
+    let alloc = rt.alloc();
+    let ended = run_over(&rt, alloc, &SERVE, SESSIONS, asked(alloc)?, &[], &[])?;
     assert_status(&rt, &ended, 0);
     assert_out(&rt, &ended, NOTHING);
-    let wanted: [(Role, u16, &[u8]); 8] = [
-        (port, 9011, &PADO),
-        (port, 9011, &PADO),
-        (port, 9011, &REFUSED),
-        (port, 9011, &PADS),
-        (port, 9011, &ASKED),
-        (port, 9011, &PADS),
-        (Role::Control, 5, b"stopping\n"),
-        (port, 9011, &PADT),
-    ];
-    sends(&rt, &ended, &wanted);
+    sends(&rt, &ended, ANSWERED);
     Ok(())
 }
 
@@ -139,43 +152,51 @@ fn is_pads(octets: &[u8]) -> bool {
     octets.get(13) == Some(&0x63) && octets.get(15) == Some(&0x65)
 }
 
-#[test]
-fn a_shard_has_1022_sessions(rt: HostRuntime) -> Result<(), Fail> {
-    let alloc = rt.alloc();
+/// The PADR of the host whose MAC ends in this number.
+fn asks(number: u16) -> Arrival {
+    let [high, low] = number.to_be_bytes();
+    frame(&request(&[2, 0, 0, 1, high, low]))
+}
+
+/// Those hosts ask, in the order of their numbers, and then comes `stop`.
+fn all_ask(alloc: Global) -> Result<Vec<Arrival>, AllocError> {
     let mut script = Vec::new(alloc);
     for number in 1..=HOSTS {
-        let [high, low] = number.to_be_bytes();
-        let padr = request(&[2, 0, 0, 1, high, low]);
-        script.push(Arrival::new(Role::Access(1), loopback(9011), &padr))?;
+        script.push(asks(number))?;
     }
-    script.push(Arrival::new(Role::Control, loopback(5), b"stop"))?;
-    let plant = MemoryPlant::new(alloc, script, Vec::new(alloc), 4096)?;
-    let source = seed(alloc, &[])?;
-    let ended = run_told(
-        &rt,
-        alloc,
-        &SERVE,
-        ONE_SHARD,
-        plant,
-        source,
-        &mut NoTrace,
-        &[],
-    )?;
-    assert_status(&rt, &ended, 0);
-    assert_out(&rt, &ended, NOTHING);
-    let sent = ended.plant.sent();
+    script.push(stop(0))?;
+    Ok(script)
+}
+
+/// This is the PADS of the host whose MAC ends in this number, for the session of the same number.
+fn assert_pads(rt: &impl Abort, found: Option<&[u8]>, number: u16) {
+    let [high, low] = number.to_be_bytes();
+    let pads = found.expect(rt, "a PADS");
+    assert_same(rt, &pads.get(4..6), &Some([high, low].as_slice()));
+    assert_same(rt, &pads.get(16..18), &Some([high, low].as_slice()));
+}
+
+/// The PADSs that a run sent are one for each host, in the order of their numbers, and the last refuses its host.
+fn all_but_last_have_sessions(rt: &impl Abort, ended: &Ended) {
+    let sent = ended.plant.sent().iter();
     let mut replies = sent
-        .iter()
         .map(|datagram| datagram.octets.as_slice())
         .filter(|octets| is_pads(octets));
     for number in 1..HOSTS {
-        let [high, low] = number.to_be_bytes();
-        let pads = replies.next().expect(&rt, "a PADS");
-        assert_same(&rt, &pads.get(4..6), &Some([high, low].as_slice()));
-        assert_same(&rt, &pads.get(16..18), &Some([high, low].as_slice()));
+        assert_pads(rt, replies.next(), number);
     }
-    let last = replies.next().expect(&rt, "a PADS");
-    assert_same(&rt, &last, &FULL.as_slice());
-    assert_holds(&rt, replies.next().is_none());
+    let last = replies.next().expect(rt, "a PADS");
+    assert_same(rt, &last, &FULL.as_slice());
+    assert_holds(rt, replies.next().is_none());
+}
+
+#[test]
+fn a_shard_has_1022_sessions(rt: HostRuntime) -> Result<(), Fail> {
+    let alloc = rt.alloc();
+    let plant = MemoryPlant::new(alloc, all_ask(alloc)?, Vec::new(alloc), 4096)?;
+    let ended = run_by(&rt, alloc, ONE_SHARD, plant, 10)?;
+    assert_status(&rt, &ended, 0);
+    assert_out(&rt, &ended, NOTHING);
+    all_but_last_have_sessions(&rt, &ended);
     Ok(())
 }

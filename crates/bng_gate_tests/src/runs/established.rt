@@ -20,54 +20,57 @@ const STOPS_LAST: &str = "c80200240005000000020004800800000000000480080000000904
 
 const DATA: &str = "000204010402ff03c0210101000a050611223344";
 
+/// A tunnel is set up and a call is asked for, then come an ICCN and data of a session that there is not; and what the peer is told.
+const FOR_NO_CALL: &[(Peer, &str)] = &[
+    (PLAIN, SCCRQ),
+    (PLAIN, SCCCN),
+    (PLAIN, ICRQ),
+    (PLAIN, ICCN),
+    (PLAIN, DATA),
+];
+
+const TOLD_OF_NO_CALL: &[(Peer, &str)] = &[
+    (PLAIN, SCCRP),
+    (PLAIN, ZLB_2),
+    (PLAIN, ICRP),
+    (PLAIN, ZLB_4),
+    (PLAIN, STOPS_LAST),
+];
+
 #[test]
 fn what_is_for_no_call_changes_nothing(rt: HostRuntime) -> Result<(), Fail> {
     let alloc = rt.alloc();
     serves(
         &rt,
         alloc,
-        &[
-            (PLAIN, SCCRQ),
-            (PLAIN, SCCCN),
-            (PLAIN, ICRQ),
-            (PLAIN, ICCN),
-            (PLAIN, DATA),
-        ],
-        &[
-            (PLAIN, SCCRP),
-            (PLAIN, ZLB_2),
-            (PLAIN, ICRP),
-            (PLAIN, ZLB_4),
-            (PLAIN, STOPS_LAST),
-        ],
+        FOR_NO_CALL,
+        TOLD_OF_NO_CALL,
         b"drop NoSession 1\n",
     )
 }
 
+/// Two tunnels are set up, and what their peers are told. Two octets are no message.
+const TWO_TUNNELS: &[(Peer, &str)] = &[
+    (PLAIN, SCCRQ),
+    (OTHER, SCCRQ),
+    (OTHER, "c802"),
+    (OTHER, SCCCN_0801),
+    (PLAIN, SCCCN),
+];
+
+const TOLD_OF_STOP: &[(Peer, &str)] = &[
+    (PLAIN, SCCRP),
+    (PLAIN, ZLB_2),
+    (OTHER, SCCRP_0801),
+    (OTHER, ZLB_2),
+    (PLAIN, STOPS),
+    (OTHER, STOPS_0801),
+];
+
 #[test]
 fn each_tunnel_is_told_of_the_stop_once(rt: HostRuntime) -> Result<(), Fail> {
     let alloc = rt.alloc();
-    // Two octets are no message.
-    serves(
-        &rt,
-        alloc,
-        &[
-            (PLAIN, SCCRQ),
-            (OTHER, SCCRQ),
-            (OTHER, "c802"),
-            (OTHER, SCCCN_0801),
-            (PLAIN, SCCCN),
-        ],
-        &[
-            (PLAIN, SCCRP),
-            (PLAIN, ZLB_2),
-            (OTHER, SCCRP_0801),
-            (OTHER, ZLB_2),
-            (PLAIN, STOPS),
-            (OTHER, STOPS_0801),
-        ],
-        b"drop Malformed 1\n",
-    )
+    serves(&rt, alloc, TWO_TUNNELS, TOLD_OF_STOP, b"drop Malformed 1\n")
 }
 
 /// The gateway's HELLO, and one of the peer, which is its third message.

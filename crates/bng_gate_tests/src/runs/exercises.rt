@@ -1,12 +1,11 @@
 //! The words of commands, `check`, and the program that tries itself.
 use super::host::SESSIONS;
-use super::{
-    CONFIGURATION, Ended, assert_err, assert_out, assert_sent, assert_status, run_over, run_told,
-    seed,
-};
+use super::running::{run_over, run_told, seed};
+use super::{CONFIGURATION, Ended, assert_err, assert_out, assert_sent, assert_status};
 use crate::asserts::assert_holds;
 use bng_plant::{MemoryPlant, MemoryTrace};
-use std::alloc::Global;
+use std::alloc::{AllocError, Global};
+use std::process::Abort;
 use std::sync::Wait;
 use std::test::Fail;
 use std::thread::Threads;
@@ -71,23 +70,25 @@ fn two_thousand_subscribers_are_served_by_one_worker(rt: HostRuntime) -> Result<
     Ok(())
 }
 
+/// A run of these words over this configuration to which nothing comes, with this trace.
+fn traced<R: Threads + Wait + Sync>(
+    rt: &R,
+    alloc: Global,
+    words: &[&str],
+    configuration: &str,
+    trace: &mut MemoryTrace,
+) -> Result<Ended, AllocError> {
+    let plant = MemoryPlant::new(alloc, Vec::new(alloc), Vec::new(alloc), 64)?;
+    let source = seed(alloc, &[])?;
+    run_told(rt, alloc, words, configuration, plant, source, trace, &[])
+}
+
 #[test]
 fn an_exercise_ends_at_a_round_that_the_trace_does_not_take(rt: HostRuntime) -> Result<(), Fail> {
     let alloc = rt.alloc();
-    let plant = MemoryPlant::new(alloc, Vec::new(alloc), Vec::new(alloc), 64)?;
     let fails: [u64; 1] = [3];
     let mut trace = MemoryTrace::new(alloc, fails.to_vec(alloc)?, 8, 64)?;
-    let source = seed(alloc, &[])?;
-    let ended = run_told(
-        &rt,
-        alloc,
-        &["exercise", "4"],
-        CONFIGURATION,
-        plant,
-        source,
-        &mut trace,
-        &[],
-    )?;
+    let ended = traced(&rt, alloc, &["exercise", "4"], CONFIGURATION, &mut trace)?;
     assert_status(&rt, &ended, 5);
     assert_err(&rt, &ended, b"bng: trace failed\n");
     assert_holds(&rt, ended.out.text().is_empty());
@@ -135,25 +136,37 @@ fn check_tells_the_first_fault(rt: HostRuntime) -> Result<(), Fail> {
     Ok(())
 }
 
+/// Words that are no command.
+const NO_COMMANDS: &[&[&str]] = &[
+    &["serve", "bng.toml", "--rounds=0"],
+    &["serve", "--rounds", "5"],
+    &["serve", "bng.toml", "--rounds", "5", "--rounds", "5"],
+    &["serve", "bng.toml", "--trace", "trace"],
+    &["check", "bng.toml", "--workers", "2"],
+    &["exercise", "4001"],
+    &["exercise", "4", "--workers", "17"],
+    &["exercise"],
+    &["audit", "trace"],
+];
+
+/// A run of these words prints the usage line alone and ends with status 1.
+fn prints_usage<R: Threads + Wait + Sync + Abort>(
+    rt: &R,
+    alloc: Global,
+    words: &[&str],
+) -> Result<(), Fail> {
+    let ended = alone(rt, alloc, words, CONFIGURATION)?;
+    assert_out(rt, &ended, b"");
+    assert_err(rt, &ended, USAGE);
+    assert_status(rt, &ended, 1);
+    Ok(())
+}
+
 #[test]
 fn words_that_are_no_command_print_the_usage_line(rt: HostRuntime) -> Result<(), Fail> {
     let alloc = rt.alloc();
-    let rows: [&[&str]; 9] = [
-        &["serve", "bng.toml", "--rounds=0"],
-        &["serve", "--rounds", "5"],
-        &["serve", "bng.toml", "--rounds", "5", "--rounds", "5"],
-        &["serve", "bng.toml", "--trace", "trace"],
-        &["check", "bng.toml", "--workers", "2"],
-        &["exercise", "4001"],
-        &["exercise", "4", "--workers", "17"],
-        &["exercise"],
-        &["audit", "trace"],
-    ];
-    for words in rows {
-        let ended = alone(&rt, alloc, words, CONFIGURATION)?;
-        assert_out(&rt, &ended, b"");
-        assert_err(&rt, &ended, USAGE);
-        assert_status(&rt, &ended, 1);
+    for words in NO_COMMANDS {
+        prints_usage(&rt, alloc, words)?;
     }
     Ok(())
 }
@@ -161,11 +174,9 @@ fn words_that_are_no_command_print_the_usage_line(rt: HostRuntime) -> Result<(),
 #[test]
 fn serving_ends_by_itself_after_so_many_rounds(rt: HostRuntime) -> Result<(), Fail> {
     let alloc = rt.alloc();
-    let plant = MemoryPlant::new(alloc, Vec::new(alloc), Vec::new(alloc), 64)?;
     let mut trace = MemoryTrace::new(alloc, Vec::new(alloc), 16, 64)?;
-    let source = seed(alloc, &[])?;
     let words = ["serve", "bng.toml", "--rounds", "3"];
-    let ended = run_told(&rt, alloc, &words, SESSIONS, plant, source, &mut trace, &[])?;
+    let ended = traced(&rt, alloc, &words, SESSIONS, &mut trace)?;
     assert_err(&rt, &ended, b"");
     assert_status(&rt, &ended, 0);
     // Three of serving, and one of the ending.

@@ -6,8 +6,12 @@ use super::disconnects::stops_have;
 use super::{Ended, a_turn_later, has};
 use crate::asserts::{assert_holds, assert_same};
 use bng_base::Role;
+use bng_plant::Arrival;
+use std::alloc::Global;
 use std::process::Abort;
+use std::sync::Wait;
 use std::test::Fail;
+use std::thread::Threads;
 
 /// Session-Timeouts of two seconds, of none and of one, and an Idle-Timeout of two seconds, for the circuit.
 const SESSION_2: &str = "2b01002041b9721e0ee1ec3f8e339d1abb0a3adf08060a0000021b0600000002";
@@ -32,11 +36,8 @@ const TWO: &[u8] = b"\x2e\x06\x00\x00\x00\x02";
 
 const THREE: &[u8] = b"\x2e\x06\x00\x00\x00\x03";
 
-/// The circuit's term begins a second before the first turn, and the turns are a second apart.
-#[test]
-fn a_session_timeout_counts_from_the_lease(rt: HostRuntime) -> Result<(), Fail> {
-    let alloc = rt.alloc();
-    // The packet of the turn in which it is over passes, and the next one does not.
+/// A Session-Timeout of two seconds, and then packets in two turns: that of the turn in which it is over passes, and the next one does not.
+fn packets_of_two_turns(alloc: Global) -> Result<Vec<Arrival>, Fail> {
     let mut script = Vec::new(alloc);
     script.push(asks(alloc, SESSION_2)?)?;
     script.push(a_turn_later())?;
@@ -44,46 +45,79 @@ fn a_session_timeout_counts_from_the_lease(rt: HostRuntime) -> Result<(), Fail> 
     script.push(a_turn_later())?;
     script.push(packet_100())?;
     script.push(stop(0))?;
-    let ended = run_changes(&rt, alloc, script, 1000)?;
-    stops_have(&rt, &ended, SESSION_TIMEOUT);
-    stops_have(&rt, &ended, TWO);
-    assert_holds(&rt, has(ended.out.text(), b"stopped in=100 out=0\n"));
-    assert_holds(&rt, has(ended.out.text(), b"drop NotOpen 1\n"));
-    // One that is over when it is set ends the term in the next turn.
+    Ok(script)
+}
+
+/// A Session-Timeout of one second, which is over when it is set: it ends the term in the next turn.
+fn over_when_set(alloc: Global) -> Result<Vec<Arrival>, Fail> {
     let mut script = Vec::new(alloc);
     script.push(asks(alloc, SESSION_1)?)?;
     script.push(stop(3))?;
-    let ended = run_changes(&rt, alloc, script, 1000)?;
-    stops_have(&rt, &ended, SESSION_TIMEOUT);
-    stops_have(&rt, &ended, TWO);
+    Ok(script)
+}
+
+/// A run with this script, in which the turns are a second apart, sends Stops of a term that its Session-Timeout ended after two seconds.
+fn times_out<R: Threads + Wait + Sync + Abort>(
+    rt: &R,
+    alloc: Global,
+    script: Vec<Arrival>,
+) -> Result<Ended, Fail> {
+    let ended = run_changes(rt, alloc, script, 1000)?;
+    stops_have(rt, &ended, SESSION_TIMEOUT);
+    stops_have(rt, &ended, TWO);
+    Ok(ended)
+}
+
+/// The circuit's term begins a second before the first turn, and the turns are a second apart.
+#[test]
+fn a_session_timeout_counts_from_the_lease(rt: HostRuntime) -> Result<(), Fail> {
+    let alloc = rt.alloc();
+    let ended = times_out(&rt, alloc, packets_of_two_turns(alloc)?)?;
+    assert_holds(&rt, has(ended.out.text(), b"stopped in=100 out=0\n"));
+    assert_holds(&rt, has(ended.out.text(), b"drop NotOpen 1\n"));
+    let _ended = times_out(&rt, alloc, over_when_set(alloc)?)?;
     Ok(())
+}
+
+/// An Idle-Timeout of two seconds with a packet, and `stop` four waits later.
+fn one_packet(alloc: Global) -> Result<Vec<Arrival>, Fail> {
+    let mut script = Vec::new(alloc);
+    script.push(asks(alloc, IDLE_2)?)?;
+    script.push(packet_100())?;
+    script.push(stop(4))?;
+    Ok(script)
 }
 
 #[test]
 fn an_idle_timeout_counts_from_the_last_packet(rt: HostRuntime) -> Result<(), Fail> {
     let alloc = rt.alloc();
-    let mut script = Vec::new(alloc);
-    script.push(asks(alloc, IDLE_2)?)?;
-    script.push(packet_100())?;
-    script.push(stop(4))?;
-    let ended = run_changes(&rt, alloc, script, 1000)?;
+    let ended = run_changes(&rt, alloc, one_packet(alloc)?, 1000)?;
     stops_have(&rt, &ended, IDLE_TIMEOUT);
     stops_have(&rt, &ended, THREE);
+    Ok(())
+}
+
+/// Where these two requests come in one turn, the term ends at the stop.
+fn ends_at_stop<R: Threads + Wait + Sync + Abort>(
+    rt: &R,
+    alloc: Global,
+    first: &str,
+    second: &str,
+) -> Result<(), Fail> {
+    let mut script = Vec::new(alloc);
+    script.push(asks(alloc, first)?)?;
+    script.push(asks(alloc, second)?)?;
+    script.push(stop(4))?;
+    let ended = run_changes(rt, alloc, script, 1000)?;
+    stops_have(rt, &ended, NAS_REQUEST);
     Ok(())
 }
 
 #[test]
 fn a_timeout_of_0_is_none(rt: HostRuntime) -> Result<(), Fail> {
     let alloc = rt.alloc();
-    for (first, second) in [(SESSION_2, SESSION_0), (IDLE_2, IDLE_0)] {
-        let mut script = Vec::new(alloc);
-        script.push(asks(alloc, first)?)?;
-        script.push(asks(alloc, second)?)?;
-        script.push(stop(4))?;
-        let ended = run_changes(&rt, alloc, script, 1000)?;
-        stops_have(&rt, &ended, NAS_REQUEST);
-    }
-    Ok(())
+    ends_at_stop(&rt, alloc, SESSION_2, SESSION_0)?;
+    ends_at_stop(&rt, alloc, IDLE_2, IDLE_0)
 }
 
 /// Acct-Interim-Intervals of an hour, and of 30 seconds, which are taken as 60.
@@ -103,18 +137,27 @@ fn interims_before_stop(ended: &Ended) -> usize {
         .count()
 }
 
+/// Where the turns are so many milliseconds apart, a run sends so many Interims before the stop.
+fn sends_interims<R: Threads + Wait + Sync + Abort>(
+    rt: &R,
+    alloc: Global,
+    step: u64,
+    interims: usize,
+) -> Result<(), Fail> {
+    let mut script = Vec::new(alloc);
+    script.push(asks(alloc, HOURLY)?)?;
+    script.push(a_turn_later())?;
+    script.push(asks(alloc, EACH_30)?)?;
+    script.push(stop(0))?;
+    let ended = run_changes(rt, alloc, script, step)?;
+    assert_same(rt, &interims_before_stop(&ended), &interims);
+    Ok(())
+}
+
 #[test]
 fn an_interim_is_due_by_the_interval_that_was_set(rt: HostRuntime) -> Result<(), Fail> {
     let alloc = rt.alloc();
     // The second request comes twice these milliseconds after the lease: an Interim that was due in an hour is due then, or not yet.
-    for (step, interims) in [(29_999, 0), (30_000, 1)] {
-        let mut script = Vec::new(alloc);
-        script.push(asks(alloc, HOURLY)?)?;
-        script.push(a_turn_later())?;
-        script.push(asks(alloc, EACH_30)?)?;
-        script.push(stop(0))?;
-        let ended = run_changes(&rt, alloc, script, step)?;
-        assert_same(&rt, &interims_before_stop(&ended), &interims);
-    }
-    Ok(())
+    sends_interims(&rt, alloc, 29_999, 0)?;
+    sends_interims(&rt, alloc, 30_000, 1)
 }

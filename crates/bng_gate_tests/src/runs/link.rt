@@ -1,8 +1,10 @@
 //! The link of a session.
-use super::host::{ACK, ACKED, ASKED, PADS, PADT, REQUEST, SESSIONS, TO_HOST, framed, session};
-use super::{SERVE, assert_out, assert_status, loopback, run_over, sends};
+use super::authentication::stop;
+use super::host::{ACK, ACKED, ASKED, PADS, REQUEST, SESSIONS, session};
+use super::running::{SERVE, run_over};
+use super::sent::{OVER, STOPPING, Sent, sends_list};
+use super::{assert_out, assert_status};
 use bng_base::Role;
-use bng_plant::Arrival;
 use std::test::Fail;
 
 /// A Configure-Request with an MRU, a magic number and the two field compressions, and its Configure-Reject.
@@ -40,12 +42,27 @@ const PACKET: [u8; 22] = [
     0x00, 0x02, 0xc0, 0x00, 0x02, 0x01,
 ];
 
+/// By these the host brings its link to Opened, and asks for an echo.
+const HEARD: &[&[u8]] = &[&COMPRESSED, &REQUEST, &ACK, &IPV6CP, &ECHO, &PACKET];
+
+/// What is sent to it.
+const ANSWERED: &[Sent] = &[
+    Sent::Octets(Role::Access(1), 9011, &PADS),
+    Sent::ToHost(&ASKED),
+    Sent::ToHost(&REJECTED),
+    Sent::ToHost(&ACKED),
+    Sent::ToHost(&CHALLENGE),
+    Sent::ToHost(&PROTOCOL_REJECT),
+    Sent::ToHost(&ECHO_REPLY),
+    STOPPING,
+    OVER,
+];
+
 #[test]
 fn a_link_comes_to_opened_and_answers_echoes(rt: HostRuntime) -> Result<(), Fail> {
     let alloc = rt.alloc();
-    let heard: [&[u8]; 6] = [&COMPRESSED, &REQUEST, &ACK, &IPV6CP, &ECHO, &PACKET];
-    let mut script = session(alloc, &heard)?;
-    script.push(Arrival::new(Role::Control, loopback(5), b"stop"))?;
+    let mut script = session(alloc, HEARD)?;
+    script.push(stop(0))?;
     let ended = run_over(&rt, alloc, &SERVE, SESSIONS, script, &[], &[])?;
     assert_status(&rt, &ended, 0);
     assert_out(
@@ -53,24 +70,5 @@ fn a_link_comes_to_opened_and_answers_echoes(rt: HostRuntime) -> Result<(), Fail
         &ended,
         b"stopped in=0 out=0\nlive in=0 out=0\ntotal in=0 out=0\nworker 0 in=0 out=0\nprofile default in=0 out=0\ndrop Malformed 0\ndrop NoSession 0\ndrop NotOpen 1\ndrop Expired 0\ndrop Spoofed 0\ndrop TooBig 0\ndrop Exceeded 0\ndrop LinkFailed 0\ndrop WantOfMemory 0\n",
     );
-    let asked = framed(alloc, &TO_HOST, &ASKED)?;
-    let rejected = framed(alloc, &TO_HOST, &REJECTED)?;
-    let acked = framed(alloc, &TO_HOST, &ACKED)?;
-    let challenged = framed(alloc, &TO_HOST, &CHALLENGE)?;
-    let protocol_rejected = framed(alloc, &TO_HOST, &PROTOCOL_REJECT)?;
-    let echoed = framed(alloc, &TO_HOST, &ECHO_REPLY)?;
-    let port = Role::Access(1);
-    let wanted: [(Role, u16, &[u8]); 9] = [
-        (port, 9011, &PADS),
-        (port, 9011, asked.as_slice()),
-        (port, 9011, rejected.as_slice()),
-        (port, 9011, acked.as_slice()),
-        (port, 9011, challenged.as_slice()),
-        (port, 9011, protocol_rejected.as_slice()),
-        (port, 9011, echoed.as_slice()),
-        (Role::Control, 5, b"stopping\n"),
-        (port, 9011, &PADT),
-    ];
-    sends(&rt, &ended, &wanted);
-    Ok(())
+    sends_list(&rt, alloc, &ended, ANSWERED)
 }

@@ -4,10 +4,10 @@ use super::authentication::{
     ACCEPT, LEAVES, LEFT, OWN_ADDRESS, PAP, PASSED, PASSWORD, TERMINATE, begun, reply, sends_after,
     stop,
 };
-use super::host::{ACKED, PADT, REQUEST, TO_HOST, framed, from_host, request, then_hears};
-use super::{
-    Ended, assert_err, assert_out, assert_status, goes_to, has, loopback, run_by, sends_from,
-};
+use super::host::{ACKED, REQUEST, framed, from_host, request, then_hears};
+use super::running::run_by;
+use super::sent::{OVER, STOPPING, Sent, sends_list_from};
+use super::{Ended, assert_err, assert_out, assert_status, goes_to, has, loopback};
 use crate::asserts::{assert_holds, assert_same};
 use bng_base::Role;
 use bng_plant::{Arrival, MemoryPlant};
@@ -99,17 +99,12 @@ pub(super) const FROM_CORE: &[u8] =
 const DOWN: &[u8] =
     b"\x00\x21\x45\x00\x00\x1c\x00\x02\x00\x00\x3f\x11\xaf\x9c\xc0\x00\x02\x01\x0a\x00\x00\x32\x00\x01\x02\x03\x04\x05\x06\x07";
 
-/// The MAC of another host of the same shard; what stands before the low octet of LENGTH in a frame of its session to the gateway, and in
-/// one to it; its PADS, and its PADT.
+/// The MAC of another host of the same shard; what stands before the low octet of LENGTH in a frame of its session to the gateway; its
+/// PADS, and its PADT.
 const OTHER: [u8; 6] = [0x02, 0x00, 0x00, 0x00, 0x00, 0x05];
 
 const FROM_OTHER: [u8; 19] = [
     0x02, 0x00, 0x00, 0x00, 0x00, 0xfe, 0x02, 0x00, 0x00, 0x00, 0x00, 0x05, 0x88, 0x64, 0x11, 0x00,
-    0x0c, 0x02, 0x00,
-];
-
-const TO_OTHER: [u8; 19] = [
-    0x02, 0x00, 0x00, 0x00, 0x00, 0x05, 0x02, 0x00, 0x00, 0x00, 0x00, 0xfe, 0x88, 0x64, 0x11, 0x00,
     0x0c, 0x02, 0x00,
 ];
 
@@ -143,12 +138,13 @@ const NO_ADDRESS: &[u8] = b"\xc0\x23\x03\x07\x00\x0f\x0ano address";
 const BOTH_ACK: &[u8] =
     b"\xc0\x21\x02\x01\x00\x12\x01\x04\x05\xd4\x03\x04\xc0\x23\x05\x06\x0c\x10\x93\xed";
 
-const BOTH_REQUESTS: [&str; 2] = [
-    "0100008bf8f3ff4f61b9b2321cdac35dd668dfe401066e656d6f0212e3e8e04d19d6e2916677a2f015ff323e0406c0a80110050600000c010606000000020706000000011f1330323a30303a30303a30303a30303a30312006626e67313d0600000005501241383299587ce3d629e5d00fd44ac417571670312f3032303030303030303030312f33303733",
-    "0101008bb577567057ec574de3d2c9eec0372c4c01066e656d6f021232d225c86a33312d21f826a32a1297b00406c0a80110050600000c020606000000020706000000011f1330323a30303a30303a30303a30303a30352006626e67313d060000000550123a856c06934e8c2c604b51eaac1b74e4571670312f3032303030303030303030352f33303734",
-];
+const FIRST_REQUEST: &str =
+    "0100008bf8f3ff4f61b9b2321cdac35dd668dfe401066e656d6f0212e3e8e04d19d6e2916677a2f015ff323e0406c0a80110050600000c010606000000020706000000011f1330323a30303a30303a30303a30303a30312006626e67313d0600000005501241383299587ce3d629e5d00fd44ac417571670312f3032303030303030303030312f33303733";
 
-const BOTH_ACCEPTS: [&str; 2] = [
+const SECOND_REQUEST: &str =
+    "0101008bb577567057ec574de3d2c9eec0372c4c01066e656d6f021232d225c86a33312d21f826a32a1297b00406c0a80110050600000c020606000000020706000000011f1330323a30303a30303a30303a30303a30352006626e67313d060000000550123a856c06934e8c2c604b51eaac1b74e4571670312f3032303030303030303030352f33303734";
+
+const BOTH_ACCEPTS: &[&str] = &[
     "0200001abf6ff22eb21166b2718624e211e5700f08060a000002",
     "0201001a8f7a15995d07b6b9ebd7a54d71103b4008060a000002",
 ];
@@ -223,28 +219,30 @@ pub(super) fn records(
     records_begin(rt, alloc, ended, wanted)
 }
 
-/// What a run sent to the host and to the core: until the packets went both ways, then this last PPP frame, and a PADT at the stop.
-fn sends_of_visit(rt: &impl Abort, alloc: Global, ended: &Ended, last: &[u8]) -> Result<(), Fail> {
-    let passed = framed(alloc, &TO_HOST, PASSED)?;
-    let own = framed(alloc, &TO_HOST, OWN_ADDRESS)?;
-    let to_be = framed(alloc, &TO_HOST, TO_BE)?;
-    let gets = framed(alloc, &TO_HOST, GETS)?;
-    let down = framed(alloc, &TO_HOST, DOWN)?;
-    let last = framed(alloc, &TO_HOST, last)?;
-    let port = Role::Access(1);
-    let rest: [(Role, u16, &[u8]); 9] = [
-        (port, 9011, passed.as_slice()),
-        (port, 9011, own.as_slice()),
-        (port, 9011, to_be.as_slice()),
-        (port, 9011, gets.as_slice()),
-        (Role::Core, 9001, UP),
-        (port, 9011, down.as_slice()),
-        (port, 9011, last.as_slice()),
-        (Role::Control, 5, b"stopping\n"),
-        (port, 9011, &PADT),
-    ];
-    sends_after(rt, alloc, ended, 0, &rest)
-}
+/// What is sent after its Access-Request where it leaves, and where it is logged out.
+const SENT_TO_LEAVING: &[Sent] = &[
+    Sent::ToHost(PASSED),
+    Sent::ToHost(OWN_ADDRESS),
+    Sent::ToHost(TO_BE),
+    Sent::ToHost(GETS),
+    Sent::Octets(Role::Core, 9001, UP),
+    Sent::ToHost(DOWN),
+    Sent::ToHost(LEFT),
+    STOPPING,
+    OVER,
+];
+
+const SENT_TO_SILENT: &[Sent] = &[
+    Sent::ToHost(PASSED),
+    Sent::ToHost(OWN_ADDRESS),
+    Sent::ToHost(TO_BE),
+    Sent::ToHost(GETS),
+    Sent::Octets(Role::Core, 9001, UP),
+    Sent::ToHost(DOWN),
+    Sent::ToHost(TERMINATE),
+    STOPPING,
+    OVER,
+];
 
 #[test]
 fn a_subscriber_logs_in_and_is_accounted_for(rt: HostRuntime) -> Result<(), Fail> {
@@ -256,7 +254,7 @@ fn a_subscriber_logs_in_and_is_accounted_for(rt: HostRuntime) -> Result<(), Fail
         &ended,
         b"stopped in=40 out=28\nlive in=0 out=0\ntotal in=40 out=28\nworker 0 in=40 out=28\nprofile default in=40 out=28\ndrop Malformed 0\ndrop NoSession 0\ndrop NotOpen 0\ndrop Expired 0\ndrop Spoofed 0\ndrop TooBig 0\ndrop Exceeded 0\ndrop LinkFailed 0\ndrop WantOfMemory 0\n",
     );
-    sends_of_visit(&rt, alloc, &ended, LEFT)?;
+    sends_after(&rt, alloc, &ended, 0, SENT_TO_LEAVING)?;
     records(&rt, alloc, &ended, &[START, STOP])
 }
 
@@ -272,7 +270,7 @@ fn silence(alloc: Global) -> Result<Vec<Arrival>, Fail> {
 fn a_subscriber_who_is_silent_is_logged_out(rt: HostRuntime) -> Result<(), Fail> {
     let alloc = rt.alloc();
     let ended = run_in(&rt, alloc, PAP, silence(alloc)?, 1000)?;
-    sends_of_visit(&rt, alloc, &ended, TERMINATE)?;
+    sends_after(&rt, alloc, &ended, 0, SENT_TO_SILENT)?;
     records(&rt, alloc, &ended, &[START, IDLE_STOP])
 }
 
@@ -297,33 +295,30 @@ fn two_hosts(alloc: Global) -> Result<Vec<Arrival>, Fail> {
     Ok(script)
 }
 
+/// The PADT of the other host's session.
+const OTHER_OVER: Sent = Sent::Octets(Role::Access(1), 9011, &OTHER_PADT);
+
+/// What is sent after the first host's Access-Request.
+const ONE_LOGIN: &[Sent] = &[
+    Sent::ToHost(PASSED),
+    Sent::ToHost(OWN_ADDRESS),
+    Sent::Octets(Role::Access(1), 9011, &OTHER_PADS),
+    Sent::ToOther(OTHER_ASKED),
+    Sent::ToOther(&ACKED),
+    Sent::Digits(Role::Auth, 1812, OTHER_REQUEST),
+    Sent::ToOther(NO_ADDRESS),
+    Sent::ToOther(TERMINATE),
+    STOPPING,
+    OVER,
+    OTHER_OVER,
+];
+
 #[test]
 fn where_the_pool_is_used_up_an_accept_is_no_login(rt: HostRuntime) -> Result<(), Fail> {
     let alloc = rt.alloc();
     let ended = run_in(&rt, alloc, ONE_ADDRESS, two_hosts(alloc)?, 10)?;
-    let passed = framed(alloc, &TO_HOST, PASSED)?;
-    let own = framed(alloc, &TO_HOST, OWN_ADDRESS)?;
-    let asked = framed(alloc, &TO_OTHER, OTHER_ASKED)?;
-    let acked = framed(alloc, &TO_OTHER, &ACKED)?;
-    let question = hex::decode(alloc, OTHER_REQUEST)?;
-    let refused = framed(alloc, &TO_OTHER, NO_ADDRESS)?;
-    let closed = framed(alloc, &TO_OTHER, TERMINATE)?;
-    let port = Role::Access(1);
-    let rest: [(Role, u16, &[u8]); 11] = [
-        (port, 9011, passed.as_slice()),
-        (port, 9011, own.as_slice()),
-        (port, 9011, &OTHER_PADS),
-        (port, 9011, asked.as_slice()),
-        (port, 9011, acked.as_slice()),
-        (Role::Auth, 1812, question.as_slice()),
-        (port, 9011, refused.as_slice()),
-        (port, 9011, closed.as_slice()),
-        (Role::Control, 5, b"stopping\n"),
-        (port, 9011, &PADT),
-        (port, 9011, &OTHER_PADT),
-    ];
     // The server says nothing to the records.
-    sends_after(&rt, alloc, &ended, 6, &rest)?;
+    sends_after(&rt, alloc, &ended, 6, ONE_LOGIN)?;
     records_are_of_the_first_host(&rt, &ended);
     Ok(())
 }
@@ -343,39 +338,38 @@ fn records_are_of_the_first_host(rt: &impl Abort, ended: &Ended) {
     }
 }
 
+/// Both hosts ask in the first turn, and get their Access-Accepts in the second.
+fn both_hosts(alloc: Global) -> Result<Vec<Arrival>, Fail> {
+    let mut script = begun(alloc)?;
+    other_begins(alloc, &mut script, BOTH_ACK)?;
+    for accept in BOTH_ACCEPTS {
+        script.push(reply(alloc, 1812, *accept)?)?;
+    }
+    script.push(stop(0))?;
+    Ok(script)
+}
+
+/// What is sent after the PADS and two packets of LCP to each host.
+const FIRST_COUNTS: &[Sent] = &[
+    Sent::Digits(Role::Auth, 1812, FIRST_REQUEST),
+    Sent::Digits(Role::Auth, 1812, SECOND_REQUEST),
+    Sent::ToHost(PASSED),
+    Sent::ToHost(OWN_ADDRESS),
+    Sent::ToOther(NO_ADDRESS),
+    Sent::ToOther(TERMINATE),
+    STOPPING,
+    OVER,
+    OTHER_OVER,
+];
+
 #[test]
 fn of_two_accepts_for_one_address_in_one_round_the_first_counts(
     rt: HostRuntime,
 ) -> Result<(), Fail> {
     let alloc = rt.alloc();
-    let mut script = begun(alloc)?;
-    other_begins(alloc, &mut script, BOTH_ACK)?;
-    for accept in BOTH_ACCEPTS {
-        script.push(reply(alloc, 1812, accept)?)?;
-    }
-    script.push(stop(0))?;
-    let ended = run_in(&rt, alloc, ONE_ADDRESS, script, 10)?;
-    let first = hex::decode(alloc, BOTH_REQUESTS[0])?;
-    let second = hex::decode(alloc, BOTH_REQUESTS[1])?;
-    let passed = framed(alloc, &TO_HOST, PASSED)?;
-    let own = framed(alloc, &TO_HOST, OWN_ADDRESS)?;
-    let refused = framed(alloc, &TO_OTHER, NO_ADDRESS)?;
-    let closed = framed(alloc, &TO_OTHER, TERMINATE)?;
-    let port = Role::Access(1);
-    // Before them stand the PADS and two packets of LCP to each host.
-    let rest: [(Role, u16, &[u8]); 9] = [
-        (Role::Auth, 1812, first.as_slice()),
-        (Role::Auth, 1812, second.as_slice()),
-        (port, 9011, passed.as_slice()),
-        (port, 9011, own.as_slice()),
-        (port, 9011, refused.as_slice()),
-        (port, 9011, closed.as_slice()),
-        (Role::Control, 5, b"stopping\n"),
-        (port, 9011, &PADT),
-        (port, 9011, &OTHER_PADT),
-    ];
+    let ended = run_in(&rt, alloc, ONE_ADDRESS, both_hosts(alloc)?, 10)?;
     assert_status(&rt, &ended, 6);
-    sends_from(&rt, &ended, 6, &rest);
+    sends_list_from(&rt, alloc, &ended, 6, FIRST_COUNTS)?;
     records_are_of_the_first_host(&rt, &ended);
     Ok(())
 }

@@ -4,18 +4,20 @@
 //! RFC 2866 by a script over Python's hashlib.
 use super::authentication::{OWN_ADDRESS, PAP, PASSED, TERMINATE, begun, reply, sends_after, stop};
 use super::forwarding::{DOWN, FROM_CORE, PADDED, UP};
-use super::host::{PADT, TO_HOST, framed, from_host};
+use super::host::{from_host, then_hears};
 use super::logins::{
     ANY, ASKS, FROM_HOST, GETS, TAKES, TO_BE, UP as UP_OF_HOST, records, response, run_in,
 };
-use super::{
-    CONFIGURATION, SERVE, assert_out, assert_status, loopback, run_over, script_of, sends,
-};
+use super::running::{SERVE, run_over};
+use super::sent::{OVER, STOPPING, Sent};
+use super::{CONFIGURATION, Ended, assert_out, assert_status, loopback, script_of, sends};
 use crate::asserts::assert_holds;
 use bng_base::Role;
 use bng_plant::Arrival;
 use std::alloc::{AllocError, Global};
+use std::sync::Wait;
 use std::test::Fail;
+use std::thread::Threads;
 
 /// What follows the circuit's user: of two profiles it has the second, whose rates come behind this.
 const OF_GOLD: &str =
@@ -102,6 +104,24 @@ fn by_the_millisecond(alloc: Global) -> Result<Vec<Arrival>, Fail> {
     Ok(script)
 }
 
+/// A packet to the core, one to the circuit, and the answer to the unknown word.
+const TO_CORE: (Role, u16, &[u8]) = (Role::Core, 9001, &UP);
+
+const TO_CIRCUIT: (Role, u16, &[u8]) = (Role::Access(1), 9011, &DOWN);
+
+const UNKNOWN: (Role, u16, &[u8]) = (Role::Control, 5, b"unknown\n");
+
+/// What is sent then.
+const BY_THE_MILLISECOND: &[(Role, u16, &[u8])] = &[
+    TO_CORE,
+    UNKNOWN,
+    TO_CORE,
+    UNKNOWN,
+    TO_CORE,
+    TO_CORE,
+    (Role::Control, 5, b"stopping\n"),
+];
+
 #[test]
 fn a_packet_passes_from_the_millisecond_of_its_last_token_on(rt: HostRuntime) -> Result<(), Fail> {
     let alloc = rt.alloc();
@@ -116,43 +136,48 @@ fn a_packet_passes_from_the_millisecond_of_its_last_token_on(rt: HostRuntime) ->
         &ended,
         b"stopped in=80 out=0\nlive in=0 out=0\ntotal in=80 out=0\nworker 0 in=80 out=0\nprofile bronze in=0 out=0\nprofile gold in=80 out=0\nstatic 10.0.0.2 in=80 out=0\ndrop Malformed 0\ndrop NoSession 0\ndrop NotOpen 0\ndrop Expired 0\ndrop Spoofed 0\ndrop TooBig 0\ndrop Exceeded 2\ndrop LinkFailed 0\ndrop WantOfMemory 0\n",
     );
-    let core: (Role, u16, &[u8]) = (Role::Core, 9001, &UP);
-    let unknown: (Role, u16, &[u8]) = (Role::Control, 5, b"unknown\n");
-    let wanted: [(Role, u16, &[u8]); 7] = [
-        core,
-        unknown,
-        core,
-        unknown,
-        core,
-        core,
-        (Role::Control, 5, b"stopping\n"),
-    ];
-    sends(&rt, &ended, &wanted);
+    sends(&rt, &ended, BY_THE_MILLISECOND);
     records(&rt, alloc, &ended, &[START, STOP])
 }
+
+/// So many packets come each way.
+fn each_way(script: &mut Vec<Arrival>, count: usize) -> Result<(), AllocError> {
+    for _ in 0..count {
+        script.push(packet())?;
+    }
+    for _ in 0..count {
+        script.push(answer())?;
+    }
+    Ok(())
+}
+
+/// At 334 ms three packets each way, from full buckets: from the subscriber one is green, one yellow and one red, and towards it one is
+/// green and two red. At 668 ms two each way: 20 tokens have come since, all into the first bucket, so one is green and one red.
+fn three_and_two(alloc: Global) -> Result<Vec<Arrival>, AllocError> {
+    let mut script = Vec::new(alloc);
+    each_way(&mut script, 3)?;
+    script.push(next_turn())?;
+    each_way(&mut script, 2)?;
+    script.push(stop(0))?;
+    Ok(script)
+}
+
+/// What is sent then.
+const GREEN_AND_YELLOW: &[(Role, u16, &[u8])] = &[
+    TO_CORE,
+    TO_CORE,
+    TO_CIRCUIT,
+    UNKNOWN,
+    TO_CORE,
+    TO_CIRCUIT,
+    (Role::Control, 5, b"stopping\n"),
+];
 
 #[test]
 fn green_and_yellow_packets_pass_and_red_ones_do_not(rt: HostRuntime) -> Result<(), Fail> {
     let alloc = rt.alloc();
     let configuration = metered(alloc, WITH_EXCESS)?;
-    // At 334 ms three packets each way, from full buckets: from the subscriber one is green, one yellow and one red, and towards it one is
-    // green and two red.
-    let mut script = Vec::new(alloc);
-    for _ in 0..3 {
-        script.push(packet())?;
-    }
-    for _ in 0..3 {
-        script.push(answer())?;
-    }
-    // At 668 ms two each way: 20 tokens have come since, all into the first bucket, so one is green and one red.
-    script.push(next_turn())?;
-    for _ in 0..2 {
-        script.push(packet())?;
-    }
-    for _ in 0..2 {
-        script.push(answer())?;
-    }
-    script.push(stop(0))?;
+    let script = three_and_two(alloc)?;
     let ended = run_in(&rt, alloc, configuration.as_str(), script, 334)?;
     assert_status(&rt, &ended, 6);
     assert_out(
@@ -160,61 +185,58 @@ fn green_and_yellow_packets_pass_and_red_ones_do_not(rt: HostRuntime) -> Result<
         &ended,
         b"stopped in=60 out=40\nlive in=0 out=0\ntotal in=60 out=40\nworker 0 in=60 out=40\nprofile bronze in=0 out=0\nprofile gold in=60 out=40\nstatic 10.0.0.2 in=60 out=40\ndrop Malformed 0\ndrop NoSession 0\ndrop NotOpen 0\ndrop Expired 0\ndrop Spoofed 0\ndrop TooBig 0\ndrop Exceeded 5\ndrop LinkFailed 0\ndrop WantOfMemory 0\n",
     );
-    let core: (Role, u16, &[u8]) = (Role::Core, 9001, &UP);
-    let port: (Role, u16, &[u8]) = (Role::Access(1), 9011, &DOWN);
-    let wanted: [(Role, u16, &[u8]); 7] = [
-        core,
-        core,
-        port,
-        (Role::Control, 5, b"unknown\n"),
-        core,
-        port,
-        (Role::Control, 5, b"stopping\n"),
-    ];
-    sends(&rt, &ended, &wanted);
+    sends(&rt, &ended, GREEN_AND_YELLOW);
     Ok(())
 }
 
-#[test]
-fn a_packet_whose_send_fails_is_in_no_book(rt: HostRuntime) -> Result<(), Fail> {
-    let alloc = rt.alloc();
+/// Two packets of the circuit, and one to it.
+const TWO_AND_ONE: &[(Role, u16, &[u8])] = &[
+    (Role::Access(1), 9011, &PADDED),
+    (Role::Access(1), 9011, &PADDED),
+    (Role::Core, 9001, &FROM_CORE),
+];
+
+/// A run over them with the profile of thirds. The calls of the plant with these numbers fail.
+fn run_thirds<R: Threads + Wait + Sync>(
+    rt: &R,
+    alloc: Global,
+    fails: &[u64],
+) -> Result<Ended, AllocError> {
     let configuration = metered(alloc, THIRDS)?;
-    let list: [(Role, u16, &[u8]); 3] = [
-        (Role::Access(1), 9011, &PADDED),
-        (Role::Access(1), 9011, &PADDED),
-        (Role::Core, 9001, &FROM_CORE),
-    ];
-    let script = script_of(alloc, &list)?;
-    // Five binds, the receives of Control, of Acct, of Auth, three times of the access port and twice of the core, and then the first send.
-    // Its packet was green and has taken its tokens, so the second one is red.
-    let ended = run_over(
-        &rt,
+    let script = script_of(alloc, TWO_AND_ONE)?;
+    run_over(
+        rt,
         alloc,
         &SERVE,
         configuration.as_str(),
         script,
-        &[14],
+        fails,
         &[],
-    )?;
+    )
+}
+
+#[test]
+fn a_packet_whose_send_fails_is_in_no_book(rt: HostRuntime) -> Result<(), Fail> {
+    // Five binds, the receives of Control, of Acct, of Auth, three times of the access port and twice of the core, and then the first send.
+    // Its packet was green and has taken its tokens, so the second one is red.
+    let ended = run_thirds(&rt, rt.alloc(), &[14])?;
     assert_status(&rt, &ended, 6);
     assert_out(
         &rt,
         &ended,
         b"stopped in=0 out=20\nlive in=0 out=0\ntotal in=0 out=20\nworker 0 in=0 out=20\nprofile bronze in=0 out=0\nprofile gold in=0 out=20\nstatic 10.0.0.2 in=0 out=20\ndrop Malformed 0\ndrop NoSession 0\ndrop NotOpen 0\ndrop Expired 0\ndrop Spoofed 0\ndrop TooBig 0\ndrop Exceeded 1\ndrop LinkFailed 1\ndrop WantOfMemory 0\n",
     );
-    let wanted: [(Role, u16, &[u8]); 2] = [
-        (Role::Access(1), 9011, &DOWN),
-        (Role::Control, 5, b"stopping\n"),
-    ];
-    sends(&rt, &ended, &wanted);
+    sends(
+        &rt,
+        &ended,
+        &[TO_CIRCUIT, (Role::Control, 5, b"stopping\n")],
+    );
     Ok(())
 }
 
-#[test]
-fn days_of_silence_fill_the_buckets_and_no_more(rt: HostRuntime) -> Result<(), Fail> {
-    let alloc = rt.alloc();
-    let configuration = metered(alloc, SLOW_AND_FAST)?;
-    // A day after the opening, and two days later: each time one packet is green, one yellow and one red, and each answer is green.
+/// A day after the opening, and two days later three packets come each way: each time one packet is green, one yellow and one red, and
+/// each answer is green.
+fn days(alloc: Global) -> Result<Vec<Arrival>, AllocError> {
     let mut script = Vec::new(alloc);
     for waits in [0, 1] {
         script.push(packet().after(waits))?;
@@ -226,7 +248,14 @@ fn days_of_silence_fill_the_buckets_and_no_more(rt: HostRuntime) -> Result<(), F
         }
     }
     script.push(stop(0))?;
-    let ended = run_in(&rt, alloc, configuration.as_str(), script, 86_400_000)?;
+    Ok(script)
+}
+
+#[test]
+fn days_of_silence_fill_the_buckets_and_no_more(rt: HostRuntime) -> Result<(), Fail> {
+    let alloc = rt.alloc();
+    let configuration = metered(alloc, SLOW_AND_FAST)?;
+    let ended = run_in(&rt, alloc, configuration.as_str(), days(alloc)?, 86_400_000)?;
     assert_holds(
         &rt,
         ended.out.text().starts_with(
@@ -240,59 +269,66 @@ fn days_of_silence_fill_the_buckets_and_no_more(rt: HostRuntime) -> Result<(), F
     Ok(())
 }
 
+/// By these the host comes to its address. Then it sends two packets of 40 octets at one moment, of which the second is red.
+const COMES: &[&[u8]] = &[ASKS, TAKES, FROM_HOST, FROM_HOST];
+
+/// A host logs in by this Access-Accept and sends them.
+fn metered_host(alloc: Global) -> Result<Vec<Arrival>, Fail> {
+    let mut script = begun(alloc)?;
+    script.push(reply(alloc, 1812, ACCEPT_GOLD)?)?;
+    script.push(from_host(alloc, ANY)?.after(1))?;
+    then_hears(alloc, &mut script, COMES)?;
+    script.push(stop(0))?;
+    Ok(script)
+}
+
+/// What is sent then. The server says nothing to the records.
+const ONE_PASSES: &[Sent] = &[
+    Sent::ToHost(PASSED),
+    Sent::ToHost(OWN_ADDRESS),
+    Sent::ToHost(TO_BE),
+    Sent::ToHost(GETS),
+    Sent::Octets(Role::Core, 9001, UP_OF_HOST),
+    STOPPING,
+    OVER,
+];
+
 #[test]
 fn a_host_is_metered_by_the_profile_that_its_accept_names(rt: HostRuntime) -> Result<(), Fail> {
     let alloc = rt.alloc();
     let configuration = PAP.replace(alloc, "[[pool]]", HOSTS)?;
-    let mut script = begun(alloc)?;
-    script.push(reply(alloc, 1812, ACCEPT_GOLD)?)?;
-    script.push(from_host(alloc, ANY)?.after(1))?;
-    // Two packets of 40 octets at one moment, of which the second is red.
-    for heard in [ASKS, TAKES, FROM_HOST, FROM_HOST] {
-        script.push(from_host(alloc, heard)?)?;
-    }
-    script.push(stop(0))?;
+    let script = metered_host(alloc)?;
     let ended = run_in(&rt, alloc, configuration.as_str(), script, 10)?;
     assert_out(
         &rt,
         &ended,
         b"stopped in=40 out=0\nlive in=0 out=0\ntotal in=40 out=0\nworker 0 in=40 out=0\nprofile bronze in=0 out=0\nprofile gold in=40 out=0\ndrop Malformed 0\ndrop NoSession 0\ndrop NotOpen 0\ndrop Expired 0\ndrop Spoofed 0\ndrop TooBig 0\ndrop Exceeded 1\ndrop LinkFailed 0\ndrop WantOfMemory 0\n",
     );
-    let passed = framed(alloc, &TO_HOST, PASSED)?;
-    let own = framed(alloc, &TO_HOST, OWN_ADDRESS)?;
-    let to_be = framed(alloc, &TO_HOST, TO_BE)?;
-    let gets = framed(alloc, &TO_HOST, GETS)?;
-    let port = Role::Access(1);
-    // The server says nothing to the records.
-    let rest: [(Role, u16, &[u8]); 7] = [
-        (port, 9011, passed.as_slice()),
-        (port, 9011, own.as_slice()),
-        (port, 9011, to_be.as_slice()),
-        (port, 9011, gets.as_slice()),
-        (Role::Core, 9001, UP_OF_HOST),
-        (Role::Control, 5, b"stopping\n"),
-        (port, 9011, &PADT),
-    ];
-    sends_after(&rt, alloc, &ended, 6, &rest)
+    sends_after(&rt, alloc, &ended, 6, ONE_PASSES)
 }
+
+/// A host gets the Access-Accept that names no profile.
+fn unmetered_host(alloc: Global) -> Result<Vec<Arrival>, Fail> {
+    let mut script = begun(alloc)?;
+    script.push(reply(alloc, 1812, ACCEPT_GOL)?)?;
+    script.push(stop(0))?;
+    Ok(script)
+}
+
+/// What is sent then.
+const NONE_LOGS_IN: &[Sent] = &[
+    Sent::ToHost(NO_PROFILE),
+    Sent::ToHost(TERMINATE),
+    STOPPING,
+    OVER,
+];
 
 #[test]
 fn an_accept_that_names_no_profile_is_no_login(rt: HostRuntime) -> Result<(), Fail> {
     let alloc = rt.alloc();
     let configuration = PAP.replace(alloc, "[[pool]]", HOSTS)?;
-    let mut script = begun(alloc)?;
-    script.push(reply(alloc, 1812, ACCEPT_GOL)?)?;
-    script.push(stop(0))?;
+    let script = unmetered_host(alloc)?;
     let ended = run_in(&rt, alloc, configuration.as_str(), script, 10)?;
-    let refused = framed(alloc, &TO_HOST, NO_PROFILE)?;
-    let closed = framed(alloc, &TO_HOST, TERMINATE)?;
-    let port = Role::Access(1);
-    let rest: [(Role, u16, &[u8]); 4] = [
-        (port, 9011, refused.as_slice()),
-        (port, 9011, closed.as_slice()),
-        (Role::Control, 5, b"stopping\n"),
-        (port, 9011, &PADT),
-    ];
-    sends_after(&rt, alloc, &ended, 0, &rest)?;
+    sends_after(&rt, alloc, &ended, 0, NONE_LOGS_IN)?;
     records(&rt, alloc, &ended, &[])
 }

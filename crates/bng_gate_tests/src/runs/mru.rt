@@ -3,11 +3,11 @@ use super::authentication::{PAP, PAP_ACK, PASSWORD as PPP_PASSWORD, reply, stop}
 use super::concentrator::{
     ACCEPT, ACK, ANY, ASKS, ICCN, ICRQ, PASSWORD, PLAIN, SCCCN, SCCRQ, TAKES, run_calls, then_come,
 };
-use super::host::{from_host, session};
+use super::host::{session, then_hears};
 use super::logins::{ACCEPT_50, ANY as PPP_ANY, ASKS as PPP_ASKS, TAKES as PPP_TAKES, run_in};
 use super::{CONFIGURATION, Ended, assert_status, has, loopback};
 use crate::asserts::{assert_holds, assert_same};
-use bng_base::Role;
+use bng_base::{Peer, Role};
 use bng_plant::Arrival;
 use std::alloc::{AllocError, Global};
 use std::process::Abort;
@@ -74,77 +74,105 @@ fn one_fits(
     let mut long = sent.filter(|datagram| datagram.role == role
         && datagram.octets.as_slice().len() > 1000);
     let one = long.next().expect(rt, "a packet");
-    assert_same(rt, &one.octets.as_slice().len(), &length);
-    let packet = one
-        .octets
-        .as_slice()
-        .get(behind..length)
-        .expect(rt, "octets");
-    assert_holds(rt, packet.starts_with(header));
+    assert_packet(rt, one.octets.as_slice(), length, behind, header);
     assert_holds(rt, long.next().is_none());
+}
+
+/// These octets are so many, with this header behind so many.
+fn assert_packet(rt: &impl Abort, octets: &[u8], length: usize, behind: usize, header: &[u8; 20]) {
+    assert_same(rt, &octets.len(), &length);
+    let packet = octets.get(behind..length).expect(rt, "octets");
+    assert_holds(rt, packet.starts_with(header));
+}
+
+/// The packets of 1,400 and 1,401 octets come next, and then `stop`.
+fn then_packets(alloc: Global, script: &mut Vec<Arrival>) -> Result<(), AllocError> {
+    script.push(core_packet(alloc, &CORE_1400, &[7; 1380])?)?;
+    script.push(core_packet(alloc, &CORE_1401, &[7; 1381])?)?;
+    script.push(stop(0))?;
+    Ok(())
+}
+
+/// By these a call comes to its question, and by those to its address.
+const CALL_BEGINS: &[(Peer, &str)] = &[
+    (PLAIN, SCCRQ),
+    (PLAIN, SCCCN),
+    (PLAIN, ICRQ),
+    (PLAIN, ICCN),
+    (PLAIN, REQUEST_1400),
+    (PLAIN, ACK),
+    (PLAIN, PASSWORD),
+];
+
+const CALL_COMES: &[(Peer, &str)] = &[(PLAIN, ANY), (PLAIN, ASKS), (PLAIN, TAKES)];
+
+/// A call with that MRU comes to its address, and then come the packets.
+fn over_call(alloc: Global) -> Result<Vec<Arrival>, Fail> {
+    let mut script = Vec::new(alloc);
+    then_come(alloc, &mut script, CALL_BEGINS)?;
+    script.push(reply(alloc, 1812, ACCEPT)?)?;
+    then_come(alloc, &mut script, CALL_COMES)?;
+    then_packets(alloc, &mut script)?;
+    Ok(script)
+}
+
+/// A run sent a datagram with these octets, which are given in digits.
+fn is_among(rt: &impl Abort, alloc: Global, ended: &Ended, octets: &str) -> Result<(), Fail> {
+    let octets = hex::decode(alloc, octets)?;
+    let mut sent = ended.plant.sent().iter();
+    assert_holds(
+        rt,
+        sent.any(|datagram| datagram.octets.as_slice() == octets.as_slice()),
+    );
+    Ok(())
 }
 
 #[test]
 fn a_packet_longer_than_the_mru_does_not_go_over_a_call(rt: HostRuntime) -> Result<(), Fail> {
     let alloc = rt.alloc();
-    let mut script = Vec::new(alloc);
-    let begins = [
-        (PLAIN, SCCRQ),
-        (PLAIN, SCCCN),
-        (PLAIN, ICRQ),
-        (PLAIN, ICCN),
-        (PLAIN, REQUEST_1400),
-        (PLAIN, ACK),
-        (PLAIN, PASSWORD),
-    ];
-    then_come(alloc, &mut script, &begins)?;
-    script.push(reply(alloc, 1812, ACCEPT)?)?;
-    then_come(
-        alloc,
-        &mut script,
-        &[(PLAIN, ANY), (PLAIN, ASKS), (PLAIN, TAKES)],
-    )?;
-    script.push(core_packet(alloc, &CORE_1400, &[7; 1380])?)?;
-    script.push(core_packet(alloc, &CORE_1401, &[7; 1381])?)?;
-    script.push(stop(0))?;
-    let ended = run_calls(&rt, alloc, script, 10)?;
+    let ended = run_calls(&rt, alloc, over_call(alloc)?, 10)?;
     assert_status(&rt, &ended, 6);
-    let acked = hex::decode(alloc, ACKED_1400)?;
-    let mut sent = ended.plant.sent().iter();
-    assert_holds(
-        &rt,
-        sent.any(|datagram| datagram.octets.as_slice() == acked.as_slice()),
-    );
+    is_among(&rt, alloc, &ended, ACKED_1400)?;
     one_fits(&rt, &ended, Role::Tunnel, 1410, 10, &CORE_1400_DOWN);
     Ok(())
+}
+
+/// By these a host comes to its question, and by those to its address.
+const HOST_BEGINS: &[&[u8]] = &[PPP_REQUEST_1400, PAP_ACK, PPP_PASSWORD];
+
+const HOST_COMES: &[&[u8]] = &[PPP_ANY, PPP_ASKS, PPP_TAKES];
+
+/// A host with that MRU comes to its address, and then come the packets.
+fn to_host(alloc: Global) -> Result<Vec<Arrival>, Fail> {
+    let mut script = session(alloc, HOST_BEGINS)?;
+    script.push(reply(alloc, 1812, ACCEPT_50)?)?;
+    then_hears(alloc, &mut script, HOST_COMES)?;
+    then_packets(alloc, &mut script)?;
+    Ok(script)
 }
 
 #[test]
 fn a_packet_longer_than_the_mru_does_not_go_to_a_host(rt: HostRuntime) -> Result<(), Fail> {
     let alloc = rt.alloc();
-    let heard: [&[u8]; 3] = [PPP_REQUEST_1400, PAP_ACK, PPP_PASSWORD];
-    let mut script = session(alloc, &heard)?;
-    script.push(reply(alloc, 1812, ACCEPT_50)?)?;
-    for frame in [PPP_ANY, PPP_ASKS, PPP_TAKES] {
-        script.push(from_host(alloc, frame)?)?;
-    }
-    script.push(core_packet(alloc, &CORE_1400, &[7; 1380])?)?;
-    script.push(core_packet(alloc, &CORE_1401, &[7; 1381])?)?;
-    script.push(stop(0))?;
-    let ended = run_in(&rt, alloc, PAP, script, 10)?;
+    let ended = run_in(&rt, alloc, PAP, to_host(alloc)?, 10)?;
     assert_status(&rt, &ended, 6);
     one_fits(&rt, &ended, Role::Access(1), 1422, 22, &CORE_1400_DOWN);
     Ok(())
 }
 
-#[test]
-fn a_packet_longer_than_1492_octets_does_not_go_to_a_circuit(rt: HostRuntime) -> Result<(), Fail> {
-    let alloc = rt.alloc();
+/// The packets of 1,492 and 1,493 octets come to the circuit, and then `stop`.
+fn to_circuit(alloc: Global) -> Result<Vec<Arrival>, AllocError> {
     let mut script = Vec::new(alloc);
     script.push(core_packet(alloc, &CORE_1492, &[7; 1472])?)?;
     script.push(core_packet(alloc, &CORE_1493, &[7; 1473])?)?;
     script.push(stop(0))?;
-    let ended = run_in(&rt, alloc, CONFIGURATION, script, 10)?;
+    Ok(script)
+}
+
+#[test]
+fn a_packet_longer_than_1492_octets_does_not_go_to_a_circuit(rt: HostRuntime) -> Result<(), Fail> {
+    let alloc = rt.alloc();
+    let ended = run_in(&rt, alloc, CONFIGURATION, to_circuit(alloc)?, 10)?;
     assert_status(&rt, &ended, 6);
     one_fits(&rt, &ended, Role::Access(1), 1514, 22, &CORE_1492_DOWN);
     Ok(())

@@ -2,7 +2,7 @@
 //! sections 3 and 3.5). They and the replies were made as those about the circuit.
 use super::authentication::stop;
 use super::changes::{TO_GOLD, all_ask, asks, packet_100, replies, run_changes};
-use super::has;
+use super::{Ended, has};
 use crate::asserts::{assert_holds, assert_same};
 use bng_base::{Datagram, Ip4, Peer, Role};
 use bng_plant::Arrival;
@@ -132,7 +132,7 @@ fn each_cause_refuses_and_the_first_counts(rt: HostRuntime) -> Result<(), Fail> 
 }
 
 /// Datagrams of the peer that are passed over.
-const IGNORED: [&str; 8] = [
+const IGNORED: &[&str] = &[
     // an octet of the authenticator changed
     "2b010034ddefa9776ac7489797717e0eb072d84f2c1a3635353366313030303430313030303030303030303030310b06676f6c64",
     // a wrong Message-Authenticator
@@ -148,40 +148,48 @@ const IGNORED: [&str; 8] = [
     "2b",
 ];
 
+/// Event-Timestamps 300 s after the second on the wall and before it, in requests for the profile bronze; and the replies.
+const IN_TIME: &[&str] = &[
+    "2b0a003c6e2898f8968c67e949288377c75fe3f02c1a3635353366313030303430313030303030303030303030310b0862726f6e7a6537066553f22c",
+    "2b0b003cad5b232b109ebc34a632ea17d8427a572c1a3635353366313030303430313030303030303030303030310b0862726f6e7a6537066553efd4",
+];
+
+const IN_TIME_REPLIES: &[&str] = &[
+    "2c0a0014ac750fecd4f7b2abc82852798a394334",
+    "2c0b00149a72cf522e44e62440da2e7238b71937",
+];
+
+/// Who may not ask.
+const STRANGER: Peer = Peer {
+    ip: Ip4(0x7f00_0002),
+    port: 3798,
+};
+
+/// A request of a stranger comes, then those that are passed over, and the two in time; then a packet, and `stop`.
+fn ignored(alloc: Global) -> Result<Vec<Arrival>, Fail> {
+    let mut script = Vec::new(alloc);
+    let request = hex::decode(alloc, TO_GOLD)?;
+    script.push(Arrival::new(Role::Coa, STRANGER, request.as_slice()))?;
+    then_ask(alloc, &mut script, IGNORED)?;
+    then_ask(alloc, &mut script, IN_TIME)?;
+    script.push(packet_100())?;
+    script.push(stop(0))?;
+    Ok(script)
+}
+
+/// These requests come next, in this order.
+fn then_ask(alloc: Global, script: &mut Vec<Arrival>, requests: &[&str]) -> Result<(), Fail> {
+    for octets in requests {
+        script.push(asks(alloc, *octets)?)?;
+    }
+    Ok(())
+}
+
 #[test]
 fn what_is_not_admitted_is_passed_over(rt: HostRuntime) -> Result<(), Fail> {
     let alloc = rt.alloc();
-    let mut script = Vec::new(alloc);
-    let stranger = Peer {
-        ip: Ip4(0x7f00_0002),
-        port: 3798,
-    };
-    let request = hex::decode(alloc, TO_GOLD)?;
-    script.push(Arrival::new(Role::Coa, stranger, request.as_slice()))?;
-    for octets in IGNORED {
-        script.push(asks(alloc, octets)?)?;
-    }
-    // Event-Timestamps 300 s after the second on the wall and before it, in requests for the profile bronze.
-    script.push(asks(
-        alloc,
-        "2b0a003c6e2898f8968c67e949288377c75fe3f02c1a3635353366313030303430313030303030303030303030310b0862726f6e7a6537066553f22c",
-    )?)?;
-    script.push(asks(
-        alloc,
-        "2b0b003cad5b232b109ebc34a632ea17d8427a572c1a3635353366313030303430313030303030303030303030310b0862726f6e7a6537066553efd4",
-    )?)?;
-    script.push(packet_100())?;
-    script.push(stop(0))?;
-    let ended = run_changes(&rt, alloc, script, 10)?;
-    replies(
-        &rt,
-        alloc,
-        &ended,
-        &[
-            "2c0a0014ac750fecd4f7b2abc82852798a394334",
-            "2c0b00149a72cf522e44e62440da2e7238b71937",
-        ],
-    )?;
+    let ended = run_changes(&rt, alloc, ignored(alloc)?, 10)?;
+    replies(&rt, alloc, &ended, IN_TIME_REPLIES)?;
     assert_holds(
         &rt,
         has(
@@ -193,7 +201,7 @@ fn what_is_not_admitted_is_passed_over(rt: HostRuntime) -> Result<(), Fail> {
 }
 
 /// Disconnect-Requests with the Identifiers 1 to 33 that name no session.
-const NAMELESS: [&str; 33] = [
+const NAMELESS: &[&str] = &[
     "2801001457f7aa0a68bc6f421eb2d57a4c7c1cdb",
     "28020014a0d9422e553cc1d7c5be4d10e0a838ee",
     "28030014ab401f26985b1dcf82f05ff47ad523d4",
@@ -229,8 +237,8 @@ const NAMELESS: [&str; 33] = [
     "28210014c9973309073b66d7178c0b22caafb973",
 ];
 
-/// This is the reply with Missing Attribute to the request of this Identifier.
-fn lacks_attribute(rt: &impl Abort, found: Option<&Datagram>, id: u8) {
+/// Asserts that this is the reply with Missing Attribute to the request of this Identifier.
+fn assert_missing_attribute(rt: &impl Abort, found: Option<&Datagram>, id: u8) {
     let datagram = found.expect(rt, "a datagram");
     let octets = datagram.octets.as_slice();
     assert_same(rt, &datagram.role, &Role::Coa);
@@ -239,27 +247,39 @@ fn lacks_attribute(rt: &impl Abort, found: Option<&Datagram>, id: u8) {
     assert_same(rt, &octets.len(), &26);
 }
 
+/// All of them come, then a packet, and `stop`.
+fn nameless(alloc: Global) -> Result<Vec<Arrival>, Fail> {
+    let mut script = Vec::new(alloc);
+    then_ask(alloc, &mut script, NAMELESS)?;
+    script.push(packet_100())?;
+    script.push(stop(0))?;
+    Ok(script)
+}
+
+/// A run sent the replies to the first 32, and then the packet: it is sent before the replies of its turn, and with it comes the 33rd
+/// request. Then it sent the reply to that, and the answer to `stop`.
+fn sends_32_and_one(rt: &impl Abort, ended: &Ended) {
+    let sent = ended.plant.sent().iter();
+    let mut others = sent.filter(|datagram| datagram.role != Role::Acct);
+    for id in 1..33u8 {
+        assert_missing_attribute(rt, others.next(), id);
+    }
+    assert_role(rt, others.next(), Role::Core);
+    assert_missing_attribute(rt, others.next(), 33);
+    assert_role(rt, others.next(), Role::Control);
+    assert_holds(rt, others.next().is_none());
+}
+
+/// Asserts that this is a datagram of this role.
+fn assert_role(rt: &impl Abort, found: Option<&Datagram>, role: Role) {
+    let datagram = found.expect(rt, "a datagram");
+    assert_same(rt, &datagram.role, &role);
+}
+
 #[test]
 fn a_turn_takes_32_requests(rt: HostRuntime) -> Result<(), Fail> {
     let alloc = rt.alloc();
-    let mut script = Vec::new(alloc);
-    for octets in NAMELESS {
-        script.push(asks(alloc, octets)?)?;
-    }
-    script.push(packet_100())?;
-    script.push(stop(0))?;
-    let ended = run_changes(&rt, alloc, script, 10)?;
-    let sent = ended.plant.sent().iter();
-    let mut others = sent.filter(|datagram| datagram.role != Role::Acct);
-    // A packet is sent before the replies of its turn: with it comes the 33rd request.
-    for id in 1..33u8 {
-        lacks_attribute(&rt, others.next(), id);
-    }
-    let datagram = others.next().expect(&rt, "a datagram");
-    assert_same(&rt, &datagram.role, &Role::Core);
-    lacks_attribute(&rt, others.next(), 33);
-    let last = others.next().expect(&rt, "an answer");
-    assert_same(&rt, &last.role, &Role::Control);
-    assert_holds(&rt, others.next().is_none());
+    let ended = run_changes(&rt, alloc, nameless(alloc)?, 10)?;
+    sends_32_and_one(&rt, &ended);
     Ok(())
 }

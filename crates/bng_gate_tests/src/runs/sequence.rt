@@ -4,7 +4,8 @@ ghost use Rattle.bng_base.specs.Causes.{HasCause};
 ghost use Rattle.bng_plant.specs.Calls.{IsFilled};
 
 use super::concentrator::{PLAIN, TUNNELS};
-use super::{SERVE, around, loopback, run_with, seed};
+use super::loopback;
+use super::running::{SERVE, around, run_with, seed};
 use crate::asserts::{assert_holds, assert_same};
 use bng_base::{Frame, Peer, Received, Role};
 use bng_plant::{Bound, MemoryClock, NoTrace, Plant, Sending};

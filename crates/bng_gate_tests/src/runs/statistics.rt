@@ -1,10 +1,12 @@
 //! What Control is told of a run: the report without its lines of circuits.
 use super::authentication::stop;
 use super::changes::{packet_100, run_changes};
-use super::loopback;
+use super::{Ended, loopback};
 use crate::asserts::{assert_holds, assert_octets, assert_same};
-use bng_base::{Ip4, Peer, Role};
+use bng_base::{Datagram, Ip4, Peer, Role};
 use bng_plant::Arrival;
+use std::alloc::{AllocError, Global};
+use std::process::Abort;
 use std::test::Fail;
 
 /// Before anything passed, and once a packet of 100 octets has.
@@ -20,29 +22,49 @@ const STRANGER: Peer = Peer {
     port: 5,
 };
 
+/// A datagram of this peer to Control.
+fn told(from: Peer, octets: &[u8]) -> Arrival {
+    Arrival::new(Role::Control, from, octets)
+}
+
+/// A packet passes in the first turn, and one octet is no frame. The next turn tells of them.
+fn questions(alloc: Global) -> Result<Vec<Arrival>, AllocError> {
+    let mut script = Vec::new(alloc);
+    script.push(told(loopback(5), b"stats"))?;
+    script.push(told(STRANGER, b"stats"))?;
+    script.push(told(loopback(5), b"stats\n"))?;
+    script.push(told(loopback(5), b"statistics"))?;
+    script.push(packet_100())?;
+    script.push(Arrival::new(Role::Access(1), loopback(9011), &[0]))?;
+    script.push(told(loopback(5), b"stats"))?;
+    script.push(stop(0))?;
+    Ok(script)
+}
+
+/// The texts of the answers.
+const ANSWERS: &[&[u8]] = &[NOTHING, NOTHING, b"unknown\n", PASSED, b"stopping\n"];
+
+/// This is the answer to port 5 of 127.0.0.1 with this text.
+fn assert_answer(rt: &impl Abort, found: Option<&Datagram>, text: &[u8]) {
+    let answer = found.expect(rt, "an answer");
+    assert_same(rt, &answer.peer, &loopback(5));
+    assert_octets(rt, answer.octets.as_slice(), text);
+}
+
+/// What a run sent from Control are answers with these texts, and no more.
+fn answers(rt: &impl Abort, ended: &Ended, wanted: &[&[u8]]) {
+    let sent = ended.plant.sent().iter();
+    let mut answers = sent.filter(|datagram| datagram.role == Role::Control);
+    for text in wanted {
+        assert_answer(rt, answers.next(), text);
+    }
+    assert_holds(rt, answers.next().is_none());
+}
+
 #[test]
 fn stats_is_answered_by_what_was_counted_so_far(rt: HostRuntime) -> Result<(), Fail> {
     let alloc = rt.alloc();
-    let control = Role::Control;
-    let mut script = Vec::new(alloc);
-    script.push(Arrival::new(control, loopback(5), b"stats"))?;
-    script.push(Arrival::new(control, STRANGER, b"stats"))?;
-    script.push(Arrival::new(control, loopback(5), b"stats\n"))?;
-    script.push(Arrival::new(control, loopback(5), b"statistics"))?;
-    // A packet passes in the first turn, and one octet is no frame. The next turn tells of them.
-    script.push(packet_100())?;
-    script.push(Arrival::new(Role::Access(1), loopback(9011), &[0]))?;
-    script.push(Arrival::new(control, loopback(5), b"stats"))?;
-    script.push(stop(0))?;
-    let ended = run_changes(&rt, alloc, script, 10)?;
-    let sent = ended.plant.sent().iter();
-    let mut answers = sent.filter(|datagram| datagram.role == Role::Control);
-    let wanted: [&[u8]; 5] = [NOTHING, NOTHING, b"unknown\n", PASSED, b"stopping\n"];
-    for text in wanted {
-        let answer = answers.next().expect(&rt, "an answer");
-        assert_same(&rt, &answer.peer, &loopback(5));
-        assert_octets(&rt, answer.octets.as_slice(), text);
-    }
-    assert_holds(&rt, answers.next().is_none());
+    let ended = run_changes(&rt, alloc, questions(alloc)?, 10)?;
+    answers(&rt, &ended, ANSWERS);
     Ok(())
 }
