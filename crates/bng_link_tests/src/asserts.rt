@@ -9,6 +9,17 @@ pub(crate) fn assert_same<T: PartialEq + Debug>(rt: &impl Abort, found: &T, want
     assert_eq!(rt; found, wanted);
 }
 
+/// The test fails where these, which are of the packet with this code and these octets, differ: it tells the packet too.
+pub(crate) fn assert_same_of<T: PartialEq + Debug>(
+    rt: &impl Abort,
+    code: u8,
+    octets: &[u8],
+    found: &T,
+    wanted: &T,
+) {
+    assert_eq!(rt; found, wanted, "{code} {octets:?}");
+}
+
 /// The test fails where these octets differ.
 pub(crate) fn assert_octets(rt: &impl Abort, found: &[u8], wanted: &[u8]) {
     assert_eq!(rt; found, wanted);

@@ -1,10 +1,12 @@
-use crate::asserts::{assert_octets, assert_same};
+use crate::asserts::{assert_octets, assert_same, assert_same_of};
+use crate::judged::printed;
 use arrayvec::ArrayVec;
 use bng_base::{AuthKind, Frame};
-use bng_lcp::{Judged, LcpAsk, LcpOptions, LcpRules, Taken, judge};
+use bng_lcp::{LcpAsk, LcpOptions, LcpRules, Taken, judge};
 use bng_ppp_wire::code::{CONFIGURE_ACK, CONFIGURE_NAK, CONFIGURE_REJECT};
 use bng_ppp_wire::{Packet, options};
 use std::alloc::{AllocError, Global};
+use std::process::Abort;
 use std::test::Fail;
 
 const RULES: LcpRules = LcpRules {
@@ -15,7 +17,7 @@ const RULES: LcpRules = LcpRules {
 };
 
 // The body of a Configure-Request, and the answer with each option's type and data.
-const JUDGED: [(&[u8], &str); 12] = [
+const JUDGED: &[(&[u8], &str)] = &[
     (
         &[1, 4, 5, 0xd4, 5, 6, 0x11, 0x22, 0x33, 0x44, 7, 2, 8, 2],
         "Reject 7[] 8[]",
@@ -51,56 +53,62 @@ fn answer(alloc: Global, body: &[u8], rules: &LcpRules) -> Result<String, AllocE
     let Ok(list) = options(&request) else {
         return String::from_str(alloc, "malformed");
     };
-    let mut text = String::new(alloc);
-    match judge(list.as_slice(), rules) {
-        Judged::Ack => text.push_str("Ack")?,
-        Judged::Nak(made) => {
-            text.push_str("Nak")?;
-            for option in made.as_slice() {
-                let (kind, value) = (option.kind, option.value.as_slice());
-                text.push_str(format!(in alloc; " {kind}{value:?}")?.as_str())?;
-            }
-        }
-        Judged::Reject(options) => {
-            text.push_str("Reject")?;
-            for option in options.as_slice() {
-                let (kind, value) = (option.kind, option.value);
-                text.push_str(format!(in alloc; " {kind}{value:?}")?.as_str())?;
-            }
-        }
-    }
-    Ok(text)
+    printed(alloc, &judge(list.as_slice(), rules))
+}
+
+// Asserts the answer to a Configure-Request with this body.
+fn assert_judged(
+    rt: &impl Abort,
+    alloc: Global,
+    body: &[u8],
+    rules: &LcpRules,
+    want: &str,
+) -> Result<(), Fail> {
+    let text = answer(alloc, body, rules)?;
+    assert_same(rt, &text.as_str(), &want);
+    Ok(())
 }
 
 #[test]
 fn requests_are_judged_by_type_length_and_value(rt: HostRuntime) -> Result<(), Fail> {
-    for (body, want) in JUDGED.iter() {
-        let text = answer(rt.alloc(), body, &RULES)?;
-        assert_same(&rt, &text.as_str(), want);
+    for (body, want) in JUDGED {
+        assert_judged(&rt, rt.alloc(), body, &RULES, want)?;
     }
     Ok(())
 }
 
+// RULES after the last Configure-Nak.
+const WITHOUT_NAKS: LcpRules = LcpRules {
+    no_more_naks: true,
+    ..RULES
+};
+
+// A Maximum-Receive-Unit that is too large, and a magic number.
+const TOO_LARGE: &[u8] = &[1, 4, 5, 0xd5, 5, 6, 1, 1, 1, 1];
+
 #[test]
 fn after_the_last_nak_it_rejects(rt: HostRuntime) -> Result<(), Fail> {
-    let rules = LcpRules {
-        no_more_naks: true,
-        ..RULES
-    };
-    let text = answer(rt.alloc(), &[1, 4, 5, 0xd5, 5, 6, 1, 1, 1, 1], &rules)?;
-    assert_same(&rt, &text.as_str(), &"Reject 1[5, 213]");
-    Ok(())
+    assert_judged(
+        &rt,
+        rt.alloc(),
+        TOO_LARGE,
+        &WITHOUT_NAKS,
+        "Reject 1[5, 213]",
+    )
 }
+
+// A magic number that is 0.
+const NO_MAGIC: &[u8] = &[5, 6, 0, 0, 0, 0];
+
+// RULES where 0 was drawn for what is suggested.
+const WITH_0: LcpRules = LcpRules {
+    fresh_magic: 0,
+    ..RULES
+};
 
 #[test]
 fn a_suggested_magic_number_is_never_0(rt: HostRuntime) -> Result<(), Fail> {
-    let rules = LcpRules {
-        fresh_magic: 0,
-        ..RULES
-    };
-    let text = answer(rt.alloc(), &[5, 6, 0, 0, 0, 0], &rules)?;
-    assert_same(&rt, &text.as_str(), &"Nak 5[0, 0, 0, 1]");
-    Ok(())
+    assert_judged(&rt, rt.alloc(), NO_MAGIC, &WITH_0, "Nak 5[0, 0, 0, 1]")
 }
 
 const RANDOM: [u8; 16] = [9, 8, 7, 6, 0, 0, 0, 0, 0, 0, 0, 0, 0, 0, 0, 0];
@@ -112,12 +120,12 @@ const FIRST: LcpOptions = LcpOptions {
     magic: Some(0xa1b2c3d4),
 };
 
-const SENT: [u8; 19] = [
+const SENT: &[u8] = &[
     1, 7, 0, 19, 1, 4, 5, 0xd4, 3, 5, 0xc2, 0x23, 5, 5, 6, 0xa1, 0xb2, 0xc3, 0xd4,
 ];
 
 // The code, identifier and body of a reply to it, what becomes of it, and what is asked for then.
-const TAKEN: [(u8, u8, &[u8], Taken, LcpOptions); 14] = [
+const TAKEN: &[(u8, u8, &[u8], Taken, LcpOptions)] = &[
     (
         2,
         7,
@@ -199,22 +207,72 @@ const TAKEN: [(u8, u8, &[u8], Taken, LcpOptions); 14] = [
     (7, 7, &[1, 4, 5, 0xd4], Taken::Ignored, FIRST),
 ];
 
+// It was asked with Identifier 7 for what the gateway asks for at first.
+fn first_asked(rt: &impl Abort) -> LcpAsk {
+    let both = ArrayVec::from([AuthKind::Chap, AuthKind::Pap]);
+    let mut ask = LcpAsk::new(1492, 0xa1b2c3d4, both);
+    let mut frame = Frame::new();
+    ask.request(7, &mut frame);
+    assert_octets(rt, frame.payload(), SENT);
+    ask
+}
+
+// Asserts what becomes of a reply to the request, and what is asked for then.
+fn assert_taken(rt: &impl Abort, reply: &Packet<'_>, want: Taken, wanted: LcpOptions) {
+    let mut ask = first_asked(rt);
+    let taken = ask.on_reply(reply, &RANDOM);
+    assert_same_of(rt, reply.code, reply.body, &taken, &want);
+    assert_same_of(rt, reply.code, reply.body, &ask.wanted(), &wanted);
+}
+
 #[test]
 fn replies_are_taken_as_the_standard_says(rt: HostRuntime) {
-    for (code, id, body, want, wanted) in TAKEN.iter() {
-        let both = ArrayVec::from([AuthKind::Chap, AuthKind::Pap]);
-        let mut ask = LcpAsk::new(1492, 0xa1b2c3d4, both);
-        let mut frame = Frame::new();
-        ask.request(7, &mut frame);
-        assert_same(&rt, &frame.payload(), &SENT.as_slice());
+    for (code, id, body, want, wanted) in TAKEN {
         let reply = Packet {
             code: *code,
             id: *id,
             body,
         };
-        assert_eq!(rt; ask.on_reply(&reply, &RANDOM), *want, "{code} {body:?}");
-        assert_eq!(rt; ask.wanted(), *wanted, "{code} {body:?}");
+        assert_taken(&rt, &reply, *want, *wanted);
     }
+}
+
+// A Configure-Reject of the Maximum-Receive-Unit and of the magic number.
+const REFUSED: Packet<'static> = Packet {
+    code: CONFIGURE_REJECT,
+    id: 1,
+    body: &[1, 4, 5, 0xdc, 5, 6, 0, 0, 0, 1],
+};
+
+// A Configure-Nak that suggests both again, and CHAP.
+const SUGGESTED: Packet<'static> = Packet {
+    code: CONFIGURE_NAK,
+    id: 2,
+    body: &[1, 4, 2, 0, 5, 6, 1, 1, 1, 1, 3, 5, 0xc2, 0x23, 5],
+};
+
+// A Configure-Ack of PAP.
+const AGREED: Packet<'static> = Packet {
+    code: CONFIGURE_ACK,
+    id: 2,
+    body: &[3, 4, 0xc0, 0x23],
+};
+
+// The second request, which asks for PAP alone.
+const SECOND: &[u8] = &[1, 2, 0, 8, 3, 4, 0xc0, 0x23];
+
+// Both are rejected of the first request, with Identifier 1.
+fn reject_first(rt: &impl Abort, ask: &mut LcpAsk, frame: &mut Frame) {
+    ask.request(1, frame);
+    assert_same(rt, &ask.on_reply(&REFUSED, &RANDOM), &Taken::Changed);
+}
+
+// They stay out of the second one, and a suggestion of them does not bring them back.
+fn agree_to_second(rt: &impl Abort, ask: &mut LcpAsk, frame: &mut Frame) {
+    ask.request(2, frame);
+    assert_octets(rt, frame.payload(), SECOND);
+    assert_same(rt, &ask.on_reply(&SUGGESTED, &RANDOM), &Taken::Changed);
+    assert_same(rt, &ask.on_reply(&AGREED, &RANDOM), &Taken::Accepted);
 }
 
 #[test]
@@ -222,29 +280,6 @@ fn what_was_rejected_stays_out(rt: HostRuntime) {
     let only = ArrayVec::from([AuthKind::Pap, AuthKind::Pap]);
     let mut ask = LcpAsk::new(1500, 0, only);
     let mut frame = Frame::new();
-    ask.request(1, &mut frame);
-    let refused = Packet {
-        code: CONFIGURE_REJECT,
-        id: 1,
-        body: &[1, 4, 5, 0xdc, 5, 6, 0, 0, 0, 1],
-    };
-    assert_same(&rt, &ask.on_reply(&refused, &RANDOM), &Taken::Changed);
-    ask.request(2, &mut frame);
-    assert_octets(
-        &rt,
-        frame.payload(),
-        &[1, 2, 0, 8, 3, 4, 0xc0, 0x23].as_slice(),
-    );
-    let suggested = Packet {
-        code: CONFIGURE_NAK,
-        id: 2,
-        body: &[1, 4, 2, 0, 5, 6, 1, 1, 1, 1, 3, 5, 0xc2, 0x23, 5],
-    };
-    assert_same(&rt, &ask.on_reply(&suggested, &RANDOM), &Taken::Changed);
-    let agreed = Packet {
-        code: CONFIGURE_ACK,
-        id: 2,
-        body: &[3, 4, 0xc0, 0x23],
-    };
-    assert_same(&rt, &ask.on_reply(&agreed, &RANDOM), &Taken::Accepted);
+    reject_first(&rt, &mut ask, &mut frame);
+    agree_to_second(&rt, &mut ask, &mut frame);
 }

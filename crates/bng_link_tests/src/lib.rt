@@ -12,9 +12,13 @@ mod discovery;
 #[cfg(test)]
 mod ipcp;
 #[cfg(test)]
+mod judged;
+#[cfg(test)]
 mod lcp;
 #[cfg(test)]
 mod ppp;
+#[cfg(test)]
+mod whole_ends;
 #[cfg(test)]
 mod whole_fixtures;
 #[cfg(test)]

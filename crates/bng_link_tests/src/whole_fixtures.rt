@@ -1,9 +1,11 @@
 //! What the tests of a whole link share.
 ghost use Rattle.std.specs.Prelude.{◌<◌, ◌^◌, length};
 
+use crate::asserts::{assert_holds, assert_octets};
 use arrayvec::ArrayVec;
 use bng_base::{AuthKind, Ip4};
 use bng_ppp::{LinkKind, LinkRules, WholeInput, WholeLink, WholeSteps};
+use std::process::Abort;
 
 // The gateway's magic number is a1b2c3d4, and these octets are its Challenge.
 pub(crate) const RANDOM: [u8; 16] = [
@@ -28,21 +30,41 @@ pub(crate) const RESPONSE: &[u8] =
 
 pub(crate) const PAP_REQUEST: &[u8] = b"\xc0\x23\x01\x07\x00\x0c\x02u0\x04pass";
 
-pub(crate) fn rules(auth: AuthKind, echo: u16) -> LinkRules
-    ensures { 0 < length result.auth.items }
-{
-    let mut only = ArrayVec::new();
-    only.push(auth);
+// The peer's Ack of the gateway's address, and its request for the address 10.0.0.2 alone.
+const ADDRESS_ACK: &[u8] = b"\x80\x21\x02\x01\x00\x0a\x03\x06\x0a\x00\x00\x01";
+
+const ADDRESS_REQUEST: &[u8] = b"\x80\x21\x01\x01\x00\x0a\x03\x06\x0a\x00\x00\x02";
+
+// The gateway's Terminate-Request, with Identifier 2.
+pub(crate) const TERMINATE: &[u8] = b"\xc0\x21\x05\x02\x00\x04";
+
+// The gateway's name.
+fn name() -> ArrayVec<u8, 64> {
     let mut name = ArrayVec::new();
     name.push(b'b');
     name.push(b'n');
     name.push(b'g');
     name.push(b'1');
+    name
+}
+
+// A list of this way to authenticate alone.
+fn only(auth: AuthKind) -> ArrayVec<AuthKind, 2>
+    ensures { 0 < length result.items }
+{
+    let mut only = ArrayVec::new();
+    only.push(auth);
+    only
+}
+
+pub(crate) fn rules(auth: AuthKind, echo: u16) -> LinkRules
+    ensures { 0 < length result.auth.items }
+{
     LinkRules {
-        name,
+        name: name(),
         address: Ip4(0x0a00_0001),
         dns: [Some(Ip4(0xc000_0235)), Some(Ip4(0xc000_0236))],
-        auth: only,
+        auth: only(auth),
         echo,
     }
 }
@@ -90,15 +112,37 @@ pub(crate) fn verdict_with(yes: bool, lease: Option<Ip4>, octets: &[u8]) -> Whol
     WholeInput::Verdict { yes, lease, text }
 }
 
+// Hears a frame, whatever the link does then.
+pub(crate) fn take(link: &mut WholeLink, rules: &LinkRules, octets: &[u8])
+    requires { 0 < length rules.now.auth.items }
+{
+    let _steps = hear(link, rules, octets);
+}
+
+// A link that has been started.
+pub(crate) fn started(kind: LinkKind, rules: &LinkRules) -> WholeLink
+    requires { 0 < length rules.now.auth.items }
+{
+    let mut link = WholeLink::new(kind, &RANDOM, 0);
+    let _asked = tell(&mut link, rules, WholeInput::Start, 0);
+    link
+}
+
 // A link whose LCP is Opened.
 pub(crate) fn opened(rules: &LinkRules, ack: &[u8]) -> WholeLink
     requires { 0 < length rules.now.auth.items }
 {
-    let mut link = WholeLink::new(LinkKind::Pppoe, &RANDOM, 0);
-    let _asked = tell(&mut link, rules, WholeInput::Start, 0);
-    let _answered = hear(&mut link, rules, REQUEST);
-    let _opened = hear(&mut link, rules, ack);
+    let mut link = started(LinkKind::Pppoe, rules);
+    take(&mut link, rules, REQUEST);
+    take(&mut link, rules, ack);
     link
+}
+
+// Accepts a peer, which is to have the address 10.0.0.2, whatever the link does then.
+fn accept(link: &mut WholeLink, rules: &LinkRules)
+    requires { 0 < length rules.now.auth.items }
+{
+    let _accepted = tell(link, rules, verdict(true, b""), 0);
 }
 
 // A link whose peer was accepted by CHAP and has its address.
@@ -106,17 +150,45 @@ pub(crate) fn served(rules: &LinkRules) -> WholeLink
     requires { 0 < length rules.now.auth.items }
 {
     let mut link = opened(rules, CHAP_ACK);
-    let _asked = hear(&mut link, rules, RESPONSE);
-    let _accepted = tell(&mut link, rules, verdict(true, b""), 0);
-    let _acked = hear(
-        &mut link,
-        rules,
-        b"\x80\x21\x02\x01\x00\x0a\x03\x06\x0a\x00\x00\x01",
-    );
-    let _served = hear(
-        &mut link,
-        rules,
-        b"\x80\x21\x01\x01\x00\x0a\x03\x06\x0a\x00\x00\x02",
-    );
+    take(&mut link, rules, RESPONSE);
+    accept(&mut link, rules);
+    take(&mut link, rules, ADDRESS_ACK);
+    take(&mut link, rules, ADDRESS_REQUEST);
     link
+}
+
+// Hears a frame: the octets of the first frame that is sent then are these, none where no frame is sent.
+pub(crate) fn assert_answer(
+    rt: &impl Abort,
+    link: &mut WholeLink,
+    rules: &LinkRules,
+    octets: &[u8],
+    answer: &[u8],
+)
+    requires { 0 < length rules.now.auth.items }
+{
+    let steps = hear(link, rules, octets);
+    assert_octets(rt, sent(&steps, 0), answer);
+}
+
+// The octets of the first frame that is sent at this moment are these.
+pub(crate) fn assert_sent_at(
+    rt: &impl Abort,
+    link: &mut WholeLink,
+    rules: &LinkRules,
+    now: u64,
+    frame: &[u8],
+)
+    requires moment { now < 2 ^ 60 }
+    requires some { 0 < length rules.now.auth.items }
+{
+    let steps = tell(link, rules, WholeInput::Timer, now);
+    assert_octets(rt, sent(&steps, 0), frame);
+}
+
+// The link asks who the peer is when it hears this request.
+pub(crate) fn assert_asks(rt: &impl Abort, link: &mut WholeLink, rules: &LinkRules, request: &[u8])
+    requires { 0 < length rules.now.auth.items }
+{
+    assert_holds(rt, hear(link, rules, request).asked.is_some());
 }
