@@ -183,9 +183,11 @@ fn long_host_uniq() -> [u8; 73] {
 #[test]
 fn the_first_host_uniq_has_at_most_64_octets(rt: HostRuntime) {
     let payload = two_host_uniqs();
-    assert_taken(&rt, PADI, 0, &payload[..72], Some(true));
+    let first = payload.get(..72).expect(&rt, "the first Host-Uniq");
+    assert_taken(&rt, PADI, 0, first, Some(true));
     assert_taken(&rt, PADI, 0, &payload, Some(true));
-    assert_taken(&rt, PADT, 0, &payload[72..], Some(true));
+    let second = payload.get(72..).expect(&rt, "the second one");
+    assert_taken(&rt, PADT, 0, second, Some(true));
     assert_taken(&rt, PADI, 0, &long_host_uniq(), Some(false));
 }
 
