@@ -136,16 +136,6 @@ const SECOND: Shown = Some((0, 0, 1));
 
 const OUTS: [Shown; 3] = [FIRST, SECOND, None];
 
-// The Nr of a ZLB, and what is in flight after it.
-const LEFT: &[(u16, [Shown; 3])] = &[
-    // Acknowledgements that are passed over: an old one, and one of what was not sent.
-    (65_534, [FIRST, SECOND, None]),
-    (2, [FIRST, SECOND, None]),
-    (65_535, [FIRST, SECOND, None]),
-    (0, [SECOND, None, None]),
-    (1, [None, None, None]),
-];
-
 // Asserts what is in flight after a ZLB with this Nr.
 fn assert_left(rt: &impl Abort, channel: &mut Channel, nr: u16, left: &[Shown; 3]) {
     acknowledge(channel, nr, 0);
@@ -153,17 +143,34 @@ fn assert_left(rt: &impl Abort, channel: &mut Channel, nr: u16, left: &[Shown; 3
     assert_eq!(rt; &found, left, "after {nr}");
 }
 
+// Sends 65,535 messages, each of which is acknowledged.
+fn send_up_to_65535(channel: &mut Channel) {
+    for ns in 0..65_535 {
+        send_one(channel, ns + 1);
+    }
+}
+
+// Asserts what is in flight after acknowledgements that are passed over: an old one, and one of what was not sent.
+fn assert_passed_over(rt: &impl Abort, channel: &mut Channel) {
+    assert_left(rt, channel, 65_534, &OUTS);
+    assert_left(rt, channel, 2, &OUTS);
+    assert_left(rt, channel, 65_535, &OUTS);
+}
+
+// Asserts what is in flight after the acknowledgement of the first, and after that of both.
+fn assert_taken_off(rt: &impl Abort, channel: &mut Channel) {
+    assert_left(rt, channel, 0, &[SECOND, None, None]);
+    assert_left(rt, channel, 1, &[None, None, None]);
+}
+
 #[test]
 fn sent_numbers_go_on_from_65535_to_0(rt: HostRuntime) -> Result<(), Fail> {
     let mut channel = Channel::new(2, 0);
-    for ns in 0..65_535 {
-        send_one(&mut channel, ns + 1);
-    }
+    send_up_to_65535(&mut channel);
     queue_three(&mut channel);
     assert_same(&rt, &next_three(&mut channel), &OUTS);
-    for (nr, left) in LEFT {
-        assert_left(&rt, &mut channel, *nr, left);
-    }
+    assert_passed_over(&rt, &mut channel);
+    assert_taken_off(&rt, &mut channel);
     assert_same(&rt, &next(&mut channel), &Some((1, 0, 2)));
     Ok(())
 }
