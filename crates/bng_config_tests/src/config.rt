@@ -1,7 +1,5 @@
-use crate::asserts::{assert_count, assert_octets, assert_same};
-use bng_base::{
-    AccessPort, AuthKind, CoaPart, Ip4, Lac, Listed, Mac, NamedRange, Peer, Profile, Rate, Static,
-};
+use crate::asserts::{assert_count, assert_octets};
+use bng_base::{AuthKind, Listed, Rate};
 use bng_config::{Config, ConfigError, Fault, fault_text, read};
 use bng_schema::{Field, Key, Rule, Table};
 use std::alloc::{AllocError, Global};
@@ -13,8 +11,15 @@ mod example;
 mod forms;
 mod lists;
 mod order;
+mod parts;
 mod together;
 mod unknown;
+
+use parts::{
+    CircuitRow, PoolRow, PortRow, ProfileRow, assert_address, assert_addresses, assert_circuits,
+    assert_coa, assert_kinds, assert_lacs, assert_numbers, assert_pools, assert_ports,
+    assert_profiles, assert_services, assert_sockets,
+};
 
 /// A configuration with all tables and keys. The two pools have all addresses that there is room for.
 const FULL: &str = r#"[gateway]
@@ -104,13 +109,6 @@ pool = [{ name = "main", first = "10.0.0.2", last = "10.0.0.101" }]
 /// 64 octets.
 const LONGEST: &str = "0123456789abcdef0123456789abcdef0123456789abcdef0123456789abcdef";
 
-const fn loopback(port: u16) -> Peer {
-    Peer {
-        ip: Ip4(0x7f00_0001),
-        port,
-    }
-}
-
 fn config_of(rt: &impl Abort, alloc: Global, text: &str) -> Config {
     match read(alloc, text.as_bytes()) {
         Ok(config) => config,
@@ -147,15 +145,21 @@ fn assert_told(
     Ok(())
 }
 
-/// The text with another line in the place of this one, where it stands last.
-fn changed(alloc: Global, whole: &str, line: &str, other: &str) -> Result<String, AllocError> {
-    let mut text = String::new(alloc);
-    if let Some((front, back)) = whole.rsplit_once(line) {
-        text.push_str(front)?;
-        text.push_str(other)?;
-        text.push_str(back)?;
-    }
+/// These three texts as one.
+fn joined(alloc: Global, front: &str, middle: &str, back: &str) -> Result<String, AllocError> {
+    let mut text = String::from_str(alloc, front)?;
+    text.push_str(middle)?;
+    text.push_str(back)?;
     Ok(text)
+}
+
+/// The text with another line in the place of this one, where it stands last.
+/// It is empty where that line does not stand.
+fn changed(alloc: Global, whole: &str, line: &str, other: &str) -> Result<String, AllocError> {
+    match whole.rsplit_once(line) {
+        Some((front, back)) => joined(alloc, front, other, back),
+        None => Ok(String::new(alloc)),
+    }
 }
 
 /// The text with 64 octets in the place of the word `LONGEST`, where it has that word.
@@ -166,122 +170,41 @@ fn filled(alloc: Global, whole: &str) -> Result<String, AllocError> {
     }
 }
 
+/// The text with 64 octets in the place of each of the last two words `LONGEST`, as far as it has them.
+fn filled_twice(alloc: Global, whole: &str) -> Result<String, AllocError> {
+    let text = filled(alloc, whole)?;
+    filled(alloc, text.as_str())
+}
+
+/// A line of a configuration, another in its place, and what is told then.
+type Row<'a> = (&'a str, &'a str, &'a str);
+
+/// This is told of a configuration with the other line of a row.
+fn assert_row(rt: &impl Abort, alloc: Global, whole: &str, row: &Row) -> Result<(), AllocError> {
+    let (line, other, wanted) = *row;
+    let text = changed(alloc, whole, line, other)?;
+    let text = filled_twice(alloc, text.as_str())?;
+    assert_told(rt, alloc, text.as_bytes(), wanted)
+}
+
 /// Each row is a line of the configuration, what is put in its place, and what is told then.
 fn assert_rows(
     rt: &impl Abort,
     alloc: Global,
     whole: &str,
-    rows: &[(&str, &str, &str)],
+    rows: &[Row],
 ) -> Result<(), AllocError> {
-    for (line, other, wanted) in rows {
-        let text = changed(alloc, whole, line, other)?;
-        let text = filled(alloc, text.as_str())?;
-        let text = filled(alloc, text.as_str())?;
-        assert_told(rt, alloc, text.as_bytes(), wanted)?;
+    for row in rows {
+        assert_row(rt, alloc, whole, row)?;
     }
     Ok(())
 }
 
-fn assert_number(rt: &impl Abort, number: u64, wanted: u64) {
-    assert_eq!(rt; number, wanted);
-}
-
-fn assert_address(rt: &impl Abort, address: Ip4, wanted: u32) {
-    assert_eq!(rt; address.0, wanted);
-}
-
-fn assert_peer(rt: &impl Abort, peer: Peer, wanted: u16) {
-    assert_eq!(rt; peer, loopback(wanted));
-}
-
-fn assert_mac(rt: &impl Abort, mac: Mac, wanted: u8) {
-    assert_eq!(rt; mac, Mac([2, 0, 0, 0, 0, wanted]));
-}
-
-fn assert_kinds(rt: &impl Abort, kinds: &[AuthKind], wanted: &[AuthKind]) {
-    assert_eq!(rt; kinds, wanted);
-}
-
-fn assert_addresses(rt: &impl Abort, addresses: &[Ip4], wanted: &[u32]) {
-    assert_count(rt, addresses.len(), wanted.len());
-    for (address, number) in addresses.iter().zip(wanted) {
-        assert_address(rt, *address, *number);
-    }
-}
-
-fn assert_ports(rt: &impl Abort, access: &[AccessPort], ends: &[(u16, u16, u8)]) {
-    assert_count(rt, access.len(), ends.len());
-    for (port, (local, peer, mac)) in access.iter().zip(ends) {
-        assert_peer(rt, port.local, *local);
-        assert_peer(rt, port.peer, *peer);
-        assert_mac(rt, port.mac, *mac);
-    }
-}
-
-/// An L2TP access concentrator has this address, and this secret, where that is not empty.
-fn assert_lac(rt: &impl Abort, lac: &Lac, address: u32, secret: &[u8]) {
-    assert_address(rt, lac.ip, address);
-    match &lac.secret {
-        Some(octets) => assert_octets(rt, octets.as_slice(), secret),
-        None => assert_count(rt, secret.len(), 0),
-    }
-}
-
-fn assert_lacs(rt: &impl Abort, lacs: &[Lac], rows: &[(u32, &[u8])]) {
-    assert_count(rt, lacs.len(), rows.len());
-    for (lac, (address, secret)) in lacs.iter().zip(rows) {
-        assert_lac(rt, lac, *address, *secret);
-    }
-}
-
-/// Those who may ask for changes are these.
-fn assert_coa(rt: &impl Abort, coa: &Option<CoaPart>, local: u16, peers: &[u32], secret: &[u8]) {
-    match coa {
-        Some(part) => {
-            assert_peer(rt, part.local, local);
-            assert_addresses(rt, part.peers.as_slice(), peers);
-            assert_octets(rt, part.secret.as_slice(), secret);
-        }
-        None => panic!(rt; "nobody"),
-    }
-}
-
-fn assert_pools(rt: &impl Abort, pools: &[NamedRange], ranges: &[(&[u8], u32, u32)]) {
-    assert_count(rt, pools.len(), ranges.len());
-    for (pool, (name, first, last)) in pools.iter().zip(ranges) {
-        assert_octets(rt, pool.name.as_slice(), *name);
-        assert_address(rt, pool.range.first, *first);
-        assert_address(rt, pool.range.last, *last);
-    }
-}
-
-fn assert_rate(rt: &impl Abort, rate: Option<Rate>, wanted: Option<Rate>) {
-    assert_eq!(rt; rate, wanted);
-}
-
-type ProfileRow<'a> = (&'a [u8], Option<Rate>, Option<Rate>);
-
-fn assert_profiles(rt: &impl Abort, profiles: &[Profile], rows: &[ProfileRow]) {
-    assert_count(rt, profiles.len(), rows.len());
-    for (profile, (name, up, down)) in profiles.iter().zip(rows) {
-        assert_octets(rt, profile.name.as_slice(), *name);
-        assert_rate(rt, profile.up, *up);
-        assert_rate(rt, profile.down, *down);
-    }
-}
-
-type CircuitRow<'a> = (u8, u8, u16, u32, &'a [u8], u8);
-
-fn assert_circuits(rt: &impl Abort, statics: &[Static], rows: &[CircuitRow]) {
-    assert_count(rt, statics.len(), rows.len());
-    for (circuit, (port, mac, session, address, user, profile)) in statics.iter().zip(rows) {
-        assert_number(rt, u64::from(circuit.port), u64::from(*port));
-        assert_mac(rt, circuit.mac, *mac);
-        assert_number(rt, u64::from(circuit.session.0), u64::from(*session));
-        assert_address(rt, circuit.address, *address);
-        assert_octets(rt, circuit.user.as_slice(), *user);
-        assert_number(rt, u64::from(circuit.profile), u64::from(*profile));
-    }
+/// The lists of the full configuration's gateway.
+fn assert_lists(rt: &impl Abort, config: &Config) {
+    assert_services(rt, config.services.as_slice(), &[b"inet"]);
+    assert_addresses(rt, config.dns.as_slice(), &[0xc000_0235, 0xc000_0236]);
+    assert_kinds(rt, config.auth.as_slice(), &[AuthKind::Pap, AuthKind::Chap]);
 }
 
 /// What the gateway is, of the full configuration.
@@ -289,85 +212,83 @@ fn assert_gateway(rt: &impl Abort, config: &Config) {
     assert_octets(rt, config.name.as_slice(), b"bng1");
     assert_address(rt, config.address, 0x0a00_0001);
     assert_address(rt, config.nas_ip, 0xc0a8_0110);
-    assert_number(rt, u64::from(config.shards), 64);
-    assert_number(rt, u64::from(config.workers), 16);
-    assert_number(rt, u64::from(config.terms), 8192);
-    assert_count(rt, config.services.len(), 1);
-    assert_octets(rt, config.services.as_slice()[0].as_slice(), b"inet");
-    assert_addresses(rt, config.dns.as_slice(), &[0xc000_0235, 0xc000_0236]);
-    assert_kinds(rt, config.auth.as_slice(), &[AuthKind::Pap, AuthKind::Chap]);
-    assert_number(rt, u64::from(config.echo), 0);
+    assert_numbers(rt, config, [64, 16, 8192, 0]);
+    assert_lists(rt, config);
 }
 
-/// The sockets of a configuration, and what it knows of its server.
-fn assert_sockets(rt: &impl Abort, config: &Config, tries: u64) {
-    assert_peer(rt, config.core_local, 9000);
-    assert_peer(rt, config.core_peer, 9001);
-    assert_peer(rt, config.control_local, 9002);
-    assert_peer(rt, config.auth_local, 9003);
-    assert_peer(rt, config.auth_server, 1812);
-    assert_peer(rt, config.acct_local, 9004);
-    assert_peer(rt, config.acct_server, 1813);
-    assert_octets(rt, config.secret.as_slice(), b"xyzzy5461");
-    assert_number(rt, u64::from(config.tries), tries);
-    assert_same(rt, &config.tunnel_local, &Some(loopback(1701)));
-}
+const ENDS: &[PortRow] = &[(9010, 9011, 0xfe), (9020, 9021, 0xff)];
+
+const CONCENTRATORS: &[(u32, &[u8])] = &[(0xc000_020b, b"tunnel"), (0xc000_020c, b"")];
+
+const PEERS: &[u32] = &[0xc000_0215, 0xc000_0216];
 
 #[test]
 fn each_key_is_read(rt: HostRuntime) {
     let config = config_of(&rt, rt.alloc(), FULL);
     assert_gateway(&rt, &config);
     assert_sockets(&rt, &config, 3);
-    let ends = [(9010, 9011, 0xfe), (9020, 9021, 0xff)];
-    assert_ports(&rt, config.access.as_slice(), &ends);
-    let concentrators: [(u32, &[u8]); 2] = [(0xc000_020b, b"tunnel"), (0xc000_020c, b"")];
-    assert_lacs(&rt, config.lacs.as_slice(), &concentrators);
-    let peers = [0xc000_0215, 0xc000_0216];
-    assert_coa(&rt, &config.coa, 3799, &peers, b"change");
+    assert_ports(&rt, config.access.as_slice(), ENDS);
+    assert_lacs(&rt, config.lacs.as_slice(), CONCENTRATORS);
+    assert_coa(&rt, &config.coa, 3799, PEERS, b"change");
 }
+
+const RANGES: &[PoolRow] = &[
+    (b"a", 0x0a04_0000, 0x0a04_00ff),
+    (b"b", 0x0a00_0002, 0x0a03_ff01),
+];
+
+const UP: Rate = Rate {
+    cir: 60,
+    cbs: 20,
+    ebs: 0,
+};
+
+const DOWN: Rate = Rate {
+    cir: 1_000_000_000_000,
+    cbs: 0,
+    ebs: 4_294_967_295,
+};
+
+const METERS: &[ProfileRow] = &[(b"gold", Some(UP), Some(DOWN)), (b"bronze", None, None)];
+
+const CIRCUITS: &[CircuitRow] = &[
+    (1, 1, 1025, 0x0a00_0002, b"fixed1", 1),
+    (2, 2, 65_534, 0x0a00_0003, b"fixed2", 0),
+];
 
 #[test]
 fn each_entry_is_read_in_order(rt: HostRuntime) {
     let config = config_of(&rt, rt.alloc(), FULL);
-    let ranges: [(&[u8], u32, u32); 2] = [
-        (b"a", 0x0a04_0000, 0x0a04_00ff),
-        (b"b", 0x0a00_0002, 0x0a03_ff01),
-    ];
-    assert_pools(&rt, config.pools.as_slice(), &ranges);
-    let up = Rate {
-        cir: 60,
-        cbs: 20,
-        ebs: 0,
-    };
-    let down = Rate {
-        cir: 1_000_000_000_000,
-        cbs: 0,
-        ebs: 4_294_967_295,
-    };
-    let meters: [ProfileRow; 2] = [(b"gold", Some(up), Some(down)), (b"bronze", None, None)];
-    assert_profiles(&rt, config.profiles.as_slice(), &meters);
-    let circuits: [CircuitRow; 2] = [
-        (1, 1, 1025, 0x0a00_0002, b"fixed1", 1),
-        (2, 2, 65_534, 0x0a00_0003, b"fixed2", 0),
-    ];
-    assert_circuits(&rt, config.statics.as_slice(), &circuits);
+    assert_pools(&rt, config.pools.as_slice(), RANGES);
+    assert_profiles(&rt, config.profiles.as_slice(), METERS);
+    assert_circuits(&rt, config.statics.as_slice(), CIRCUITS);
+}
+
+/// A text, and what is told of it.
+const TEXTS: &[(&[u8], &str)] = &[
+    (b"shards = ", "C2 text"),
+    (b"# \xff\n", "C2 text"),
+    (b"", "C4 gateway"),
+];
+
+/// This is told of so many empty lines.
+fn assert_told_of_lines(
+    rt: &impl Abort,
+    alloc: Global,
+    count: usize,
+    wanted: &str,
+) -> Result<(), AllocError> {
+    let text = vec![in alloc; b'\n'; count]?;
+    assert_told(rt, alloc, text.as_slice(), wanted)
 }
 
 #[test]
 fn each_rule_of_the_text_is_told(rt: HostRuntime) -> Result<(), Fail> {
-    let alloc = rt.alloc();
-    let longest = vec![in alloc; b'\n'; 1_048_576]?;
-    let longer = vec![in alloc; b'\n'; 1_048_577]?;
-    let rows: [(&[u8], &str); 5] = [
-        (b"shards = ", "C2 text"),
-        (b"# \xff\n", "C2 text"),
-        (b"", "C4 gateway"),
-        (longest.as_slice(), "C4 gateway"),
-        (longer.as_slice(), "C1 text"),
-    ];
-    for (text, wanted) in rows {
-        assert_told(&rt, alloc, text, wanted)?;
+    for (text, wanted) in TEXTS {
+        assert_told(&rt, rt.alloc(), text, wanted)?;
     }
+    assert_told_of_lines(&rt, rt.alloc(), 1_048_576, "C4 gateway")?;
+    assert_told_of_lines(&rt, rt.alloc(), 1_048_577, "C1 text")?;
     Ok(())
 }
 
@@ -403,29 +324,47 @@ const WRITTEN: &[(Rule, Key, &str)] = &[
     ),
 ];
 
+/// This is written of a fault.
+fn assert_written(
+    rt: &impl Abort,
+    alloc: Global,
+    fault: &Fault,
+    wanted: &str,
+) -> Result<(), AllocError> {
+    let line = written(alloc, fault)?;
+    assert_octets(rt, line.as_slice(), wanted.as_bytes());
+    Ok(())
+}
+
+/// The fault of an unknown name.
+fn unknown_name(alloc: Global, name: &[u8]) -> Result<Fault, AllocError> {
+    let name = Vec::from_slice(alloc, name)?;
+    Ok(Fault::Unknown(Listed::of(name)))
+}
+
 #[test]
 fn a_fault_is_written_by_its_rule_and_its_key(rt: HostRuntime) -> Result<(), Fail> {
-    let alloc = rt.alloc();
     for (rule, key, wanted) in WRITTEN {
-        let line = written(alloc, &Fault::Broken(*rule, *key))?;
-        assert_octets(&rt, line.as_slice(), wanted.as_bytes());
+        assert_written(&rt, rt.alloc(), &Fault::Broken(*rule, *key), wanted)?;
     }
-    let name = Vec::from_slice(alloc, b"pool.2.speed")?;
-    let line = written(alloc, &Fault::Unknown(Listed::of(name)))?;
-    assert_octets(&rt, line.as_slice(), b"C3 pool.2.speed");
+    let fault = unknown_name(rt.alloc(), b"pool.2.speed")?;
+    assert_written(&rt, rt.alloc(), &fault, "C3 pool.2.speed")?;
     Ok(())
+}
+
+/// Each list of the full configuration has two entries.
+fn assert_two_of_each(rt: &impl Abort, config: &Config) {
+    assert_count(rt, config.access.as_slice().len(), 2);
+    assert_count(rt, config.lacs.as_slice().len(), 2);
+    assert_count(rt, config.pools.as_slice().len(), 2);
+    assert_count(rt, config.profiles.as_slice().len(), 2);
+    assert_count(rt, config.statics.as_slice().len(), 2);
 }
 
 #[test]
 fn want_of_memory_is_no_fault(rt: HostRuntime) {
     match read(rt.alloc(), FULL.as_bytes()) {
-        Ok(config) => {
-            assert_count(&rt, config.access.as_slice().len(), 2);
-            assert_count(&rt, config.lacs.as_slice().len(), 2);
-            assert_count(&rt, config.pools.as_slice().len(), 2);
-            assert_count(&rt, config.profiles.as_slice().len(), 2);
-            assert_count(&rt, config.statics.as_slice().len(), 2);
-        }
+        Ok(config) => assert_two_of_each(&rt, &config),
         Err(ConfigError::OutOfMemory) => {}
         Err(ConfigError::Refused(_)) => panic!(rt; "a fault"),
     }

@@ -53,6 +53,20 @@ const OTHER: TermView = TermView {
     output: None,
 };
 
+const NO_SESSION: Fate = Fate::Dropped(DropCause::NoSession);
+
+const NOT_OPEN: Fate = Fate::Dropped(DropCause::NotOpen);
+
+const MALFORMED: Fate = Fate::Dropped(DropCause::Malformed);
+
+const EXPIRED: Fate = Fate::Dropped(DropCause::Expired);
+
+const SPOOFED: Fate = Fate::Dropped(DropCause::Spoofed);
+
+const TOO_BIG: Fate = Fate::Dropped(DropCause::TooBig);
+
+const EXCEEDED: Fate = Fate::Dropped(DropCause::Exceeded);
+
 fn frame_of(octets: &[u8]) -> Frame
     requires { length octets.now ≤ 64 }
     ensures octets { result.payload ≡ octets.now }
@@ -108,7 +122,7 @@ fn passed_down(
     }
 }
 
-// Its fate, and the packet afterwards.
+// Asserts the fate of a packet to a term at a moment, and the packet afterwards.
 fn goes_down_at(
     rt: &impl Abort,
     holder: &mut Option<TermView>,
@@ -132,56 +146,87 @@ fn goes_down(rt: &impl Abort, holder: Option<TermView>, octets: &[u8], fate: Fat
     goes_down_at(rt, &mut holder, 0, octets, fate, after);
 }
 
-fn go_up_with_no_term(rt: &impl Abort, short: &[u8])
+// A packet is left as it is, and has this fate.
+fn stays_up(rt: &impl Abort, found: Option<Option<TermView>>, octets: &[u8], fate: Fate)
+    requires { length octets.now ≤ 64 }
+{
+    goes_up(rt, found, octets, fate, octets);
+}
+
+// So has a packet of the core.
+fn stays_down(rt: &impl Abort, holder: Option<TermView>, octets: &[u8], fate: Fate)
+    requires { length octets.now ≤ 64 }
+{
+    goes_down(rt, holder, octets, fate, octets);
+}
+
+fn go_up_where_none_is_there(rt: &impl Abort, short: &[u8])
     requires { length short.now ≤ 64 }
 {
-    let no_session = Fate::Dropped(DropCause::NoSession);
-    goes_up(rt, None, &UP, no_session, &UP);
-    goes_up(rt, None, short, no_session, short);
-    let not_open = Fate::Dropped(DropCause::NotOpen);
-    goes_up(rt, Some(None), &UP, not_open, &UP);
-    goes_up(rt, Some(None), short, not_open, short);
-    goes_up(rt, Some(Some(CLOSED)), &UP, not_open, &UP);
-    goes_up(rt, Some(Some(CLOSED)), short, not_open, short);
+    stays_up(rt, None, &UP, NO_SESSION);
+    stays_up(rt, None, short, NO_SESSION);
+    stays_up(rt, Some(None), &UP, NOT_OPEN);
+    stays_up(rt, Some(None), short, NOT_OPEN);
+}
+
+fn go_up_where_one_is_closed(rt: &impl Abort, short: &[u8])
+    requires { length short.now ≤ 64 }
+{
+    stays_up(rt, Some(Some(CLOSED)), &UP, NOT_OPEN);
+    stays_up(rt, Some(Some(CLOSED)), short, NOT_OPEN);
 }
 
 fn go_up_in_vain(rt: &impl Abort, short: &[u8])
     requires { length short.now ≤ 64 }
 {
-    let malformed = Fate::Dropped(DropCause::Malformed);
-    goes_up(rt, Some(Some(OPEN)), short, malformed, short);
-    let expired = Fate::Dropped(DropCause::Expired);
-    goes_up(rt, Some(Some(OPEN)), &UP_SENT, expired, &UP_SENT);
-    goes_up(rt, Some(Some(OTHER)), &UP_SENT, expired, &UP_SENT);
-    let spoofed = Fate::Dropped(DropCause::Spoofed);
-    goes_up(rt, Some(Some(OTHER)), &UP, spoofed, &UP);
+    stays_up(rt, Some(Some(OPEN)), short, MALFORMED);
+    stays_up(rt, Some(Some(OPEN)), &UP_SENT, EXPIRED);
+    stays_up(rt, Some(Some(OTHER)), &UP_SENT, EXPIRED);
+    stays_up(rt, Some(Some(OTHER)), &UP, SPOOFED);
+}
+
+// A packet in 46 octets, as a frame is padded.
+fn padded(packet: &[u8; 20]) -> [u8; 46] {
+    let mut padded = [0; 46];
+    padded[..20].copy_from_slice(packet);
+    padded
+}
+
+// A packet passes, padded and not.
+fn go_up_both(rt: &impl Abort) {
+    goes_up(rt, Some(Some(OPEN)), &UP, Fate::Forwarded, &UP_SENT);
+    let padded = padded(&UP);
+    goes_up(rt, Some(Some(OPEN)), &padded, Fate::Forwarded, &UP_SENT);
 }
 
 #[test]
 fn a_packet_of_the_subscriber_is_passed_on_or_left_as_it_is(rt: HostRuntime) {
-    let mut padded = [0; 46];
-    padded[..20].copy_from_slice(&UP);
-    goes_up(&rt, Some(Some(OPEN)), &UP, Fate::Forwarded, &UP_SENT);
-    goes_up(&rt, Some(Some(OPEN)), &padded, Fate::Forwarded, &UP_SENT);
+    go_up_both(&rt);
     let short = &UP[..19];
-    go_up_with_no_term(&rt, short);
+    go_up_where_none_is_there(&rt, short);
+    go_up_where_one_is_closed(&rt, short);
     go_up_in_vain(&rt, short);
+}
+
+// To this term a packet passes, padded and not.
+fn go_down_both(rt: &impl Abort, holder: Option<TermView>) {
+    goes_down(rt, holder, &DOWN, Fate::Forwarded, &DOWN_SENT);
+    let padded = padded(&DOWN);
+    goes_down(rt, holder, &padded, Fate::Forwarded, &DOWN_SENT);
+}
+
+fn go_down_in_vain(rt: &impl Abort) {
+    stays_down(rt, None, &DOWN, NO_SESSION);
+    stays_down(rt, None, &DOWN_SENT, NO_SESSION);
+    stays_down(rt, Some(CLOSED), &DOWN, NOT_OPEN);
+    stays_down(rt, Some(CLOSED), &DOWN_SENT, NOT_OPEN);
+    stays_down(rt, Some(OPEN), &DOWN_SENT, EXPIRED);
 }
 
 #[test]
 fn a_packet_of_the_core_is_passed_on_or_left_as_it_is(rt: HostRuntime) {
-    let mut padded = [0; 46];
-    padded[..20].copy_from_slice(&DOWN);
-    goes_down(&rt, Some(OPEN), &DOWN, Fate::Forwarded, &DOWN_SENT);
-    goes_down(&rt, Some(OPEN), &padded, Fate::Forwarded, &DOWN_SENT);
-    let no_session = Fate::Dropped(DropCause::NoSession);
-    goes_down(&rt, None, &DOWN, no_session, &DOWN);
-    goes_down(&rt, None, &DOWN_SENT, no_session, &DOWN_SENT);
-    let not_open = Fate::Dropped(DropCause::NotOpen);
-    goes_down(&rt, Some(CLOSED), &DOWN, not_open, &DOWN);
-    goes_down(&rt, Some(CLOSED), &DOWN_SENT, not_open, &DOWN_SENT);
-    let expired = Fate::Dropped(DropCause::Expired);
-    goes_down(&rt, Some(OPEN), &DOWN_SENT, expired, &DOWN_SENT);
+    go_down_both(&rt, Some(OPEN));
+    go_down_in_vain(&rt);
 }
 
 // A term whose subscriber takes packets of so many octets, which is open or not.
@@ -195,33 +240,36 @@ fn taking(mru: u16, opened: bool) -> Option<TermView> {
     })
 }
 
+// Packets to a term whose subscriber takes 19 octets are too long, if nothing else is in their way.
+fn are_too_big(rt: &impl Abort) {
+    stays_down(rt, taking(19, true), &DOWN, TOO_BIG);
+    stays_down(rt, taking(19, true), &padded(&DOWN), TOO_BIG);
+    stays_down(rt, taking(19, false), &DOWN, NOT_OPEN);
+    stays_down(rt, taking(19, true), &DOWN_SENT, EXPIRED);
+}
+
 #[test]
 fn a_packet_of_the_core_is_no_longer_than_the_mru(rt: HostRuntime) {
-    let mut padded = [0; 46];
-    padded[..20].copy_from_slice(&DOWN);
-    goes_down(&rt, taking(20, true), &DOWN, Fate::Forwarded, &DOWN_SENT);
-    goes_down(&rt, taking(20, true), &padded, Fate::Forwarded, &DOWN_SENT);
-    let too_big = Fate::Dropped(DropCause::TooBig);
-    goes_down(&rt, taking(19, true), &DOWN, too_big, &DOWN);
-    goes_down(&rt, taking(19, true), &padded, too_big, &padded);
-    let not_open = Fate::Dropped(DropCause::NotOpen);
-    goes_down(&rt, taking(19, false), &DOWN, not_open, &DOWN);
-    let expired = Fate::Dropped(DropCause::Expired);
-    goes_down(&rt, taking(19, true), &DOWN_SENT, expired, &DOWN_SENT);
+    go_down_both(&rt, taking(20, true));
+    are_too_big(&rt);
     goes_up(&rt, Some(taking(19, true)), &UP, Fate::Forwarded, &UP_SENT);
+}
+
+// An open term whose subscriber takes packets of so many octets, with these meters.
+fn metered(mru: u16, input: Option<Meter>, output: Option<Meter>) -> TermView {
+    TermView {
+        lease: SUBSCRIBER,
+        opened: true,
+        mru,
+        input,
+        output,
+    }
 }
 
 #[test]
 fn a_packet_that_is_too_big_takes_no_token(rt: HostRuntime) {
-    let mut holder = Some(TermView {
-        lease: SUBSCRIBER,
-        opened: true,
-        mru: 19,
-        input: None,
-        output: slow(),
-    });
-    let too_big = Fate::Dropped(DropCause::TooBig);
-    goes_down_at(&rt, &mut holder, 0, &DOWN, too_big, &DOWN);
+    let mut holder = Some(metered(19, None, slow()));
+    goes_down_at(&rt, &mut holder, 0, &DOWN, TOO_BIG, &DOWN);
     if let Some(view) = &mut holder {
         view.mru = 20;
     }
@@ -238,10 +286,8 @@ fn slow() -> Option<Meter> {
     Some(Meter::new(rate, 0))
 }
 
-const EXCEEDED: Fate = Fate::Dropped(DropCause::Exceeded);
-
 // Moments in milliseconds, and the fate of a packet then. The last one is before that of the packet before.
-const METERED: [(u64, Fate); 8] = [
+const METERED: &[(u64, Fate)] = &[
     (1, Fate::Forwarded),
     (333, EXCEEDED),
     (334, Fate::Forwarded),
@@ -252,45 +298,49 @@ const METERED: [(u64, Fate); 8] = [
     (0, EXCEEDED),
 ];
 
+// A packet of the subscriber has this fate at this moment, and is changed where it is forwarded alone.
+fn passes_up(rt: &impl Abort, found: &mut Option<Option<TermView>>, now: u64, fate: Fate) {
+    let sent = if fate == Fate::Forwarded { UP_SENT } else { UP };
+    goes_up_at(rt, found, now, &UP, fate, &sent);
+}
+
+fn pass_up(rt: &impl Abort, found: &mut Option<Option<TermView>>) {
+    for (now, fate) in METERED {
+        passes_up(rt, found, *now, *fate);
+    }
+}
+
 #[test]
 fn a_packet_of_the_subscriber_passes_by_the_input_meter(rt: HostRuntime) {
-    let mut found = Some(Some(TermView {
-        lease: SUBSCRIBER,
-        opened: true,
-        mru: 1492,
-        input: slow(),
-        output: None,
-    }));
-    let expired = Fate::Dropped(DropCause::Expired);
-    goes_up_at(&rt, &mut found, 0, &UP_SENT, expired, &UP_SENT);
-    for (now, fate) in METERED {
-        let sent = if fate == Fate::Forwarded { UP_SENT } else { UP };
-        goes_up_at(&rt, &mut found, now, &UP, fate, &sent);
-    }
-    goes_up_at(&rt, &mut found, 1001, &UP_SENT, expired, &UP_SENT);
+    let mut found = Some(Some(metered(1492, slow(), None)));
+    goes_up_at(&rt, &mut found, 0, &UP_SENT, EXPIRED, &UP_SENT);
+    pass_up(&rt, &mut found);
+    goes_up_at(&rt, &mut found, 1001, &UP_SENT, EXPIRED, &UP_SENT);
     let mut holder = found.flatten();
     goes_down_at(&rt, &mut holder, 1001, &DOWN, Fate::Forwarded, &DOWN_SENT);
 }
 
+// So it is with a packet of the core.
+fn passes_down(rt: &impl Abort, holder: &mut Option<TermView>, now: u64, fate: Fate) {
+    let sent = if fate == Fate::Forwarded {
+        DOWN_SENT
+    } else {
+        DOWN
+    };
+    goes_down_at(rt, holder, now, &DOWN, fate, &sent);
+}
+
+fn pass_down(rt: &impl Abort, holder: &mut Option<TermView>) {
+    for (now, fate) in METERED {
+        passes_down(rt, holder, *now, *fate);
+    }
+}
+
 #[test]
 fn a_packet_of_the_core_passes_by_the_output_meter(rt: HostRuntime) {
-    let mut holder = Some(TermView {
-        lease: SUBSCRIBER,
-        opened: true,
-        mru: 1492,
-        input: None,
-        output: slow(),
-    });
-    for (now, fate) in METERED {
-        let sent = if fate == Fate::Forwarded {
-            DOWN_SENT
-        } else {
-            DOWN
-        };
-        goes_down_at(&rt, &mut holder, now, &DOWN, fate, &sent);
-    }
-    let expired = Fate::Dropped(DropCause::Expired);
-    goes_down_at(&rt, &mut holder, 1001, &DOWN_SENT, expired, &DOWN_SENT);
+    let mut holder = Some(metered(1492, None, slow()));
+    pass_down(&rt, &mut holder);
+    goes_down_at(&rt, &mut holder, 1001, &DOWN_SENT, EXPIRED, &DOWN_SENT);
     let mut found = Some(holder);
     goes_up_at(&rt, &mut found, 1001, &UP, Fate::Forwarded, &UP_SENT);
 }

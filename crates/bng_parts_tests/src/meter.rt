@@ -5,6 +5,7 @@ use crate::asserts::assert_same;
 use bng_base::Rate;
 use bng_meter::Colour::{Green, Red, Yellow};
 use bng_meter::{Colour, Meter, red_packets_need_no_note};
+use std::process::Abort;
 use std::test::Fail;
 
 // A meter that starts at 0.
@@ -14,32 +15,34 @@ fn meter(cir: u64, cbs: u64, ebs: u64) -> Meter
     Meter::new(Rate { cir, cbs, ebs }, 0)
 }
 
+// A packet of so many octets at this moment has this colour.
+fn takes(rt: &impl Abort, meter: &mut Meter, now: u64, octets: u32, colour: Colour)
+    requires { meter.old.last ≤ now }
+    ensures { meter.new.last ≡ now }
+{
+    assert_same(rt, &meter.take(now, octets), &colour);
+}
+
 #[test]
 fn a_packet_is_green_then_yellow_then_red(rt: HostRuntime) -> Result<(), Fail> {
     let mut meter = meter(1000, 1500, 1500);
-    let colours = [
-        meter.take(0, 1500),
-        meter.take(0, 1500),
-        meter.take(0, 1500),
-        meter.take(1499, 1500),
-        meter.take(1500, 1500),
-    ];
-    assert_same(&rt, &colours, &[Green, Yellow, Red, Red, Green]);
+    takes(&rt, &mut meter, 0, 1500, Green);
+    takes(&rt, &mut meter, 0, 1500, Yellow);
+    takes(&rt, &mut meter, 0, 1500, Red);
+    takes(&rt, &mut meter, 1499, 1500, Red);
+    takes(&rt, &mut meter, 1500, 1500, Green);
     Ok(())
 }
 
 #[test]
 fn a_token_comes_at_the_first_millisecond_that_reaches_it(rt: HostRuntime) -> Result<(), Fail> {
     let mut meter = meter(3, 1, 0);
-    let colours = [
-        meter.take(0, 1),
-        meter.take(333, 1),
-        meter.take(334, 1),
-        meter.take(666, 1),
-        meter.take(667, 1),
-        meter.take(1000, 1),
-    ];
-    assert_same(&rt, &colours, &[Green, Red, Green, Red, Green, Green]);
+    takes(&rt, &mut meter, 0, 1, Green);
+    takes(&rt, &mut meter, 333, 1, Red);
+    takes(&rt, &mut meter, 334, 1, Green);
+    takes(&rt, &mut meter, 666, 1, Red);
+    takes(&rt, &mut meter, 667, 1, Green);
+    takes(&rt, &mut meter, 1000, 1, Green);
     Ok(())
 }
 
@@ -56,23 +59,33 @@ fn take_or_forget(meter: &mut Meter, now: u64, octets: u32) -> Colour
     colour
 }
 
+// A packet of one octet at this moment, that is forgotten where it is red, has this colour.
+fn takes_or_forgets(rt: &impl Abort, meter: &mut Meter, now: u64, colour: Colour)
+    requires { meter.old.last ≤ now }
+    ensures { meter.new.last ≤ now }
+{
+    assert_same(rt, &take_or_forget(meter, now, 1), &colour);
+}
+
+// Of four packets two are red, and the last one of the others came at 334.
+fn forgets_two(rt: &impl Abort, meter: &mut Meter)
+    requires { meter.old.last ≡ 0 }
+    ensures { meter.new.last ≤ 666 }
+{
+    takes_or_forgets(rt, meter, 0, Green);
+    takes_or_forgets(rt, meter, 333, Red);
+    takes_or_forgets(rt, meter, 334, Green);
+    takes_or_forgets(rt, meter, 666, Red);
+    assert_same(rt, &meter.last(), &334);
+}
+
 #[test]
 fn a_red_packet_may_be_forgotten(rt: HostRuntime) -> Result<(), Fail> {
     red_packets_need_no_note();
     let mut meter = meter(3, 1, 0);
-    let colours = [
-        take_or_forget(&mut meter, 0, 1),
-        take_or_forget(&mut meter, 333, 1),
-        take_or_forget(&mut meter, 334, 1),
-        take_or_forget(&mut meter, 666, 1),
-    ];
-    assert_same(&rt, &colours, &[Green, Red, Green, Red]);
-    assert_same(&rt, &meter.last(), &334);
-    let later = [
-        take_or_forget(&mut meter, 667, 1),
-        take_or_forget(&mut meter, 1000, 1),
-    ];
-    assert_same(&rt, &later, &[Green, Green]);
+    forgets_two(&rt, &mut meter);
+    takes_or_forgets(&rt, &mut meter, 667, Green);
+    takes_or_forgets(&rt, &mut meter, 1000, Green);
     Ok(())
 }
 
@@ -81,14 +94,11 @@ fn tokens_fill_the_committed_bucket_and_then_the_excess_bucket(
     rt: HostRuntime,
 ) -> Result<(), Fail> {
     let mut meter = meter(1000, 1500, 1500);
-    let emptied = [meter.take(0, 1500), meter.take(0, 1500)];
-    let full = [
-        meter.take(2000, 1500),
-        meter.take(2000, 500),
-        meter.take(2000, 1),
-    ];
-    assert_same(&rt, &emptied, &[Green, Yellow]);
-    assert_same(&rt, &full, &[Green, Yellow, Red]);
+    takes(&rt, &mut meter, 0, 1500, Green);
+    takes(&rt, &mut meter, 0, 1500, Yellow);
+    takes(&rt, &mut meter, 2000, 1500, Green);
+    takes(&rt, &mut meter, 2000, 500, Yellow);
+    takes(&rt, &mut meter, 2000, 1, Red);
     Ok(())
 }
 
@@ -100,10 +110,7 @@ fn a_day_of_silence_fills_both_buckets_at_any_rate(rt: HostRuntime) -> Result<()
         ebs: 1500,
     };
     let mut meter = Meter::new(rate, 5);
-    let colours = [
-        meter.take(86_400_005, u32::MAX),
-        meter.take((1 << 60) - 1, u32::MAX),
-    ];
-    assert_same(&rt, &colours, &[Green, Green]);
+    takes(&rt, &mut meter, 86_400_005, u32::MAX, Green);
+    takes(&rt, &mut meter, (1 << 60) - 1, u32::MAX, Green);
     Ok(())
 }

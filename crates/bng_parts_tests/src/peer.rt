@@ -1,6 +1,9 @@
 //! The script, octet by octet, against the standards.
+ghost use Rattle.std.specs.Prelude.{◌≤◌};
+
+use crate::asserts::{assert_holds, assert_same};
 use bng_base::{Frame, Ip4, Peer, Received, Role};
-use bng_peer::PeerPlant;
+use bng_peer::{PeerClock, PeerPlant};
 use bng_plant::{Clock, Plant, Sending};
 use std::alloc::Global;
 use std::process::Abort;
@@ -48,6 +51,47 @@ fn say(
     Ok(plant.send(role, to, octets.as_slice()) == Sending::Sent)
 }
 
+/// The gateway sends these digits to a peer.
+fn says(
+    rt: &impl Abort,
+    alloc: Global,
+    plant: &mut PeerPlant,
+    role: Role,
+    to: Peer,
+    text: &str,
+) -> Result<(), Fail> {
+    let said = say(alloc, plant, role, to, text)?;
+    assert_holds(rt, said);
+    Ok(())
+}
+
+/// A peer gives these digits at a role next; nothing where there are none.
+fn hears(
+    rt: &impl Abort,
+    alloc: Global,
+    plant: &mut PeerPlant,
+    role: Role,
+    text: &str,
+) -> Result<(), Fail> {
+    let found = heard(alloc, plant, role)?;
+    assert_same(rt, &found.as_str(), &text);
+    Ok(())
+}
+
+fn play_line(
+    rt: &impl Abort,
+    alloc: Global,
+    plant: &mut PeerPlant,
+    role: Role,
+    to: Peer,
+    line: Line,
+) -> Result<(), Fail> {
+    match line {
+        Line::Says(text) => says(rt, alloc, plant, role, to, text),
+        Line::Hears(text) => hears(rt, alloc, plant, role, text),
+    }
+}
+
 fn play(
     rt: &impl Abort,
     alloc: Global,
@@ -57,13 +101,7 @@ fn play(
     lines: &[Line],
 ) -> Result<(), Fail> {
     for line in lines {
-        match *line {
-            Line::Says(text) => assert!(rt; say(alloc, plant, role, to, text)?),
-            Line::Hears(text) => {
-                let found = heard(alloc, plant, role)?;
-                assert_eq!(rt; found.as_str(), text);
-            }
-        }
+        play_line(rt, alloc, plant, role, to, *line)?;
     }
     Ok(())
 }
@@ -110,53 +148,63 @@ const LOGIN: &[Line] = &[
 const LOWERED: &str =
     "45000064000000003f00af970a000002c00002010000000000000000000000000000000000000000000000000000000000000000000000000000000000000000000000000000000000000000000000000000000000000000000000000000000000000000";
 
+/// The subscriber logs in, and its packet goes to the core.
+fn logs_in(rt: &impl Abort, alloc: Global, plant: &mut PeerPlant) -> Result<(), Fail> {
+    play(rt, alloc, plant, Role::Access(1), GATEWAY, LOGIN)?;
+    says(rt, alloc, plant, Role::Core, GATEWAY, LOWERED)?;
+    hears(rt, alloc, plant, Role::Core, "")
+}
+
+/// The operator is quiet, and says `stop` later.
+fn stops(rt: &impl Abort, alloc: Global, plant: &mut PeerPlant) -> Result<(), Fail> {
+    hears(rt, alloc, plant, Role::Control, "")?;
+    // The operator says `stop` once the first interim record is acknowledged, since no number is odd.
+    play(rt, alloc, plant, Role::Acct, GATEWAY, RECORD)?;
+    play(rt, alloc, plant, Role::Control, GATEWAY, STOP)
+}
+
+const STOP: &[Line] = &[Line::Hears("73746f70"), Line::Hears("")];
+
+/// So many subscribers.
+fn peers(rt: &impl Abort, alloc: Global, n: u32) -> (PeerPlant, PeerClock)
+    requires { (1 ≤ n) × (n ≤ 4000) }
+{
+    PeerPlant::open(alloc, n).expect(rt, "peers")
+}
+
 #[test]
 fn a_subscriber_logs_in_and_sends_its_packet(rt: HostRuntime) -> Result<(), Fail> {
     let alloc = rt.alloc();
-    let (mut plant, _) = PeerPlant::open(alloc, 1).expect(&rt, "peers");
-    play(&rt, alloc, &mut plant, Role::Access(1), GATEWAY, LOGIN)?;
-    assert!(rt; say(alloc, &mut plant, Role::Core, GATEWAY, LOWERED)?);
-    play(
-        &rt,
-        alloc,
-        &mut plant,
-        Role::Core,
-        GATEWAY,
-        &[Line::Hears("")],
-    )?;
-    play(
-        &rt,
-        alloc,
-        &mut plant,
-        Role::Control,
-        GATEWAY,
-        &[Line::Hears("")],
-    )?;
-    // The operator says `stop` once the first interim record is acknowledged, since no number is odd.
-    play(&rt, alloc, &mut plant, Role::Acct, GATEWAY, RECORD)?;
-    let stop = [Line::Hears("73746f70"), Line::Hears("")];
-    play(&rt, alloc, &mut plant, Role::Control, GATEWAY, &stop)?;
+    let (mut plant, _) = peers(&rt, alloc, 1);
+    logs_in(&rt, alloc, &mut plant)?;
+    stops(&rt, alloc, &mut plant)
+}
+
+const PADI: &str = "ffffffffffff020000000000886311090000000c010100000103000400000000";
+
+/// Milliseconds, and what the subscriber gives after them.
+const WAITS: &[(u32, &str)] = &[(0, PADI), (2999, ""), (1, PADI), (2999, ""), (1, PADI)];
+
+fn waits(rt: &impl Abort, alloc: Global, plant: &mut PeerPlant) -> Result<(), Fail> {
+    for (wait, text) in WAITS {
+        plant.wait(*wait);
+        hears(rt, alloc, plant, Role::Access(1), *text)?;
+    }
     Ok(())
+}
+
+/// The clock is at this moment in milliseconds, and at this second since 1970.
+fn assert_moment(rt: &impl Abort, clock: &mut PeerClock, now: u64, wall: u64) {
+    assert_same(rt, &clock.now(), &now);
+    assert_same(rt, &clock.wall(), &wall);
 }
 
 #[test]
 fn what_is_not_answered_is_sent_again_after_three_seconds(rt: HostRuntime) -> Result<(), Fail> {
     let alloc = rt.alloc();
-    let (mut plant, mut clock) = PeerPlant::open(alloc, 1).expect(&rt, "peers");
-    let padi = "ffffffffffff020000000000886311090000000c010100000103000400000000";
-    for (wait, text) in [(0, padi), (2999, ""), (1, padi), (2999, ""), (1, padi)] {
-        plant.wait(wait);
-        play(
-            &rt,
-            alloc,
-            &mut plant,
-            Role::Access(1),
-            GATEWAY,
-            &[Line::Hears(text)],
-        )?;
-    }
-    assert!(rt; clock.now() == 6000);
-    assert!(rt; clock.wall() == 1_700_000_006);
+    let (mut plant, mut clock) = peers(&rt, alloc, 1);
+    waits(&rt, alloc, &mut plant)?;
+    assert_moment(&rt, &mut clock, 6000, 1_700_000_006);
     Ok(())
 }
 
@@ -182,14 +230,19 @@ const TUNNEL: &[Line] = &[
     Line::Hears("000204010405ff03c021030100080304c023"),
 ];
 
+/// The first one makes its tunnel and its call.
+fn calls(rt: &impl Abort, alloc: Global, plant: &mut PeerPlant) -> Result<(), Fail> {
+    play(rt, alloc, plant, Role::Tunnel, LAC, SCCRQ)?;
+    // The other one asks for its tunnel too, and calls for nobody.
+    heard(alloc, plant, Role::Tunnel)?;
+    play(rt, alloc, plant, Role::Tunnel, LAC, TUNNEL)
+}
+
 #[test]
 fn an_access_concentrator_makes_its_tunnel_and_its_call(rt: HostRuntime) -> Result<(), Fail> {
     let alloc = rt.alloc();
-    let (mut plant, _) = PeerPlant::open(alloc, 4).expect(&rt, "peers");
-    play(&rt, alloc, &mut plant, Role::Tunnel, LAC, SCCRQ)?;
-    // The other one asks for its tunnel too, and calls for nobody.
-    heard(alloc, &mut plant, Role::Tunnel)?;
-    play(&rt, alloc, &mut plant, Role::Tunnel, LAC, TUNNEL)
+    let (mut plant, _) = peers(&rt, alloc, 4);
+    calls(&rt, alloc, &mut plant)
 }
 
 const ACCEPTED: &[Line] = &[
@@ -204,10 +257,15 @@ const RECORD: &[Line] = &[
     Line::Hears(""),
 ];
 
+/// It replies to a request and to a record.
+fn replies(rt: &impl Abort, alloc: Global, plant: &mut PeerPlant) -> Result<(), Fail> {
+    play(rt, alloc, plant, Role::Auth, GATEWAY, ACCEPTED)?;
+    play(rt, alloc, plant, Role::Acct, GATEWAY, RECORD)
+}
+
 #[test]
 fn the_server_signs_its_replies(rt: HostRuntime) -> Result<(), Fail> {
     let alloc = rt.alloc();
-    let (mut plant, _) = PeerPlant::open(alloc, 1).expect(&rt, "peers");
-    play(&rt, alloc, &mut plant, Role::Auth, GATEWAY, ACCEPTED)?;
-    play(&rt, alloc, &mut plant, Role::Acct, GATEWAY, RECORD)
+    let (mut plant, _) = peers(&rt, alloc, 1);
+    replies(&rt, alloc, &mut plant)
 }

@@ -1,8 +1,5 @@
-use crate::asserts::{assert_count, assert_octets, assert_same};
-use bng_base::{
-    Claim, ClockAnswer, Datagram, Entry, Fate, Frame, Ip4, Item, ItemKind, Listed, Loose, Octets,
-    OutRecord, Peer, Received, Role, RoundRecord,
-};
+use crate::asserts::{assert_count, assert_holds, assert_octets, assert_same};
+use bng_base::{ClockAnswer, Datagram, Entry, Frame, Ip4, Peer, Received, Role};
 use bng_plant::{
     Arrival, Bound, Clock, Entropy, FileError, Files, Gate, Head, MemoryClock, MemoryEntropy,
     MemoryFile, MemoryFiles, MemoryPlant, MemorySink, MemoryTrace, NoTrace, Noted, OpenGate, Plant,
@@ -11,6 +8,10 @@ use bng_plant::{
 use std::alloc::{AllocError, Global};
 use std::process::Abort;
 use std::test::Fail;
+
+mod rounds;
+
+use rounds::round;
 
 const PORT: Peer = Peer {
     ip: Ip4(0x0a00_0001),
@@ -22,45 +23,53 @@ const OPERATOR: Peer = Peer {
     port: 5000,
 };
 
-fn got(from: Peer, cut: bool) -> Received {
-    Received::Got { from, cut }
+// A datagram that was not cut came from this peer.
+fn got(from: Peer) -> Received {
+    Received::Got { from, cut: false }
 }
 
-fn receive<P: Plant>(plant: &mut P, role: Role, into: &mut Frame) -> Received {
-    plant.recv(role, into)
-}
-
-// Three arrivals, the second after a wait. The fifth call fails.
-fn scripted(alloc: Global) -> Result<MemoryPlant, AllocError> {
+// Three arrivals, the second after a wait.
+fn script(alloc: Global) -> Result<Vec<Arrival>, AllocError> {
     let script = vec![in alloc;
         Arrival::new(Role::Access(1), PORT, &[7, 8, 9]),
         Arrival::new(Role::Control, OPERATOR, b"stop").after(1),
         Arrival::new(Role::Core, PORT, &[5; 5000]),
     ]?;
+    Ok(script)
+}
+
+// The fifth call fails.
+fn scripted(alloc: Global) -> Result<MemoryPlant, AllocError> {
+    let script = script(alloc)?;
     let fail_at = vec![in alloc; 5]?;
     MemoryPlant::new(alloc, script, fail_at, 10)
 }
 
-fn hear_before_the_wait<P: Plant>(rt: &impl Abort, plant: &mut P, frame: &mut Frame) {
-    for (role, want) in [
-        (Role::Control, Received::Empty),
-        (Role::Access(1), got(PORT, false)),
-        (Role::Access(1), Received::Empty),
-        (Role::Control, Received::Empty),
-    ] {
-        assert_same(rt, &receive(plant, role, frame), &want);
-    }
+// A receive at this role has this answer.
+fn hears<P: Plant>(rt: &impl Abort, plant: &mut P, role: Role, frame: &mut Frame, want: Received) {
+    assert_same(rt, &plant.recv(role, frame), &want);
 }
 
+fn hear_before_the_wait<P: Plant>(rt: &impl Abort, plant: &mut P, frame: &mut Frame) {
+    hears(rt, plant, Role::Control, frame, Received::Empty);
+    hears(rt, plant, Role::Access(1), frame, got(PORT));
+    hears(rt, plant, Role::Access(1), frame, Received::Empty);
+    hears(rt, plant, Role::Control, frame, Received::Empty);
+}
+
+// The last one was longer than a frame.
+const CUT: Received = Received::Got {
+    from: PORT,
+    cut: true,
+};
+
 fn hear_after_the_wait<P: Plant>(rt: &impl Abort, plant: &mut P, frame: &mut Frame) {
-    for (role, want, len) in [
-        (Role::Control, Received::Failed, 3),
-        (Role::Control, got(OPERATOR, false), 4),
-        (Role::Core, got(PORT, true), 4096),
-    ] {
-        assert_same(rt, &receive(plant, role, frame), &want);
-        assert_count(rt, frame.payload().len(), len);
-    }
+    hears(rt, plant, Role::Control, frame, Received::Failed);
+    assert_count(rt, frame.payload().len(), 3);
+    hears(rt, plant, Role::Control, frame, got(OPERATOR));
+    assert_count(rt, frame.payload().len(), 4);
+    hears(rt, plant, Role::Core, frame, CUT);
+    assert_count(rt, frame.payload().len(), 4096);
 }
 
 fn hear_all<P: Plant>(rt: &impl Abort, plant: &mut P) {
@@ -86,16 +95,16 @@ fn with_room_for_one(alloc: Global) -> Result<MemoryPlant, AllocError> {
 }
 
 fn bind_two<P: Plant>(rt: &impl Abort, plant: &mut P) {
-    for (role, want) in [(Role::Auth, Bound::Ok), (Role::Acct, Bound::Failed)] {
-        assert_same(rt, &plant.bind(role, PORT, None), &want);
-    }
+    assert_same(rt, &plant.bind(Role::Auth, PORT, None), &Bound::Ok);
+    assert_same(rt, &plant.bind(Role::Acct, PORT, None), &Bound::Failed);
 }
 
+const ACCESS: Role = Role::Access(240);
+
 fn send_three<P: Plant>(rt: &impl Abort, plant: &mut P) {
-    let role = Role::Access(240);
-    assert_same(rt, &plant.send(role, PORT, &[1; 4161]), &Sending::Failed);
-    assert_same(rt, &plant.send(role, PORT, &[1; 4160]), &Sending::Sent);
-    assert_same(rt, &plant.send(role, PORT, &[1]), &Sending::Failed);
+    assert_same(rt, &plant.send(ACCESS, PORT, &[1; 4161]), &Sending::Failed);
+    assert_same(rt, &plant.send(ACCESS, PORT, &[1; 4160]), &Sending::Sent);
+    assert_same(rt, &plant.send(ACCESS, PORT, &[1]), &Sending::Failed);
 }
 
 fn assert_lengths(rt: &impl Abort, sent: &[Datagram]) {
@@ -104,17 +113,27 @@ fn assert_lengths(rt: &impl Abort, sent: &[Datagram]) {
     }
 }
 
+// Three calls failed, and one of each is kept.
+fn assert_kept(rt: &impl Abort, plant: &MemoryPlant) {
+    assert_same(rt, &plant.faults(), &3);
+    assert_count(rt, plant.bound().len(), 1);
+    assert_lengths(rt, plant.sent());
+}
+
+// Whether it stopped telling what it heard.
+fn stopped_hearing(plant: &MemoryPlant) -> bool {
+    plant.heard().is_none()
+}
+
 #[test]
 fn binds_and_sends_are_kept_up_to_the_room(rt: HostRuntime) -> Result<(), Fail> {
     let mut plant = with_room_for_one(rt.alloc())?;
     bind_two(&rt, &mut plant);
     send_three(&rt, &mut plant);
-    assert_same(&rt, &plant.faults(), &3);
-    assert_count(&rt, plant.bound().len(), 1);
-    assert_lengths(&rt, plant.sent());
+    assert_kept(&rt, &plant);
     plant.wait(1);
     plant.wait(2);
-    assert!(rt; plant.heard().is_none(), "it stopped telling");
+    assert_holds(&rt, stopped_hearing(&plant));
     Ok(())
 }
 
@@ -134,34 +153,44 @@ fn answer_three<C: Clock>(rt: &impl Abort, clock: &mut C) {
     assert_same(rt, &clock.wall(), &1_700_000_001);
 }
 
+// Whether it stopped telling what it answered.
+fn stopped_answering(clock: &MemoryClock) -> bool {
+    clock.answers().is_none()
+}
+
 #[test]
 fn a_clock_moves_by_its_step(rt: HostRuntime) -> Result<(), Fail> {
     let mut clock = MemoryClock::new(rt.alloc(), 600, 1_700_000_000, 3)?;
     answer_three(&rt, &mut clock);
     assert_same(&rt, &clock.answers(), &Some(ANSWERS.as_slice()));
     assert_same(&rt, &moment(&mut clock), &1800);
-    assert!(rt; clock.answers().is_none(), "it stopped telling");
+    assert_holds(&rt, stopped_answering(&clock));
     Ok(())
 }
 
-fn seeded<E: Entropy>(entropy: &mut E) -> Seeded {
-    entropy.seed()
+// The next seed is this.
+fn seeds<E: Entropy>(rt: &impl Abort, entropy: &mut E, want: Seeded) {
+    assert_same(rt, &entropy.seed(), &want);
+}
+
+// Two seeds. The second call fails.
+fn two_seeds(alloc: Global) -> Result<MemoryEntropy, AllocError> {
+    let seeds = vec![in alloc; [1; 32], [2; 32]]?;
+    let fail_at = vec![in alloc; 2]?;
+    Ok(MemoryEntropy::new(seeds, fail_at))
+}
+
+fn seed_four<E: Entropy>(rt: &impl Abort, entropy: &mut E) {
+    seeds(rt, entropy, Seeded::Seed([1; 32]));
+    seeds(rt, entropy, Seeded::Failed);
+    seeds(rt, entropy, Seeded::Seed([2; 32]));
+    seeds(rt, entropy, Seeded::Failed);
 }
 
 #[test]
 fn seeds_come_in_their_order_past_a_failing_call(rt: HostRuntime) -> Result<(), Fail> {
-    let alloc = rt.alloc();
-    let seeds = vec![in alloc; [1; 32], [2; 32]]?;
-    let fail_at = vec![in alloc; 2]?;
-    let mut entropy = MemoryEntropy::new(seeds, fail_at);
-    for want in [
-        Seeded::Seed([1; 32]),
-        Seeded::Failed,
-        Seeded::Seed([2; 32]),
-        Seeded::Failed,
-    ] {
-        assert_same(&rt, &seeded(&mut entropy), &want);
-    }
+    let mut entropy = two_seeds(rt.alloc())?;
+    seed_four(&rt, &mut entropy);
     assert_same(&rt, &entropy.faults(), &2);
     assert_count(&rt, entropy.given().len(), 2);
     Ok(())
@@ -184,15 +213,23 @@ fn reads<F: Files>(files: &mut F, alloc: Global, name: &str, want: Option<&[u8]>
     }
 }
 
+// The read of this name was as it is wanted.
+fn assert_read(rt: &impl Abort, name: &str, holds: bool) {
+    assert!(rt; holds, "{name}");
+}
+
+// The names that are read, one after the other, and their texts.
+const READS: &[(&str, Option<&[u8]>)] = &[
+    ("b.conf", Some(b"name b")),
+    ("b.conf", None),
+    ("c.conf", None),
+    ("a.conf", Some(b"name a")),
+    ("a.conf", None),
+];
+
 fn read_five<F: Files>(rt: &impl Abort, files: &mut F, alloc: Global) {
-    for (name, want) in [
-        ("b.conf", Some(b"name b".as_slice())),
-        ("b.conf", None),
-        ("c.conf", None),
-        ("a.conf", Some(b"name a".as_slice())),
-        ("a.conf", None),
-    ] {
-        assert!(rt; reads(files, alloc, name, want), "{name}");
+    for (name, want) in READS {
+        assert_read(rt, *name, reads(files, alloc, *name, *want));
     }
 }
 
@@ -204,114 +241,30 @@ fn a_file_is_read_by_its_name(rt: HostRuntime) -> Result<(), Fail> {
     Ok(())
 }
 
-fn wrote<S: Sink>(sink: &mut S, text: &[u8]) -> Wrote {
-    sink.write(text)
+// A write of this text has this answer.
+fn writes<S: Sink>(rt: &impl Abort, sink: &mut S, text: &str, want: Wrote) {
+    assert_same(rt, &sink.write(text.as_bytes()), &want);
+}
+
+fn write_three<S: Sink>(rt: &impl Abort, sink: &mut S) {
+    writes(rt, sink, "one\n", Wrote::Ok);
+    writes(rt, sink, "two\n", Wrote::Failed);
+    writes(rt, sink, "three\n", Wrote::Failed);
+}
+
+// A sink with room for ten octets, whose second call fails.
+fn with_room_for_ten(alloc: Global) -> Result<MemorySink, AllocError> {
+    let fail_at = vec![in alloc; 2]?;
+    MemorySink::new(alloc, fail_at, 10)
 }
 
 #[test]
 fn a_failing_write_appends_a_front(rt: HostRuntime) -> Result<(), Fail> {
-    let alloc = rt.alloc();
-    let fail_at = vec![in alloc; 2]?;
-    let mut sink = MemorySink::new(alloc, fail_at, 10)?;
-    for (text, want) in [
-        ("one\n", Wrote::Ok),
-        ("two\n", Wrote::Failed),
-        ("three\n", Wrote::Failed),
-    ] {
-        assert_same(&rt, &wrote(&mut sink, text.as_bytes()), &want);
-    }
+    let mut sink = with_room_for_ten(rt.alloc())?;
+    write_three(&rt, &mut sink);
     assert_octets(&rt, &sink.text(), b"one\ntwthre".as_slice());
     assert_same(&rt, &sink.faults(), &2);
     Ok(())
-}
-
-fn item(octet: u8) -> Item {
-    let mut frame = Frame::new();
-    frame.set(&[0, octet]);
-    frame.cut_front(1);
-    Item {
-        kind: ItemKind::Core,
-        from: PORT,
-        frame,
-        cut: false,
-        random: [octet; 16],
-        target: 0,
-        ask: 0,
-    }
-}
-
-fn entry(octet: u8) -> Entry {
-    Entry {
-        seat: 0,
-        place: 0,
-        moment: 600,
-        item: item(octet),
-        claim: Claim::NoClaim,
-    }
-}
-
-/// The journals of two shards, the first with one entry and the second with two.
-fn journals(alloc: Global) -> Result<Vec<Listed<Entry>>, AllocError> {
-    let one = Listed::of(vec![in alloc; entry(1)]?);
-    let two = Listed::of(vec![in alloc; entry(2), entry(3)]?);
-    Ok(vec![in alloc; one, two]?)
-}
-
-fn loose() -> Loose {
-    Loose {
-        seat: 0,
-        place: 1,
-        item: item(4),
-        fate: Fate::Consumed,
-    }
-}
-
-fn out() -> OutRecord {
-    OutRecord {
-        shard: 1,
-        seat: 0,
-        place: 0,
-        role: Role::Access(1),
-        to: PORT,
-        frame: Octets::of(Frame::new()),
-        charge: None,
-        sent: true,
-    }
-}
-
-fn allowances(alloc: Global) -> Result<Listed<u32>, AllocError> {
-    Ok(Listed::of(vec![in alloc; 10, 20]?))
-}
-
-fn loose_items(alloc: Global) -> Result<Listed<Loose>, AllocError> {
-    Ok(Listed::of(vec![in alloc; loose()]?))
-}
-
-fn outs(alloc: Global) -> Result<Listed<OutRecord>, AllocError> {
-    Ok(Listed::of(vec![in alloc; out()]?))
-}
-
-fn refused(alloc: Global) -> Result<Listed<Item>, AllocError> {
-    Ok(Listed::of(vec![in alloc; item(5)]?))
-}
-
-/// A round of these two shards.
-fn round(alloc: Global, number: u64) -> Result<RoundRecord, AllocError> {
-    let allowances = allowances(alloc)?;
-    let journals = Listed::of(journals(alloc)?);
-    let loose = loose_items(alloc)?;
-    let outs = outs(alloc)?;
-    let refused = refused(alloc)?;
-    Ok(RoundRecord {
-        number,
-        moment: 600,
-        wall: 1_700_000_000,
-        allowances,
-        journals,
-        loose,
-        outs,
-        refused,
-    })
 }
 
 // Notes the round of this number.
@@ -326,11 +279,17 @@ fn with_room_for_two(alloc: Global) -> Result<MemoryTrace, AllocError> {
     MemoryTrace::new(alloc, fail_at, 8, 8)
 }
 
+// A note of the round 7 has this answer.
+fn notes<T: Trace>(rt: &impl Abort, alloc: Global, trace: &mut T, want: Noted) {
+    assert_same(rt, &noted(alloc, trace, 7), &Ok(want));
+}
+
 fn note_four<T: Trace>(rt: &impl Abort, alloc: Global, trace: &mut T) {
     assert_same(rt, &trace.start("trace"), &Noted::Ok);
-    for want in [Noted::Ok, Noted::Failed, Noted::Ok, Noted::Failed] {
-        assert_same(rt, &noted(alloc, trace, 7), &Ok(want));
-    }
+    notes(rt, alloc, trace, Noted::Ok);
+    notes(rt, alloc, trace, Noted::Failed);
+    notes(rt, alloc, trace, Noted::Ok);
+    notes(rt, alloc, trace, Noted::Failed);
 }
 
 fn assert_heads(rt: &impl Abort, heads: &[Head]) {
@@ -339,10 +298,16 @@ fn assert_heads(rt: &impl Abort, heads: &[Head]) {
     }
 }
 
+fn assert_entry(rt: &impl Abort, entry: &Entry, octet: u8) {
+    assert_octets(rt, entry.item.frame.payload(), &[octet].as_slice());
+    assert_same(rt, &entry.item.frame.headroom(), &65);
+}
+
+const OCTETS: &[u8] = &[1, 2, 3, 1, 2, 3];
+
 fn assert_entries(rt: &impl Abort, entries: &[Entry]) {
-    for (entry, octet) in entries.iter().zip([1, 2, 3, 1, 2, 3]) {
-        assert_octets(rt, entry.item.frame.payload(), &[octet].as_slice());
-        assert_same(rt, &entry.item.frame.headroom(), &65);
+    for (entry, octet) in entries.iter().zip(OCTETS) {
+        assert_entry(rt, entry, *octet);
     }
 }
 
@@ -357,15 +322,20 @@ fn lens(trace: &MemoryTrace) -> [usize; 5] {
     ]
 }
 
+// Two rounds are kept whole.
+fn assert_whole_rounds(rt: &impl Abort, trace: &MemoryTrace) {
+    assert_heads(rt, trace.heads());
+    assert_same(rt, &trace.allowances(), &[10, 20, 10, 20].as_slice());
+    assert_entries(rt, trace.entries());
+    assert_same(rt, &lens(trace), &[2, 6, 2, 2, 2]);
+}
+
 #[test]
 fn a_trace_keeps_whole_rounds_in_flat_lists(rt: HostRuntime) -> Result<(), Fail> {
     let mut trace = with_room_for_two(rt.alloc())?;
     note_four(&rt, rt.alloc(), &mut trace);
     assert_same(&rt, &trace.faults(), &2);
-    assert_heads(&rt, trace.heads());
-    assert_same(&rt, &trace.allowances(), &[10, 20, 10, 20].as_slice());
-    assert_entries(&rt, trace.entries());
-    assert_same(&rt, &lens(&trace), &[2, 6, 2, 2, 2]);
+    assert_whole_rounds(&rt, &trace);
     Ok(())
 }
 

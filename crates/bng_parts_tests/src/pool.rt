@@ -10,7 +10,8 @@ mod table;
 use crate::asserts::{assert_holds, assert_same};
 use bng_base::{Claim, Ip4, Range};
 use bng_pool::{Pool, PoolError, PoolSeat};
-use std::alloc::Global;
+use std::alloc::{AllocError, Global};
+use std::process::Abort;
 use std::sync::Wait;
 use std::sync::atomic::{AtomicU64, Ordering};
 use std::test::Fail;
@@ -131,13 +132,19 @@ fn names_winners(pool: &Pool, seat: &mut PoolSeat, winners: &[AtomicU64]) -> boo
     next == FIRST + 1000
 }
 
+// So many places that nobody signed.
+fn unsigned(alloc: Global, count: usize) -> Result<Vec<AtomicU64>, AllocError> {
+    let mut places = Vec::with_capacity(alloc, count)?;
+    for _ in 0..count {
+        places.push(AtomicU64::new(0))?;
+    }
+    Ok(places)
+}
+
 #[test]
 fn each_address_goes_to_one_of_two_threads(rt: HostRuntime) -> Result<(), Fail> {
     let (pool, mut shards, _workers) = open_one(rt.alloc(), 1000, 2)?;
-    let mut winners = Vec::with_capacity(rt.alloc(), 1000)?;
-    for _ in 0..1000 {
-        winners.push(AtomicU64::new(0))?;
-    }
+    let winners = unsigned(rt.alloc(), 1000)?;
     all_claim(&rt, &pool, shards.as_mut_slice(), winners.as_slice());
     assert_holds(
         &rt,
@@ -199,6 +206,16 @@ fn all_play<R: Threads + Wait + Sync>(
     );
 }
 
+// The holder of an address is the shard that signed last.
+fn assert_signed(rt: &impl Abort, pool: &Pool, seat: &mut PoolSeat, a: Ip4, last: &AtomicU64)
+    requires { seat.old.pool ≡ pool.now }
+    ensures { seat.new.pool ≡ pool.now }
+{
+    let found = holder(pool, seat, a);
+    let signed = last.load(Ordering::SeqCst);
+    assert_same(rt, &found.map(|shard| u64::from(shard) + 1), &Some(signed));
+}
+
 #[test]
 fn after_many_rounds_each_address_is_where_the_seats_say(rt: HostRuntime) -> Result<(), Fail> {
     let (pool, mut seats, mut workers) = open_one(rt.alloc(), 3, 4)?;
@@ -207,29 +224,35 @@ fn after_many_rounds_each_address_is_where_the_seats_say(rt: HostRuntime) -> Res
     let last = [AtomicU64::new(0), AtomicU64::new(0), AtomicU64::new(0)];
     all_play(&rt, &pool, seats.as_mut_slice(), 10_000, &last);
     let seat = &mut seats[4];
-    let holders = [
-        holder(&pool, seat, Ip4(FIRST)),
-        holder(&pool, seat, Ip4(FIRST + 1)),
-        holder(&pool, seat, Ip4(FIRST + 2)),
-    ];
-    for (found, last) in holders.into_iter().zip(&last) {
-        let signed = last.load(Ordering::SeqCst);
-        assert_same(&rt, &found.map(|shard| u64::from(shard) + 1), &Some(signed));
-    }
+    assert_signed(&rt, &pool, seat, Ip4(FIRST), &last[0]);
+    assert_signed(&rt, &pool, seat, Ip4(FIRST + 1), &last[1]);
+    assert_signed(&rt, &pool, seat, Ip4(FIRST + 2), &last[2]);
     Ok(())
+}
+
+// The shard gets all three addresses.
+fn take_all(rt: &impl Abort, pool: &Pool, seat: &mut PoolSeat)
+    requires { (seat.old.pool ≡ pool.now) × (seat.old.number < pool.now.shards) × (0 < length pool.now.ranges) }
+{
+    assert_same(rt, &seek(pool, seat), &Claim::Claimed(Ip4(FIRST)));
+    assert_same(rt, &seek(pool, seat), &Claim::Claimed(Ip4(FIRST + 1)));
+    assert_same(rt, &seek(pool, seat), &Claim::Claimed(Ip4(FIRST + 2)));
+}
+
+// The shard gets none of them, since the shard 1 has them.
+fn find_them_held(rt: &impl Abort, pool: &Pool, seat: &mut PoolSeat)
+    requires { (seat.old.pool ≡ pool.now) × (seat.old.number < pool.now.shards) × (0 < length pool.now.ranges) }
+{
+    assert_same(rt, &seek(pool, seat), &Claim::Exhausted(0));
+    assert_holds(rt, !lease(pool, seat, Ip4(FIRST + 2)));
+    assert_same(rt, &holder(pool, seat, Ip4(FIRST + 2)), &Some(1));
+    assert_same(rt, &holder(pool, seat, Ip4(FIRST + 3)), &None);
 }
 
 #[test]
 fn a_range_that_another_shard_holds_is_exhausted(rt: HostRuntime) -> Result<(), Fail> {
     let (pool, mut shards, _workers) = open_one(rt.alloc(), 3, 2)?;
-    let other = &mut shards[1];
-    assert_same(&rt, &seek(&pool, other), &Claim::Claimed(Ip4(FIRST)));
-    assert_same(&rt, &seek(&pool, other), &Claim::Claimed(Ip4(FIRST + 1)));
-    assert_same(&rt, &seek(&pool, other), &Claim::Claimed(Ip4(FIRST + 2)));
-    let seat = &mut shards[0];
-    assert_same(&rt, &seek(&pool, seat), &Claim::Exhausted(0));
-    assert_holds(&rt, !lease(&pool, seat, Ip4(FIRST + 2)));
-    assert_same(&rt, &holder(&pool, seat, Ip4(FIRST + 2)), &Some(1));
-    assert_same(&rt, &holder(&pool, seat, Ip4(FIRST + 3)), &None);
+    take_all(&rt, &pool, &mut shards[1]);
+    find_them_held(&rt, &pool, &mut shards[0]);
     Ok(())
 }

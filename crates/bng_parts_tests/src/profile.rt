@@ -6,6 +6,7 @@ use arrayvec::ArrayVec;
 use bng_base::{Book, Profile};
 use bng_profile::{ProfileError, Profiles};
 use std::alloc::Global;
+use std::process::Abort;
 use std::test::Fail;
 
 fn unmetered(name: &[u8]) -> Profile
@@ -57,15 +58,31 @@ fn bronze_and_gold(alloc: Global) -> Result<Profiles, ProfileError>
     Profiles::open(alloc, &[unmetered(b"bronze"), unmetered(b"gold")])
 }
 
+// The profile of this name is at this place.
+fn finds(rt: &impl Abort, profiles: &Profiles, name: &[u8], place: Option<u8>) {
+    assert_same(rt, &profiles.find(name), &place);
+}
+
 #[test]
 fn finds_each_profile_by_its_whole_name(rt: HostRuntime) -> Result<(), Fail> {
     let profiles = bronze_and_gold(rt.alloc())?;
-    assert_same(&rt, &profiles.find(b"bronze"), &Some(0));
-    assert_same(&rt, &profiles.find(b"gold"), &Some(1));
-    assert_same(&rt, &profiles.find(b"golden"), &None);
-    assert_same(&rt, &profiles.find(b""), &None);
+    finds(&rt, &profiles, b"bronze", Some(0));
+    finds(&rt, &profiles, b"gold", Some(1));
+    finds(&rt, &profiles, b"golden", None);
+    finds(&rt, &profiles, b"", None);
     assert_same(&rt, &profiles.count(), &2);
     Ok(())
+}
+
+// Four packets pass. None where a book is full.
+fn pass_four(profiles: &mut Profiles) -> Option<()>
+    requires { length profiles.old.books ≡ 2 }
+    ensures { length profiles.new.books ≡ 2 }
+{
+    pass(profiles, 0, true, 100)?;
+    pass(profiles, 1, true, 200)?;
+    pass(profiles, 1, false, 84)?;
+    pass(profiles, 1, true, u16::MAX)
 }
 
 // Four packets pass, and the last one is taken off.
@@ -73,10 +90,7 @@ fn pass_and_take_off(profiles: &mut Profiles) -> Result<(), Fail>
     requires { length profiles.old.books ≡ 2 }
     ensures { length profiles.new.books ≡ 2 }
 {
-    pass(profiles, 0, true, 100).ok_or("full")?;
-    pass(profiles, 1, true, 200).ok_or("full")?;
-    pass(profiles, 1, false, 84).ok_or("full")?;
-    pass(profiles, 1, true, u16::MAX).ok_or("full")?;
+    pass_four(profiles).ok_or("full")?;
     take_off(profiles, 1, u16::MAX).ok_or("empty")?;
     Ok(())
 }

@@ -82,6 +82,23 @@ fn all_sign<R: Threads + Wait + Abort + Sync>(
     );
 }
 
+// The next entry of one of four seats has the place that comes next.
+fn assert_next(rt: &impl Abort, next: &mut [u64; 4], seat: u64, place: u64) {
+    assert_holds(rt, seat < 4);
+    let seat = seat as usize;
+    assert_same(rt, &next[seat], &place);
+    next[seat] = place.wrapping_add(1);
+}
+
+// Each of four seats signed 1,000 places, in their order.
+fn assert_each_in_order(rt: &impl Abort, entries: &[(u64, u64)]) {
+    let mut next = [0u64; 4];
+    for (seat, place) in entries {
+        assert_next(rt, &mut next, *seat, *place);
+    }
+    assert_same(rt, &next, &[1000, 1000, 1000, 1000]);
+}
+
 #[test]
 fn each_seats_entries_stand_once_and_in_its_order(rt: HostRuntime) -> Result<(), Fail> {
     let roll = Roll {
@@ -93,14 +110,7 @@ fn each_seats_entries_stand_once_and_in_its_order(rt: HostRuntime) -> Result<(),
             all_sign(&rt, &turn, seats.as_mut_slice(), 1000);
             let Roll { entries } = turn.close(seats);
             assert_count(&rt, entries.len(), 4000);
-            let mut next = [0u64; 4];
-            for (seat, place) in entries {
-                assert_holds(&rt, seat < 4);
-                let seat = seat as usize;
-                assert_same(&rt, &next[seat], &place);
-                next[seat] = place.wrapping_add(1);
-            }
-            assert_same(&rt, &next, &[1000, 1000, 1000, 1000]);
+            assert_each_in_order(&rt, entries.as_slice());
         }
     }
     Ok(())

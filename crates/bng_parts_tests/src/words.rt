@@ -1,6 +1,7 @@
 use crate::asserts::assert_same;
 use bng_words::read;
 use std::alloc::{AllocError, Global};
+use std::process::Abort;
 use std::test::Fail;
 
 fn words(alloc: Global, texts: &[&str]) -> Result<Vec<String>, AllocError> {
@@ -16,6 +17,13 @@ fn told(alloc: Global, texts: &[&str]) -> Result<String, AllocError> {
     let words = words(alloc, texts)?;
     let told = read(alloc, &words);
     format!(in alloc; "{told:?}")
+}
+
+// What is read of the words is this.
+fn reads(rt: &impl Abort, alloc: Global, texts: &[&str], wanted: &str) -> Result<(), Fail> {
+    let told = told(alloc, texts)?;
+    assert_same(rt, &told.as_str(), &wanted);
+    Ok(())
 }
 
 // The words of a command, and what is read of them.
@@ -80,7 +88,7 @@ const COMMANDS: &[(&[&str], &str)] = &[
 #[test]
 fn reads_each_command(rt: HostRuntime) -> Result<(), Fail> {
     for (texts, wanted) in COMMANDS {
-        assert_same(&rt, &told(rt.alloc(), *texts)?.as_str(), wanted);
+        reads(&rt, rt.alloc(), *texts, *wanted)?;
     }
     Ok(())
 }
@@ -119,7 +127,7 @@ const OTHERS: &[&[&str]] = &[
 #[test]
 fn refuses_other_words(rt: HostRuntime) -> Result<(), Fail> {
     for texts in OTHERS {
-        assert_same(&rt, &told(rt.alloc(), *texts)?.as_str(), &"Err(Refused)");
+        reads(&rt, rt.alloc(), *texts, "Err(Refused)")?;
     }
     Ok(())
 }

@@ -1,19 +1,14 @@
-//! What the tests of a shard share: its rules, the rounds of one item, and how a host asks for a session.
-ghost use Rattle.std.specs.Prelude.{◌≡◌, ◌⊎◌, ◌+◌, ◌<◌, ◌≤◌, ◌^◌, [], ◌∷◌, IfOk, length, map, true};
+//! What the tests of a shard share: the rounds of one item, and how a host asks for a session.
+ghost use Rattle.std.specs.Prelude.{◌≡◌, ◌⊎◌, ◌+◌, ◌<◌, ◌≤◌, ◌^◌, [], ◌∷◌, length, map, true};
 ghost use Rattle.bng_profile.specs.Books.{AreDifferent, names_of};
 ghost use Rattle.bng_shard.specs.Sums.{AreLow, IsLow};
 
 use crate::asserts::{assert_count, assert_holds};
-use arrayvec::ArrayVec;
-use bng_base::{
-    AccessPort, AuthKind, Book, Fate, Frame, Ip4, Item, ItemKind, Lac, Listed, Mac, NamedRange,
-    OutRecord, Peer, Profile, Range, Rate, Static,
-};
-use bng_discovery::PortRules;
+use bng_base::{Book, Fate, Frame, Item, ItemKind, OutRecord, Range};
 use bng_pool::PlainPool;
-use bng_ppp::LinkRules;
 use bng_shard::{EndedTerm, LiveTerm, Rules, Shard};
-use std::alloc::{AllocError, Global};
+use settings::{KEY, peer};
+use std::alloc::Global;
 use std::marker::Model;
 use std::process::Abort;
 use std::test::Fail;
@@ -23,13 +18,10 @@ mod discovery;
 mod interims;
 mod logins;
 mod metering;
+mod settings;
 mod terms;
 mod tunnels;
 mod verdicts;
-
-const PORT: Mac = Mac([2, 0, 0, 0, 0, 0xfe]);
-
-const KEY: [u8; 16] = [0, 1, 2, 3, 4, 5, 6, 7, 8, 9, 10, 11, 12, 13, 14, 15];
 
 // for any service, with a Host-Uniq
 const PADI: [u8; 32] = [
@@ -47,160 +39,6 @@ const TO_IT: [u8; 28] = [
     0x45, 0, 0, 28, 0, 0, 0, 0, 64, 17, 0xae, 0xce, 192, 0, 2, 1, 10, 0, 0, 2, 0x30, 0x39, 0x30,
     0x39, 0, 8, 0, 0,
 ];
-
-fn peer(port: u16) -> Peer {
-    Peer {
-        ip: Ip4(0x7f000001),
-        port,
-    }
-}
-
-fn text<const N: usize>(octets: &[u8]) -> ArrayVec<u8, N> {
-    let mut text = ArrayVec::new();
-    for octet in octets {
-        if !text.is_full() {
-            text.push(*octet);
-        }
-    }
-    text
-}
-
-fn offers() -> PortRules {
-    let mut services = ArrayVec::new();
-    services.push(text(b"inet"));
-    PortRules {
-        port: 1,
-        mac: PORT,
-        key: KEY,
-        name: text(b"bng1"),
-        services,
-    }
-}
-
-fn links() -> LinkRules
-    ensures { 0 < length result.auth.items }
-{
-    LinkRules {
-        name: text(b"bng1"),
-        address: Ip4(0x0a000001),
-        dns: [None, None],
-        auth: ArrayVec::from([AuthKind::Pap, AuthKind::Chap]),
-        echo: 0,
-    }
-}
-
-// The addresses 10.0.0.2 and 10.0.0.3.
-const TWO: Range = Range {
-    first: Ip4(0x0a000002),
-    last: Ip4(0x0a000003),
-};
-
-// The address 10.0.0.2.
-const ONE: Range = Range {
-    first: Ip4(0x0a000002),
-    last: Ip4(0x0a000002),
-};
-
-// 84 octets a second, and 28 at once.
-const SLOW: Rate = Rate {
-    cir: 84,
-    cbs: 28,
-    ebs: 0,
-};
-
-// A profile of this name that meters the packets of a subscriber by this rate, and none towards it.
-fn profile(name: &[u8], up: Option<Rate>) -> Profile
-    requires { length name.now ≤ 32 }
-    ensures { result.name.items ≡ name.now }
-{
-    let mut letters = ArrayVec::new();
-    let Ok(()) = letters.try_extend_from_slice(name) else {
-        unreachable!()
-    };
-    Profile {
-        name: letters,
-        up,
-        down: None,
-    }
-}
-
-// Two profiles, of which the second meters.
-fn profiles(alloc: Global) -> Result<Vec<Profile>, AllocError>
-    ensures two { IfOk result (λ ps. length ps.items ≡ 2) }
-    ensures different { IfOk result (λ ps. AreDifferent (names_of ps.items)) }
-{
-    let list = Vec::from_array(
-        alloc,
-        [profile(b"bronze", None), profile(b"gold", Some(SLOW))],
-    )?;
-    Ok(list)
-}
-
-// One shard, the port 1, these pools, two profiles, and the access concentrator 127.0.0.1.
-fn rules_over(alloc: Global, pools: Vec<NamedRange>) -> Result<Rules, AllocError>
-    ensures auth { IfOk result (λ r. 0 < length r.link.auth.items) }
-    ensures access { IfOk result (λ r. length r.access ≡ 1) }
-    ensures offers { IfOk result (λ r. length r.offers ≡ 1) }
-    ensures profiles { IfOk result (λ r. length r.profiles ≡ 2) }
-    ensures different { IfOk result (λ r. AreDifferent (names_of r.profiles)) }
-    ensures pools { IfOk result (λ r. r.pools ≡ pools.items) }
-    ensures shards { IfOk result (λ r. r.shards ≡ 1) }
-{
-    let port = AccessPort {
-        local: peer(9010),
-        peer: peer(9011),
-        mac: PORT,
-    };
-    let access = Vec::from_array(alloc, [port])?;
-    let offers = Vec::from_array(alloc, [offers()])?;
-    let profiles = profiles(alloc)?;
-    let lac = Lac {
-        ip: Ip4(0x7f000001),
-        secret: None,
-    };
-    let lacs = Vec::from_array(alloc, [lac])?;
-    Ok(Rules {
-        shards: 1,
-        core_peer: peer(9001),
-        access: Listed::of(access),
-        offers: Listed::of(offers),
-        pools: Listed::of(pools),
-        profiles: Listed::of(profiles),
-        link: links(),
-        lacs: Listed::of(lacs),
-        serves_tunnels: true,
-        nas_ip: Ip4(0xc0a80110),
-        wall: 1_700_000_000,
-        serves_changes: true,
-    })
-}
-
-// The same with no pool.
-fn rules(alloc: Global) -> Result<Rules, AllocError>
-    ensures auth { IfOk result (λ r. 0 < length r.link.auth.items) }
-    ensures access { IfOk result (λ r. length r.access ≡ 1) }
-    ensures offers { IfOk result (λ r. length r.offers ≡ 1) }
-    ensures profiles { IfOk result (λ r. length r.profiles ≡ 2) }
-    ensures different { IfOk result (λ r. AreDifferent (names_of r.profiles)) }
-    ensures pools { IfOk result (λ r. r.pools ≡ []) }
-    ensures shards { IfOk result (λ r. r.shards ≡ 1) }
-{
-    rules_over(alloc, Vec::new(alloc))
-}
-
-// The same with this pool, whose name is main.
-fn rules_with(alloc: Global, range: Range) -> Result<Rules, AllocError>
-    ensures auth { IfOk result (λ r. 0 < length r.link.auth.items) }
-    ensures access { IfOk result (λ r. length r.access ≡ 1) }
-    ensures offers { IfOk result (λ r. length r.offers ≡ 1) }
-    ensures profiles { IfOk result (λ r. length r.profiles ≡ 2) }
-    ensures different { IfOk result (λ r. AreDifferent (names_of r.profiles)) }
-    ensures pools { IfOk result (λ r. map (λ p. p.range) r.pools ≡ range ∷ []) }
-{
-    let name = text(b"main");
-    let pools = Vec::from_array(alloc, [NamedRange { name, range }])?;
-    rules_over(alloc, pools)
-}
 
 /// A shard, and who holds an address.
 struct Bench {

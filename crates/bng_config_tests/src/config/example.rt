@@ -1,9 +1,10 @@
-use super::{
-    CircuitRow, ProfileRow, assert_addresses, assert_circuits, assert_coa, assert_kinds,
-    assert_lacs, assert_number, assert_pools, assert_ports, assert_profiles, assert_sockets,
-    config_of,
+use super::config_of;
+use super::parts::{
+    CircuitRow, PoolRow, PortRow, ProfileRow, assert_addresses, assert_circuits, assert_coa,
+    assert_kinds, assert_lacs, assert_numbers, assert_pools, assert_ports, assert_profiles,
+    assert_services, assert_sockets,
 };
-use crate::asserts::{assert_count, assert_octets};
+use crate::asserts::assert_octets;
 use bng_base::{AuthKind, Rate};
 use bng_config::Config;
 use std::process::Abort;
@@ -119,6 +120,14 @@ address = "10.0.8.2"
 user = "fixed2"
 "#;
 
+/// The lists of the example's gateway.
+fn assert_lists(rt: &impl Abort, config: &Config) {
+    assert_services(rt, config.services.as_slice(), &[b"internet"]);
+    assert_addresses(rt, config.dns.as_slice(), &[0xc000_0235, 0xc633_6435]);
+    assert_kinds(rt, config.auth.as_slice(), &[AuthKind::Chap, AuthKind::Pap]);
+}
+
+/// What the gateway is, of the example.
 fn assert_gateway(rt: &impl Abort, config: &Config) {
     assert_octets(rt, config.name.as_slice(), b"bng1");
     assert_addresses(
@@ -126,52 +135,54 @@ fn assert_gateway(rt: &impl Abort, config: &Config) {
         &[config.address, config.nas_ip],
         &[0x0a00_0001, 0xc000_0201],
     );
-    assert_number(rt, u64::from(config.shards), 4);
-    assert_number(rt, u64::from(config.workers), 2);
-    assert_number(rt, u64::from(config.terms), 8192);
-    assert_count(rt, config.services.len(), 1);
-    assert_octets(rt, config.services.as_slice()[0].as_slice(), b"internet");
-    assert_addresses(rt, config.dns.as_slice(), &[0xc000_0235, 0xc633_6435]);
-    assert_kinds(rt, config.auth.as_slice(), &[AuthKind::Chap, AuthKind::Pap]);
-    assert_number(rt, u64::from(config.echo), 30);
+    assert_numbers(rt, config, [4, 2, 8192, 30]);
+    assert_lists(rt, config);
 }
+
+const ENDS: &[PortRow] = &[(9010, 9011, 0xfe), (9020, 9021, 0xfd)];
+
+const CONCENTRATORS: &[(u32, &[u8])] = &[(0xc000_020b, b"tunnel-secret"), (0xc000_020c, b"")];
+
+const PEERS: &[u32] = &[0xc000_0215, 0xc000_0216];
 
 #[test]
 fn the_example_is_read(rt: HostRuntime) {
     let config = config_of(&rt, rt.alloc(), EXAMPLE);
     assert_gateway(&rt, &config);
     assert_sockets(&rt, &config, 4);
-    let ends = [(9010, 9011, 0xfe), (9020, 9021, 0xfd)];
-    assert_ports(&rt, config.access.as_slice(), &ends);
-    let concentrators: [(u32, &[u8]); 2] = [(0xc000_020b, b"tunnel-secret"), (0xc000_020c, b"")];
-    assert_lacs(&rt, config.lacs.as_slice(), &concentrators);
-    let peers = [0xc000_0215, 0xc000_0216];
-    assert_coa(&rt, &config.coa, 3799, &peers, b"change-secret");
+    assert_ports(&rt, config.access.as_slice(), ENDS);
+    assert_lacs(&rt, config.lacs.as_slice(), CONCENTRATORS);
+    assert_coa(&rt, &config.coa, 3799, PEERS, b"change-secret");
 }
+
+const RANGES: &[PoolRow] = &[
+    (b"main", 0x0a00_0002, 0x0a00_03ff),
+    (b"business", 0x0a00_0800, 0x0a00_08ff),
+];
+
+const UP: Rate = Rate {
+    cir: 1_250_000,
+    cbs: 250_000,
+    ebs: 0,
+};
+
+const DOWN: Rate = Rate {
+    cir: 6_250_000,
+    cbs: 1_250_000,
+    ebs: 1_250_000,
+};
+
+const METERS: &[ProfileRow] = &[(b"basic", Some(UP), Some(DOWN)), (b"unmetered", None, None)];
+
+const CIRCUITS: &[CircuitRow] = &[
+    (1, 1, 1025, 0x0a00_0801, b"fixed1", 1),
+    (2, 2, 1026, 0x0a00_0802, b"fixed2", 0),
+];
 
 #[test]
 fn the_pools_and_circuits_of_the_example_are_read(rt: HostRuntime) {
     let config = config_of(&rt, rt.alloc(), EXAMPLE);
-    let ranges: [(&[u8], u32, u32); 2] = [
-        (b"main", 0x0a00_0002, 0x0a00_03ff),
-        (b"business", 0x0a00_0800, 0x0a00_08ff),
-    ];
-    assert_pools(&rt, config.pools.as_slice(), &ranges);
-    let up = Rate {
-        cir: 1_250_000,
-        cbs: 250_000,
-        ebs: 0,
-    };
-    let down = Rate {
-        cir: 6_250_000,
-        cbs: 1_250_000,
-        ebs: 1_250_000,
-    };
-    let meters: [ProfileRow; 2] = [(b"basic", Some(up), Some(down)), (b"unmetered", None, None)];
-    assert_profiles(&rt, config.profiles.as_slice(), &meters);
-    let circuits: [CircuitRow; 2] = [
-        (1, 1, 1025, 0x0a00_0801, b"fixed1", 1),
-        (2, 2, 1026, 0x0a00_0802, b"fixed2", 0),
-    ];
-    assert_circuits(&rt, config.statics.as_slice(), &circuits);
+    assert_pools(&rt, config.pools.as_slice(), RANGES);
+    assert_profiles(&rt, config.profiles.as_slice(), METERS);
+    assert_circuits(&rt, config.statics.as_slice(), CIRCUITS);
 }

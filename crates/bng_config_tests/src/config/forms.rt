@@ -1,5 +1,8 @@
 use super::{FULL, LEAST, LONGEST, assert_rows, changed, config_of};
 use crate::asserts::{assert_count, assert_octets};
+use bng_base::NamedRange;
+use std::alloc::{AllocError, Global};
+use std::process::Abort;
 use std::test::Fail;
 
 /// What must be there, and is not.
@@ -302,20 +305,25 @@ fn texts_of_a_wrong_length_are_told(rt: HostRuntime) -> Result<(), Fail> {
     Ok(())
 }
 
-#[test]
-fn texts_may_be_as_long_as_that(rt: HostRuntime) -> Result<(), Fail> {
-    let alloc = rt.alloc();
+/// The full configuration with texts of the most and the least octets.
+fn with_longest(alloc: Global) -> Result<String, AllocError> {
     let text = changed(alloc, FULL, "\"b\"", "\"0123456789abcdefghijklmnopqrst-_\"")?;
     let text = changed(alloc, text.as_str(), "fixed2", LONGEST)?;
-    let text = changed(alloc, text.as_str(), "\"bng1\"", "\"_\"")?;
-    let config = config_of(&rt, alloc, text.as_str());
-    let pools = config.pools.as_slice();
-    assert_count(&rt, pools.len(), 2);
-    assert_octets(
-        &rt,
-        pools[1].name.as_slice(),
-        b"0123456789abcdefghijklmnopqrst-_",
-    );
+    changed(alloc, text.as_str(), "\"bng1\"", "\"_\"")
+}
+
+/// There are two pools, and the second has this name.
+fn assert_second_pool(rt: &impl Abort, pools: &[NamedRange], name: &[u8]) {
+    assert_count(rt, pools.len(), 2);
+    assert_octets(rt, pools[1].name.as_slice(), name);
+}
+
+#[test]
+fn texts_may_be_as_long_as_that(rt: HostRuntime) -> Result<(), Fail> {
+    let text = with_longest(rt.alloc())?;
+    let config = config_of(&rt, rt.alloc(), text.as_str());
+    let name = b"0123456789abcdefghijklmnopqrst-_";
+    assert_second_pool(&rt, config.pools.as_slice(), name);
     assert_octets(&rt, config.name.as_slice(), b"_");
     Ok(())
 }

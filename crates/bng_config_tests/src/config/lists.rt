@@ -1,13 +1,20 @@
 use super::{FULL, assert_rows, assert_told, changed};
 use std::alloc::{AllocError, Global};
+use std::process::Abort;
 use std::test::Fail;
 
-/// The text in which this line stands so many times more, in the place of the one.
-fn repeated(alloc: Global, line: &str, count: usize) -> Result<String, AllocError> {
+/// This line, and so many times more.
+fn lines_of(alloc: Global, line: &str, count: usize) -> Result<String, AllocError> {
     let mut lines = String::from_str(alloc, line)?;
     for _ in 0..count {
         lines.push_str(line)?;
     }
+    Ok(lines)
+}
+
+/// The text in which this line stands so many times more, in the place of the one.
+fn repeated(alloc: Global, line: &str, count: usize) -> Result<String, AllocError> {
+    let lines = lines_of(alloc, line, count)?;
     changed(alloc, FULL, line, lines.as_str())
 }
 
@@ -38,12 +45,22 @@ const COUNTS: &[(&str, usize, &str)] = &[
     (SECOND_CIRCUIT, 1022, "C14 static.3.session"),
 ];
 
+/// This is told where this line stands so many times more.
+fn assert_told_of_lines(
+    rt: &impl Abort,
+    alloc: Global,
+    line: &str,
+    count: usize,
+    wanted: &str,
+) -> Result<(), AllocError> {
+    let text = repeated(alloc, line, count)?;
+    assert_told(rt, alloc, text.as_bytes(), wanted)
+}
+
 #[test]
 fn lists_that_are_too_long_are_told(rt: HostRuntime) -> Result<(), Fail> {
-    let alloc = rt.alloc();
     for (line, count, wanted) in COUNTS {
-        let text = repeated(alloc, line, *count)?;
-        assert_told(&rt, alloc, text.as_bytes(), wanted)?;
+        assert_told_of_lines(&rt, rt.alloc(), line, *count, wanted)?;
     }
     Ok(())
 }
@@ -51,13 +68,27 @@ fn lists_that_are_too_long_are_told(rt: HostRuntime) -> Result<(), Fail> {
 /// With room for 64 terms.
 const FEW_TERMS: &[(usize, &str)] = &[(63, "C14 static"), (62, "C14 static.3.session")];
 
+/// The text with room for 64 terms, in which the second circuit stands so many times more.
+fn with_few_terms(alloc: Global, count: usize) -> Result<String, AllocError> {
+    let text = repeated(alloc, SECOND_CIRCUIT, count)?;
+    changed(alloc, text.as_str(), "terms = 8192", "terms = 64")
+}
+
+/// This is told of it.
+fn assert_told_of_circuits(
+    rt: &impl Abort,
+    alloc: Global,
+    count: usize,
+    wanted: &str,
+) -> Result<(), AllocError> {
+    let text = with_few_terms(alloc, count)?;
+    assert_told(rt, alloc, text.as_bytes(), wanted)
+}
+
 #[test]
 fn there_are_no_more_circuits_than_terms(rt: HostRuntime) -> Result<(), Fail> {
-    let alloc = rt.alloc();
     for (count, wanted) in FEW_TERMS {
-        let text = repeated(alloc, SECOND_CIRCUIT, *count)?;
-        let text = changed(alloc, text.as_str(), "terms = 8192", "terms = 64")?;
-        assert_told(&rt, alloc, text.as_bytes(), wanted)?;
+        assert_told_of_circuits(&rt, rt.alloc(), *count, wanted)?;
     }
     Ok(())
 }

@@ -78,6 +78,18 @@ const RULES: &[(&str, &str, &str)] = &[
     ("C14 static.1.profile", "silver", "gold"),
 ];
 
+/// Tells what is wrong with the text, and mends it: what is left.
+fn mended_once(
+    rt: &impl Abort,
+    alloc: Global,
+    text: &str,
+    row: &(&str, &str, &str),
+) -> Result<String, AllocError> {
+    let (wanted, line, other) = *row;
+    assert_told(rt, alloc, text.as_bytes(), wanted)?;
+    changed(alloc, text, line, other)
+}
+
 /// Tells what is wrong with the text, mends it, and goes on until nothing is: what is left.
 fn mended(
     rt: &impl Abort,
@@ -86,9 +98,8 @@ fn mended(
     rows: &[(&str, &str, &str)],
 ) -> Result<String, AllocError> {
     let mut text = String::from_str(alloc, whole)?;
-    for (wanted, line, other) in rows {
-        assert_told(rt, alloc, text.as_bytes(), wanted)?;
-        text = changed(alloc, text.as_str(), line, other)?;
+    for row in rows {
+        text = mended_once(rt, alloc, text.as_str(), row)?;
     }
     Ok(text)
 }

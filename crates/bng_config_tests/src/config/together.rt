@@ -1,5 +1,6 @@
 use super::{FULL, assert_rows, changed, config_of};
 use crate::asserts::assert_count;
+use std::alloc::{AllocError, Global};
 use std::test::Fail;
 
 /// Values that an earlier key has.
@@ -38,13 +39,16 @@ fn values_that_an_earlier_key_has_are_told(rt: HostRuntime) -> Result<(), Fail> 
 }
 
 /// What two keys may share: a pool and a profile their name, and a socket its other end.
-#[test]
-fn other_keys_may_have_one_value(rt: HostRuntime) -> Result<(), Fail> {
-    let alloc = rt.alloc();
+fn with_shared(alloc: Global) -> Result<String, AllocError> {
     let text = changed(alloc, FULL, "name = \"gold\"", "name = \"a\"")?;
     let text = changed(alloc, text.as_str(), "127.0.0.1:9021", "127.0.0.1:9011")?;
-    let text = changed(alloc, text.as_str(), "127.0.0.1:1813", "127.0.0.1:9000")?;
-    let config = config_of(&rt, alloc, text.as_str());
+    changed(alloc, text.as_str(), "127.0.0.1:1813", "127.0.0.1:9000")
+}
+
+#[test]
+fn other_keys_may_have_one_value(rt: HostRuntime) -> Result<(), Fail> {
+    let text = with_shared(rt.alloc())?;
+    let config = config_of(&rt, rt.alloc(), text.as_str());
     assert_count(&rt, config.profiles.as_slice().len(), 2);
     Ok(())
 }

@@ -194,15 +194,21 @@ fn hand_over<R: Wait + Abort>(rt: &R, plain: &mut Plain, last: u16)
     assert_same(rt, &plain.look(TWO), &Some(0));
 }
 
+// So many shards claim, look, and give back.
+fn answer_as_a_table<R: Wait + Abort>(rt: &R, alloc: Global, shards: u16) -> Result<(), Fail>
+    requires { (1 ≤ shards) × (shards ≤ 64) }
+{
+    let last: u16 = shards - 1;
+    let mut plain = open_two(alloc, shards)?;
+    claim_two(rt, &mut plain, last);
+    claim_the_rest(rt, &mut plain, last);
+    look_at_three(rt, &mut plain, last);
+    hand_over(rt, &mut plain, last);
+    Ok(())
+}
+
 #[test]
 fn seats_of_one_thread_answer_as_a_table(rt: HostRuntime) -> Result<(), Fail> {
-    for shards in [1, 3] {
-        let last: u16 = shards - 1;
-        let mut plain = open_two(rt.alloc(), shards)?;
-        claim_two(&rt, &mut plain, last);
-        claim_the_rest(&rt, &mut plain, last);
-        look_at_three(&rt, &mut plain, last);
-        hand_over(&rt, &mut plain, last);
-    }
-    Ok(())
+    answer_as_a_table(&rt, rt.alloc(), 1)?;
+    answer_as_a_table(&rt, rt.alloc(), 3)
 }

@@ -122,12 +122,13 @@ fn answers_the_requests_of_another_client(rt: HostRuntime) -> Result<(), Fail> {
 // A Disconnect-Request with the Event-Timestamp 1,700,000,000, by Python's hashlib.
 const STAMPED: &str = "280b00249132f9dd356ca7ec4b5c9c1de03311b12c0a303030303030303137066553f100";
 
-// The same with one bit of its authenticator changed, and a CoA-ACK.
+// The same with one bit of its authenticator changed.
 const CHANGED: &str = "280b00249133f9dd356ca7ec4b5c9c1de03311b12c0a303030303030303137066553f100";
 
+// A Disconnect-ACK, which is no request.
 const REPLY: &str = "29010014000000000000000000000000000000ff";
 
-// Admits a datagram, in hexadecimal digits, at a second where none is in hand: the cause for which it is passed over.
+// Admits a datagram, in hexadecimal digits, at a second where none is in hand: the cause for which it is passed over, if it is.
 fn cause(
     rt: &impl Abort,
     alloc: Global,

@@ -20,7 +20,7 @@ pub(crate) fn profile(name: &[u8]) -> Profile {
     }
 }
 
-// Packets to the gateway 192.0.2.1, whose name is gw1 and whose profiles are bronze and gold, each with its fault.
+// Packets to the gateway 192.0.2.1, whose name is gw1 and whose profiles are bronze and gold, each with its first fault, if it has one.
 const PACKETS: &[(&str, Option<u16>)] = &[
     // a change by Acct-Session-Id
     (
@@ -73,8 +73,8 @@ const PACKETS: &[(&str, Option<u16>)] = &[
     ("2b010017000000000000000000000000000000002c0331", Some(402)),
 ];
 
-// Asserts the first fault of a packet, in hexadecimal digits.
-fn assert_refused(
+// Asserts the first fault of a packet in hexadecimal digits, or that it has none.
+fn assert_first_refusal(
     rt: &impl Abort,
     alloc: Global,
     profiles: &[Profile],
@@ -96,7 +96,7 @@ fn assert_refused(
 fn names_the_first_fault_of_a_packet(rt: HostRuntime) -> Result<(), Fail> {
     let profiles = [profile(b"bronze"), profile(b"gold")];
     for (packet, cause) in PACKETS {
-        assert_refused(&rt, rt.alloc(), &profiles, packet, *cause)?;
+        assert_first_refusal(&rt, rt.alloc(), &profiles, packet, *cause)?;
     }
     Ok(())
 }

@@ -1,11 +1,9 @@
 ghost use Rattle.std.specs.Prelude.{◌<◌, ◌^◌};
 
-use super::{
-    Bench, NOTHING, ONE, PADI, assert_due, assert_sessions, item, octets, open_bench, padi,
-    request, rules,
-};
+use super::verdicts::opened;
+use super::{Bench, NOTHING, PADI, assert_due, assert_sessions, item, octets, padi, request};
 use crate::asserts::{assert_count, assert_octets, assert_same};
-use bng_base::ItemKind;
+use bng_base::{ItemKind, OutRecord};
 use std::alloc::Global;
 use std::process::Abort;
 use std::test::Fail;
@@ -38,41 +36,94 @@ fn ticks(rt: &impl Abort, alloc: Global, bench: &mut Bench, now: u64, count: u32
     }
 }
 
+// The outs of a host's PADI at moment 0.
+fn call(rt: &impl Abort, alloc: Global, bench: &mut Bench, padi: &[u8; 32]) -> Vec<OutRecord> {
+    let mut tally = NOTHING;
+    bench.round(rt, alloc, &mut tally, 0, item(ItemKind::Access(1), padi))
+}
+
+// The first host is offered a session, and has none yet.
+fn assert_offered(rt: &impl Abort, alloc: Global, bench: &mut Bench) {
+    let outs = call(rt, alloc, bench, &PADI);
+    assert_octets(rt, octets(&outs, 0), &PADO);
+    assert_sessions(rt, &bench.shard, 0);
+}
+
+// The request of the first host has so many outs, of which the first is the PADS.
+fn assert_given(rt: &impl Abort, alloc: Global, bench: &mut Bench, count: usize) {
+    let outs = request(rt, alloc, bench, 1);
+    assert_count(rt, outs.len(), count);
+    assert_octets(rt, octets(&outs, 0), &PADS);
+}
+
 #[test]
 fn a_host_is_offered_a_session_and_its_request_sent_twice_makes_one(
     rt: HostRuntime,
 ) -> Result<(), Fail> {
     let alloc = rt.alloc();
-    let mut bench = open_bench(alloc, rules(alloc)?, ONE)?;
-    let access = ItemKind::Access(1);
-    let mut tally = NOTHING;
-    let outs = bench.round(&rt, alloc, &mut tally, 0, item(access, &PADI));
-    assert_octets(&rt, octets(&outs, 0), &PADO);
-    assert_sessions(&rt, &bench.shard, 0);
-    let first = request(&rt, alloc, &mut bench, 1);
-    assert_count(&rt, first.len(), 2);
-    assert_octets(&rt, octets(&first, 0), &PADS);
-    let again = request(&rt, alloc, &mut bench, 1);
-    assert_count(&rt, again.len(), 1);
-    assert_octets(&rt, octets(&again, 0), &PADS);
+    let mut bench = opened(alloc)?;
+    assert_offered(&rt, alloc, &mut bench);
+    assert_given(&rt, alloc, &mut bench, 2);
+    assert_given(&rt, alloc, &mut bench, 1);
     assert_sessions(&rt, &bench.shard, 1);
     assert_due(&rt, bench.shard.due(), Some(3000));
     Ok(())
 }
 
+// A PADI of this host has one out.
+fn assert_answered(rt: &impl Abort, alloc: Global, bench: &mut Bench, host: u16) {
+    let outs = call(rt, alloc, bench, &padi(host));
+    assert_count(rt, outs.len(), 1);
+}
+
+// So have those of ten thousand hosts.
+fn assert_all_answered(rt: &impl Abort, alloc: Global, bench: &mut Bench) {
+    for host in 0..10_000 {
+        assert_answered(rt, alloc, bench, host);
+    }
+}
+
 #[test]
 fn ten_thousand_calls_make_no_session(rt: HostRuntime) -> Result<(), Fail> {
     let alloc = rt.alloc();
-    let mut bench = open_bench(alloc, rules(alloc)?, ONE)?;
-    let mut tally = NOTHING;
-    for host in 0..10_000 {
-        let call = item(ItemKind::Access(1), &padi(host));
-        let outs = bench.round(&rt, alloc, &mut tally, 0, call);
-        assert_count(&rt, outs.len(), 1);
-    }
+    let mut bench = opened(alloc)?;
+    assert_all_answered(&rt, alloc, &mut bench);
     assert_sessions(&rt, &bench.shard, 0);
     assert_due(&rt, bench.shard.due(), None);
     Ok(())
+}
+
+// A host is given the session of its number.
+fn assert_numbered(rt: &impl Abort, alloc: Global, bench: &mut Bench, host: u16) {
+    let outs = request(rt, alloc, bench, host);
+    assert_same(
+        rt,
+        &octets(&outs, 0).get(16..18),
+        &Some(host.to_be_bytes().as_slice()),
+    );
+}
+
+// Hosts take all sessions of a shard.
+fn fill(rt: &impl Abort, alloc: Global, bench: &mut Bench) {
+    for host in 1..1023 {
+        assert_numbered(rt, alloc, bench, host);
+    }
+    assert_sessions(rt, &bench.shard, 1022);
+}
+
+// One host more has none.
+fn assert_full(rt: &impl Abort, alloc: Global, bench: &mut Bench) {
+    let outs = request(rt, alloc, bench, 1024);
+    assert_octets(rt, octets(&outs, 0), &FULL);
+}
+
+// All sessions are there until the last of ten deadlines, three seconds apart, and then none.
+fn assert_freed(rt: &impl Abort, alloc: Global, bench: &mut Bench) {
+    for count in 1..11 {
+        assert_sessions(rt, &bench.shard, 1022);
+        ticks(rt, alloc, bench, 3000 * count, 16);
+    }
+    assert_sessions(rt, &bench.shard, 0);
 }
 
 #[test]
@@ -80,22 +131,9 @@ fn a_full_shard_refuses_and_is_free_again_where_no_host_goes_on(
     rt: HostRuntime,
 ) -> Result<(), Fail> {
     let alloc = rt.alloc();
-    let mut bench = open_bench(alloc, rules(alloc)?, ONE)?;
-    for host in 1..1023 {
-        let outs = request(&rt, alloc, &mut bench, host);
-        assert_same(
-            &rt,
-            &octets(&outs, 0).get(16..18),
-            &Some(host.to_be_bytes().as_slice()),
-        );
-    }
-    assert_sessions(&rt, &bench.shard, 1022);
-    let outs = request(&rt, alloc, &mut bench, 1024);
-    assert_octets(&rt, octets(&outs, 0), &FULL);
-    for count in 1..11 {
-        assert_sessions(&rt, &bench.shard, 1022);
-        ticks(&rt, alloc, &mut bench, 3000 * count, 16);
-    }
-    assert_sessions(&rt, &bench.shard, 0);
+    let mut bench = opened(alloc)?;
+    fill(&rt, alloc, &mut bench);
+    assert_full(&rt, alloc, &mut bench);
+    assert_freed(&rt, alloc, &mut bench);
     Ok(())
 }

@@ -7,18 +7,23 @@ ghost use Rattle.bng_pool.specs.Tables.{entry};
 ghost use Rattle.std.specs.List.{All};
 ghost use Rattle.bng_slots.specs.Sessions.{IsNumberOf};
 
-use super::{Bench, NOTHING, TO_IT, TWO, assert_sessions, item, peer, request, rules, span};
+use super::settings::{TWO, peer, rules};
+use super::{Bench, NOTHING, TO_IT, assert_sessions, item, request, span};
 use crate::asserts::{assert_count, assert_holds, assert_octets, assert_same};
 use arrayvec::ArrayVec;
 use bng_base::{
-    Book, Charge, Circuit, DropCause, Fate, Frame, Ip4, ItemKind, Mac, Octets, OutRecord, Role,
-    SessionNo, Static, TermId,
+    Book, Charge, Circuit, DropCause, Fate, Frame, Ip4, Item, ItemKind, Mac, Octets, OutRecord,
+    Role, SessionNo, Static, TermId,
 };
 use bng_pool::PlainPool;
-use bng_shard::{Charged, EndedTerm, LiveTerm, Shard, Traffic};
+use bng_shard::{Charged, Shard, Traffic};
 use std::alloc::Global;
 use std::process::Abort;
 use std::test::Fail;
+
+mod shown;
+
+use shown::{carried, first, leaves, second, shows};
 
 pub(super) fn circuit() -> Static
     ensures number { IsNumberOf 1 result.session.0 }
@@ -93,23 +98,31 @@ fn charge_first(shard: &mut Shard, circuit: &Static, out: &OutRecord) -> Charged
     shard.charge(out)
 }
 
+// A packet of 84 octets.
+const CHARGED: Charged = Charged::Packet {
+    input: true,
+    octets: 84,
+};
+
+const CARRIED: Traffic = Traffic {
+    input: 84,
+    output: 0,
+};
+
+// The term that has this address carried this; none where no term has it.
+fn assert_traffic(rt: &impl Abort, shard: &Shard, address: u32, wanted: Option<Traffic>) {
+    assert_same(rt, &shard.carried(Ip4(address)), &wanted);
+}
+
 #[test]
 fn a_packet_counts_for_its_term(rt: HostRuntime) -> Result<(), Fail> {
     let alloc = rt.alloc();
     let circuit = circuit();
     let packet = sent(&circuit, 84);
     let mut shard = open_with(alloc, &circuit)?;
-    let charged = Charged::Packet {
-        input: true,
-        octets: 84,
-    };
-    assert_same(&rt, &charge_first(&mut shard, &circuit, &packet), &charged);
-    let carried = Some(Traffic {
-        input: 84,
-        output: 0,
-    });
-    assert_same(&rt, &shard.carried(Ip4(0x0a000002)), &carried);
-    assert_same(&rt, &shard.carried(Ip4(0x0a000003)), &None);
+    assert_same(&rt, &charge_first(&mut shard, &circuit, &packet), &CHARGED);
+    assert_traffic(&rt, &shard, 0x0a000002, Some(CARRIED));
+    assert_traffic(&rt, &shard, 0x0a000003, None);
     Ok(())
 }
 
@@ -175,52 +188,41 @@ pub(super) fn open_two(rt: &impl Abort, alloc: Global) -> Result<Bench, Fail> {
     bench_of(rt, alloc, shard, circuits)
 }
 
-// Which term is the circuit's of this host.
-fn term(host: u8, session: u16, serial: u64, address: u32) -> (TermId, Circuit, Ip4) {
-    let session = SessionNo(session);
-    let term = TermId { session, serial };
-    let circuit = Circuit::Pppoe {
-        port: 1,
-        mac: Mac([2, 0, 0, 0, 0, host]),
-        session,
-    };
-    (term, circuit, Ip4(address))
-}
-
-// The term that is shown is this one, of the circuit's user, from the opening on.
-fn is_term(shown: &LiveTerm, term: (TermId, Circuit, Ip4)) -> bool {
-    (shown.term, shown.circuit, shown.address) == term
-        && shown.user.as_slice() == b"f".as_slice()
-        && shown.class.is_empty()
-        && shown.began == 0
-}
-
-// The term that ended is this one, and it carried nothing.
-fn is_end(ended: &EndedTerm, term: (TermId, Circuit, Ip4)) -> bool {
-    (ended.term, ended.circuit, ended.address) == term
-        && ended.user.as_slice() == b"f".as_slice()
-        && ended.began == 0
-        && ended.cause == 10
-        && ended.carried == NOTHING
-}
-
 // A packet of the first circuit, in a frame of its session.
-pub(super) const FROM_IT: [u8; 50] = [
+const FROM_IT: [u8; 50] = [
     2, 0, 0, 0, 0, 0xfe, 2, 0, 0, 0, 0, 1, 0x88, 0x64, 0x11, 0, 4, 1, 0, 30, 0, 0x21, 0x45, 0, 0,
     28, 0, 0, 0, 0, 64, 17, 0xae, 0xce, 10, 0, 0, 2, 192, 0, 2, 1, 0x30, 0x39, 0x30, 0x39, 0, 8, 0,
     0,
 ];
 
-// A packet of the first circuit and one towards it have this fate.
-fn assert_fate(rt: &impl Abort, alloc: Global, bench: &mut Bench, fate: Fate) {
-    let mut tally = NOTHING;
-    let access = item(ItemKind::Access(1), &FROM_IT);
-    let (up, _sent_up) = bench.handled(rt, alloc, &mut tally, 0, access);
-    assert_holds(rt, up == fate);
+// A packet towards 10.0.0.2.
+fn to_it() -> Item
+    ensures { result.frame.headroom ≡ 64 }
+{
     let mut core = item(ItemKind::Core, &TO_IT);
     core.from = peer(9001);
-    let (down, _sent_down) = bench.handled(rt, alloc, &mut tally, 0, core);
-    assert_holds(rt, down == fate);
+    core
+}
+
+// A packet of the first circuit, of 28 octets, has this fate at this moment.
+pub(super) fn assert_up(rt: &impl Abort, alloc: Global, bench: &mut Bench, now: u32, fate: Fate) {
+    let mut tally = NOTHING;
+    let access = item(ItemKind::Access(1), &FROM_IT);
+    let (found, _outs) = bench.handled(rt, alloc, &mut tally, u64::from(now), access);
+    assert_holds(rt, found == fate);
+}
+
+// So has a packet towards it.
+pub(super) fn assert_down(rt: &impl Abort, alloc: Global, bench: &mut Bench, now: u32, fate: Fate) {
+    let mut tally = NOTHING;
+    let (found, _outs) = bench.handled(rt, alloc, &mut tally, u64::from(now), to_it());
+    assert_holds(rt, found == fate);
+}
+
+// A packet of the first circuit and one towards it have this fate.
+fn assert_fate(rt: &impl Abort, alloc: Global, bench: &mut Bench, fate: Fate) {
+    assert_up(rt, alloc, bench, 0, fate);
+    assert_down(rt, alloc, bench, 0, fate);
 }
 
 // The outs of an End of the shard 1.
@@ -235,8 +237,7 @@ fn end(rt: &impl Abort, alloc: Global, bench: &mut Bench) -> Vec<OutRecord> {
 // This term leaves next, and its address becomes free.
 fn assert_reaps(rt: &impl Abort, bench: &mut Bench, term: (TermId, Circuit, Ip4)) {
     assert_holds(rt, bench.pool.look(term.2).is_some());
-    let reaped = bench.reap();
-    assert_holds(rt, reaped.as_ref().is_some_and(|ended| is_end(ended, term)));
+    assert_holds(rt, leaves(bench, term));
     assert_holds(rt, bench.pool.look(term.2).is_none());
 }
 
@@ -248,8 +249,28 @@ fn assert_all_left(rt: &impl Abort, bench: &mut Bench) {
 
 // At this place this term is there.
 fn assert_term(rt: &impl Abort, bench: &Bench, place: usize, term: (TermId, Circuit, Ip4)) {
-    let shown = bench.shard.term(place);
-    assert_holds(rt, shown.as_ref().is_some_and(|shown| is_term(shown, term)));
+    assert_holds(rt, shows(bench, place, term));
+}
+
+// So many terms are there.
+fn assert_terms(rt: &impl Abort, bench: &Bench, count: usize) {
+    assert_holds(rt, bench.shard.term(count).is_none());
+}
+
+// An End is told to one session alone.
+fn assert_ends(rt: &impl Abort, alloc: Global, bench: &mut Bench) {
+    let outs = end(rt, alloc, bench);
+    // the session that discovery made is told by a PADT, and the circuits are not
+    assert_count(rt, outs.len(), 1);
+    assert_octets(rt, span(&outs, 0, 15, 18), b"\xa7\x04\x03");
+}
+
+// Of three sessions two are of terms, which leave one after the other.
+fn assert_each_leaves(rt: &impl Abort, bench: &mut Bench) {
+    assert_sessions(rt, &bench.shard, 3);
+    assert_reaps(rt, bench, first());
+    assert_reaps(rt, bench, second());
+    assert_all_left(rt, bench);
 }
 
 #[test]
@@ -258,31 +279,28 @@ fn an_end_ends_circuits_too_and_each_leaves_by_a_stop(rt: HostRuntime) -> Result
     let mut bench = open_two(&rt, alloc)?;
     let _made = request(&rt, alloc, &mut bench, 3);
     assert_fate(&rt, alloc, &mut bench, Fate::Forwarded);
-    let outs = end(&rt, alloc, &mut bench);
-    // the session that discovery made is told by a PADT, and the circuits are not
-    assert_count(&rt, outs.len(), 1);
-    assert_octets(&rt, span(&outs, 0, 15, 18), b"\xa7\x04\x03");
+    assert_ends(&rt, alloc, &mut bench);
     assert_fate(&rt, alloc, &mut bench, Fate::Dropped(DropCause::NotOpen));
-    assert_sessions(&rt, &bench.shard, 3);
-    assert_reaps(&rt, &mut bench, term(1, 1025, 1, 0x0a000002));
-    assert_reaps(&rt, &mut bench, term(2, 1026, 2, 0x0a000003));
-    assert_all_left(&rt, &mut bench);
+    assert_each_leaves(&rt, &mut bench);
     Ok(())
+}
+
+// Both terms are there, by their numbers.
+fn assert_shows_both(rt: &impl Abort, bench: &Bench) {
+    assert_term(rt, bench, 0, first());
+    assert_term(rt, bench, 1, second());
+    assert_terms(rt, bench, 2);
 }
 
 #[test]
 fn terms_are_shown_by_their_numbers_until_they_leave(rt: HostRuntime) -> Result<(), Fail> {
     let alloc = rt.alloc();
     let mut bench = open_two(&rt, alloc)?;
-    let first = term(1, 1025, 1, 0x0a000002);
-    let second = term(2, 1026, 2, 0x0a000003);
     let _outs = end(&rt, alloc, &mut bench);
-    assert_term(&rt, &bench, 0, first);
-    assert_term(&rt, &bench, 1, second);
-    assert_holds(&rt, bench.shard.term(2).is_none());
-    assert_reaps(&rt, &mut bench, first);
-    assert_term(&rt, &bench, 0, second);
-    assert_holds(&rt, bench.shard.term(1).is_none());
+    assert_shows_both(&rt, &bench);
+    assert_reaps(&rt, &mut bench, first());
+    assert_term(&rt, &bench, 0, second());
+    assert_terms(&rt, &bench, 1);
     Ok(())
 }
 
@@ -303,22 +321,13 @@ const OF_84: Book = Book {
     output_packets: 0,
 };
 
-// The term that leaves next carried this.
-fn assert_carried(rt: &impl Abort, bench: &mut Bench, wanted: Book) {
-    let reaped = bench.reap();
-    assert_holds(
-        rt,
-        reaped.as_ref().is_some_and(|ended| ended.carried == wanted),
-    );
-}
-
 #[test]
 fn a_stop_says_what_its_term_carried(rt: HostRuntime) -> Result<(), Fail> {
     let alloc = rt.alloc();
     let mut bench = open_charged(&rt, alloc)?;
     let _outs = end(&rt, alloc, &mut bench);
-    assert_carried(&rt, &mut bench, OF_84);
-    assert_same(&rt, &bench.shard.carried(Ip4(0x0a000002)), &None);
+    assert_same(&rt, &carried(&mut bench), &Some(OF_84));
+    assert_traffic(&rt, &bench.shard, 0x0a000002, None);
     Ok(())
 }
 
@@ -329,18 +338,20 @@ pub(super) fn assert_book(rt: &impl Abort, bench: &Bench, profile: u8, wanted: B
     assert_same(rt, &bench.book(profile), &wanted);
 }
 
+// What both packets are in a book.
+const OF_BOTH: Book = Book {
+    input: 28,
+    output: 28,
+    input_packets: 1,
+    output_packets: 1,
+};
+
 #[test]
 fn a_packet_counts_in_the_book_of_its_profile(rt: HostRuntime) -> Result<(), Fail> {
     let alloc = rt.alloc();
     let mut bench = open_two(&rt, alloc)?;
     assert_fate(&rt, alloc, &mut bench, Fate::Forwarded);
-    let gold = Book {
-        input: 28,
-        output: 28,
-        input_packets: 1,
-        output_packets: 1,
-    };
     assert_book(&rt, &bench, 0, NOTHING);
-    assert_book(&rt, &bench, 1, gold);
+    assert_book(&rt, &bench, 1, OF_BOTH);
     Ok(())
 }

@@ -1,10 +1,9 @@
-ghost use Rattle.std.specs.Prelude.{◌<◌, ◌≤◌, ◌^◌, length};
+ghost use Rattle.std.specs.Prelude.{◌≡◌, ◌<◌, ◌≤◌, ◌^◌, length};
 
-use super::{
-    Bench, NOTHING, TWO, assert_due, assert_sessions, item, octets, open_bench, peer, rules,
-};
+use super::settings::{TWO, peer, rules};
+use super::{Bench, NOTHING, assert_due, assert_sessions, item, octets, open_bench};
 use crate::asserts::{assert_count, assert_octets, assert_same};
-use bng_base::{DropCause, Fate, ItemKind, OutRecord, Role};
+use bng_base::{DropCause, Fate, Item, ItemKind, OutRecord, Peer, Role};
 use std::alloc::Global;
 use std::process::Abort;
 use std::test::Fail;
@@ -66,57 +65,131 @@ fn answer(
     let outs = bench.round(rt, alloc, &mut tally, now, came);
     assert_count(rt, outs.len(), 1);
     assert_octets(rt, octets(&outs, 0), wanted);
-    assert_to_sender(rt, &outs);
+    assert_to_sender(rt, &outs, 0);
 }
 
-// The first out goes to the tunnels' peer.
-fn assert_to_sender(rt: &impl Abort, outs: &[OutRecord]) {
-    if let Some(out) = outs.get(0) {
-        assert_same(rt, &out.role, &Role::Tunnel);
-        assert_same(rt, &out.to, &peer(9011));
-    }
+// Where the out at this place goes.
+fn way(outs: &[OutRecord], place: usize) -> Option<(Role, Peer)> {
+    let out = outs.get(place)?;
+    Some((out.role, out.to))
 }
 
-// What a Tick or an End sends first, and how much it sends.
+// The out at this place is for the tunnels' peer, of which all items of these tests are.
+fn assert_to_sender(rt: &impl Abort, outs: &[OutRecord], place: usize) {
+    assert_same(rt, &way(outs, place), &Some((Role::Tunnel, peer(9011))));
+}
+
+// How many outs a datagram has.
+fn assert_outs(
+    rt: &impl Abort,
+    alloc: Global,
+    bench: &mut Bench,
+    now: u64,
+    datagram: &[u8],
+    count: usize,
+)
+    requires moment { now < 2 ^ 60 }
+    requires short { length datagram.now ≤ 4096 }
+{
+    let mut tally = NOTHING;
+    let came = item(ItemKind::Tunnel, datagram);
+    let outs = bench.round(rt, alloc, &mut tally, now, came);
+    assert_count(rt, outs.len(), count);
+}
+
+// How much an item sends, and what first.
 fn timed(
     rt: &impl Abort,
     alloc: Global,
     bench: &mut Bench,
-    kind: ItemKind,
+    came: Item,
     now: u64,
-    count: usize,
-    wanted: &[u8],
+    wanted: (usize, &[u8]),
 )
     requires moment { now < 2 ^ 60 }
+    requires whole { came.frame.headroom ≡ 64 }
 {
     let mut tally = NOTHING;
-    let outs = bench.round(rt, alloc, &mut tally, now, item(kind, &[]));
-    assert_count(rt, outs.len(), count);
-    assert_octets(rt, octets(&outs, 0), wanted);
+    let outs = bench.round(rt, alloc, &mut tally, now, came);
+    assert_count(rt, outs.len(), wanted.0);
+    assert_octets(rt, octets(&outs, 0), wanted.1);
+}
+
+// What an End sends first, and how much it sends.
+fn end(rt: &impl Abort, alloc: Global, bench: &mut Bench, now: u64, count: usize, wanted: &[u8])
+    requires moment { now < 2 ^ 60 }
+{
+    timed(
+        rt,
+        alloc,
+        bench,
+        item(ItemKind::End, &[]),
+        now,
+        (count, wanted),
+    );
+}
+
+// What a Tick sends first, and how much it sends.
+fn tick(rt: &impl Abort, alloc: Global, bench: &mut Bench, now: u64, count: usize, wanted: &[u8])
+    requires moment { now < 2 ^ 60 }
+{
+    timed(
+        rt,
+        alloc,
+        bench,
+        item(ItemKind::Tick, &[]),
+        now,
+        (count, wanted),
+    );
+}
+
+// A shard without a tunnel.
+fn without_tunnel(alloc: Global) -> Result<Bench, Fail> {
+    let rules = rules(alloc)?;
+    open_bench(alloc, rules, TWO)
 }
 
 // A shard with an established tunnel, whose last message came at moment 0.
 fn established(rt: &impl Abort, alloc: Global) -> Result<Bench, Fail> {
-    let mut bench = open_bench(alloc, rules(alloc)?, TWO)?;
+    let mut bench = without_tunnel(alloc)?;
     answer(rt, alloc, &mut bench, 0, SCCRQ, SCCRP);
     answer(rt, alloc, &mut bench, 0, SCCCN, &zlb(1, 2));
     Ok(bench)
 }
 
+// An SCCRQ that comes twice makes one tunnel.
+fn is_made_once(rt: &impl Abort, alloc: Global, bench: &mut Bench) {
+    answer(rt, alloc, bench, 0, SCCRQ, SCCRP);
+    answer(rt, alloc, bench, 1, SCCRQ, &zlb(1, 1));
+    assert_due(rt, bench.shard.due(), Some(1_000));
+    answer(rt, alloc, bench, 2, SCCCN, &zlb(1, 2));
+}
+
+// A frame of no session is dropped.
+fn assert_dropped(rt: &impl Abort, alloc: Global, bench: &mut Bench) {
+    let mut tally = NOTHING;
+    let (fate, outs) = bench.handled(rt, alloc, &mut tally, 4, item(ItemKind::Tunnel, DATA));
+    assert_same(rt, &fate, &Fate::Dropped(DropCause::NoSession));
+    assert_count(rt, outs.len(), 0);
+}
+
 #[test]
 fn a_tunnel_is_made_once_and_takes_a_call(rt: HostRuntime) -> Result<(), Fail> {
     let alloc = rt.alloc();
-    let mut bench = open_bench(alloc, rules(alloc)?, TWO)?;
-    answer(&rt, alloc, &mut bench, 0, SCCRQ, SCCRP);
-    answer(&rt, alloc, &mut bench, 1, SCCRQ, &zlb(1, 1));
-    assert_due(&rt, bench.shard.due(), Some(1_000));
-    answer(&rt, alloc, &mut bench, 2, SCCCN, &zlb(1, 2));
+    let mut bench = without_tunnel(alloc)?;
+    is_made_once(&rt, alloc, &mut bench);
     answer(&rt, alloc, &mut bench, 3, ICRQ, ICRP);
-    let mut tally = NOTHING;
-    let (fate, outs) = bench.handled(&rt, alloc, &mut tally, 4, item(ItemKind::Tunnel, DATA));
-    assert_same(&rt, &fate, &Fate::Dropped(DropCause::NoSession));
-    assert_count(&rt, outs.len(), 0);
+    assert_dropped(&rt, alloc, &mut bench);
     Ok(())
+}
+
+// The ICCN is acknowledged, and the call's link asks.
+fn assert_speaks(rt: &impl Abort, alloc: Global, bench: &mut Bench) {
+    let mut tally = NOTHING;
+    let outs = bench.round(rt, alloc, &mut tally, 2, item(ItemKind::Tunnel, ICCN));
+    assert_count(rt, outs.len(), 2);
+    assert_octets(rt, octets(&outs, 0), &zlb(2, 4));
+    assert_to_sender(rt, &outs, 1);
 }
 
 // Once the ICCN came the call's link asks first, in a data message after the acknowledgement.
@@ -125,14 +198,7 @@ fn a_call_speaks_once_it_is_connected(rt: HostRuntime) -> Result<(), Fail> {
     let alloc = rt.alloc();
     let mut bench = established(&rt, alloc)?;
     answer(&rt, alloc, &mut bench, 1, ICRQ, ICRP);
-    let mut tally = NOTHING;
-    let outs = bench.round(&rt, alloc, &mut tally, 2, item(ItemKind::Tunnel, ICCN));
-    assert_count(&rt, outs.len(), 2);
-    assert_octets(&rt, octets(&outs, 0), &zlb(2, 4));
-    if let Some(out) = outs.get(1) {
-        assert_same(&rt, &out.role, &Role::Tunnel);
-        assert_same(&rt, &out.to, &peer(9011));
-    }
+    assert_speaks(&rt, alloc, &mut bench);
     Ok(())
 }
 
@@ -147,11 +213,21 @@ fn hello(ns: u16) -> [u8; 20] {
 // The HELLOs of the peer with the Ns 2 to 65,534, each of which is acknowledged.
 fn talk(rt: &impl Abort, alloc: Global, bench: &mut Bench) {
     for ns in 2..65_535u16 {
-        let mut tally = NOTHING;
-        let came = item(ItemKind::Tunnel, &hello(ns));
-        let outs = bench.round(rt, alloc, &mut tally, 0, came);
-        assert_count(rt, outs.len(), 1);
+        assert_outs(rt, alloc, bench, 0, &hello(ns), 1);
     }
+}
+
+// The HELLO with this Ns is acknowledged by a ZLB with this Nr.
+fn acknowledges(rt: &impl Abort, alloc: Global, bench: &mut Bench, ns: u16, nr: u8) {
+    answer(rt, alloc, bench, 1, &hello(ns), &zlb(1, nr));
+}
+
+// Two come, and come again.
+fn come_again(rt: &impl Abort, alloc: Global, bench: &mut Bench) {
+    acknowledges(rt, alloc, bench, 65_535, 0);
+    acknowledges(rt, alloc, bench, 0, 1);
+    acknowledges(rt, alloc, bench, 65_535, 1);
+    acknowledges(rt, alloc, bench, 0, 1);
 }
 
 // Ns 0 comes after 65,535 (RFC 2661 section 5.8). A message that comes again is acknowledged again, and one that comes too early is not.
@@ -160,16 +236,24 @@ fn numbers_of_messages_go_on_from_65535_to_0(rt: HostRuntime) -> Result<(), Fail
     let alloc = rt.alloc();
     let mut bench = established(&rt, alloc)?;
     talk(&rt, alloc, &mut bench);
-    answer(&rt, alloc, &mut bench, 1, &hello(65_535), &zlb(1, 0));
-    answer(&rt, alloc, &mut bench, 1, &hello(0), &zlb(1, 1));
-    answer(&rt, alloc, &mut bench, 1, &hello(65_535), &zlb(1, 1));
-    answer(&rt, alloc, &mut bench, 1, &hello(0), &zlb(1, 1));
-    let mut tally = NOTHING;
-    let early = item(ItemKind::Tunnel, &hello(2));
-    let outs = bench.round(&rt, alloc, &mut tally, 1, early);
-    assert_count(&rt, outs.len(), 0);
-    answer(&rt, alloc, &mut bench, 1, &hello(1), &zlb(1, 2));
+    come_again(&rt, alloc, &mut bench);
+    assert_outs(&rt, alloc, &mut bench, 1, &hello(2), 0);
+    acknowledges(&rt, alloc, &mut bench, 1, 2);
     Ok(())
+}
+
+// The ICRQ comes twice.
+fn ask_twice(rt: &impl Abort, alloc: Global, bench: &mut Bench) {
+    answer(rt, alloc, bench, 1, ICRQ, ICRP);
+    answer(rt, alloc, bench, 2, ICRQ, &zlb(2, 3));
+    assert_sessions(rt, &bench.shard, 1);
+}
+
+// The ICCN comes twice.
+fn connect_twice(rt: &impl Abort, alloc: Global, bench: &mut Bench) {
+    assert_outs(rt, alloc, bench, 3, ICCN, 2);
+    answer(rt, alloc, bench, 4, ICCN, &zlb(2, 4));
+    assert_sessions(rt, &bench.shard, 1);
 }
 
 // Each message of a call comes twice: one session is made, whose link asks once.
@@ -177,14 +261,8 @@ fn numbers_of_messages_go_on_from_65535_to_0(rt: HostRuntime) -> Result<(), Fail
 fn a_call_that_is_asked_for_twice_is_one(rt: HostRuntime) -> Result<(), Fail> {
     let alloc = rt.alloc();
     let mut bench = established(&rt, alloc)?;
-    answer(&rt, alloc, &mut bench, 1, ICRQ, ICRP);
-    answer(&rt, alloc, &mut bench, 2, ICRQ, &zlb(2, 3));
-    assert_sessions(&rt, &bench.shard, 1);
-    let mut tally = NOTHING;
-    let outs = bench.round(&rt, alloc, &mut tally, 3, item(ItemKind::Tunnel, ICCN));
-    assert_count(&rt, outs.len(), 2);
-    answer(&rt, alloc, &mut bench, 4, ICCN, &zlb(2, 4));
-    assert_sessions(&rt, &bench.shard, 1);
+    ask_twice(&rt, alloc, &mut bench);
+    connect_twice(&rt, alloc, &mut bench);
     Ok(())
 }
 
@@ -193,8 +271,8 @@ fn a_silent_tunnel_is_asked_by_a_tick(rt: HostRuntime) -> Result<(), Fail> {
     let alloc = rt.alloc();
     let mut bench = established(&rt, alloc)?;
     assert_due(&rt, bench.shard.due(), Some(60_000));
-    timed(&rt, alloc, &mut bench, ItemKind::Tick, 59_999, 0, &[]);
-    timed(&rt, alloc, &mut bench, ItemKind::Tick, 60_000, 1, HELLO);
+    tick(&rt, alloc, &mut bench, 59_999, 0, &[]);
+    tick(&rt, alloc, &mut bench, 60_000, 1, HELLO);
     assert_due(&rt, bench.shard.due(), Some(61_000));
     Ok(())
 }
@@ -203,8 +281,8 @@ fn a_silent_tunnel_is_asked_by_a_tick(rt: HostRuntime) -> Result<(), Fail> {
 fn an_end_without_sessions_stops_each_tunnel_once(rt: HostRuntime) -> Result<(), Fail> {
     let alloc = rt.alloc();
     let mut bench = established(&rt, alloc)?;
-    timed(&rt, alloc, &mut bench, ItemKind::End, 5, 1, STOP_CCN);
-    timed(&rt, alloc, &mut bench, ItemKind::End, 5, 0, &[]);
+    end(&rt, alloc, &mut bench, 5, 1, STOP_CCN);
+    end(&rt, alloc, &mut bench, 5, 0, &[]);
     assert_due(&rt, bench.shard.due(), None);
     Ok(())
 }
@@ -215,18 +293,8 @@ fn an_end_stops_the_tunnel_of_a_call(rt: HostRuntime) -> Result<(), Fail> {
     let alloc = rt.alloc();
     let mut bench = established(&rt, alloc)?;
     answer(&rt, alloc, &mut bench, 1, ICRQ, ICRP);
-    let mut tally = NOTHING;
-    let outs = bench.round(&rt, alloc, &mut tally, 2, item(ItemKind::Tunnel, ICCN));
-    assert_count(&rt, outs.len(), 2);
-    timed(
-        &rt,
-        alloc,
-        &mut bench,
-        ItemKind::End,
-        3,
-        1,
-        STOP_CCN_OF_A_CALL,
-    );
-    timed(&rt, alloc, &mut bench, ItemKind::End, 3, 0, &[]);
+    assert_outs(&rt, alloc, &mut bench, 2, ICCN, 2);
+    end(&rt, alloc, &mut bench, 3, 1, STOP_CCN_OF_A_CALL);
+    end(&rt, alloc, &mut bench, 3, 0, &[]);
     Ok(())
 }

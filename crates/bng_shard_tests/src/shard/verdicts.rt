@@ -1,7 +1,8 @@
 ghost use Rattle.std.specs.Prelude.{◌≡◌, ◌≤◌, length};
 
-use super::{Bench, NOTHING, ONE, item, octets, open_bench, request, rules, span, text};
-use crate::asserts::{assert_count, assert_holds, assert_octets, assert_same};
+use super::settings::{ONE, rules, text};
+use super::{Bench, NOTHING, item, octets, open_bench, request, span};
+use crate::asserts::{assert_count, assert_octets, assert_same};
 use arrayvec::ArrayVec;
 use bng_base::{Item, ItemKind, OutRecord, SessionNo};
 use bng_shard::Handed;
@@ -32,20 +33,30 @@ const REJECT: &[u8; 24] = b"\x03\x00\x00\x18\0\0\0\0\0\0\0\0\0\0\0\0\0\0\0\0\x12
 
 const REJECTED: &[u8; 9] = b"\xc0\x23\x03\x07\x00\x07\x02no";
 
+// What stands before a PPP frame of so many octets in a frame of this host's session, which has the same number.
+fn header(host: u8, length: u8) -> [u8; 20] {
+    [
+        2, 0, 0, 0, 0, 0xfe, 2, 0, 0, 0, 0, host, 0x88, 0x64, 0x11, 0, 0, host, 0, length,
+    ]
+}
+
+// Appends octets for as long as there is room.
+fn append(octets: &mut ArrayVec<u8, 64>, more: &[u8]) {
+    for octet in more {
+        if !octets.is_full() {
+            octets.push(*octet);
+        }
+    }
+}
+
 // A frame of this host's session, which has the same number, with this PPP frame.
 pub(super) fn in_session_of(host: u8, ppp: &[u8]) -> Item
     requires { length ppp.now ≤ 44 }
     ensures { result.frame.headroom ≡ 64 }
 {
     let length = ppp.len() as u8;
-    let mut octets: ArrayVec<u8, 64> = text(&[
-        2, 0, 0, 0, 0, 0xfe, 2, 0, 0, 0, 0, host, 0x88, 0x64, 0x11, 0, 0, host, 0, length,
-    ]);
-    for octet in ppp {
-        if !octets.is_full() {
-            octets.push(*octet);
-        }
-    }
+    let mut octets = text(&header(host, length));
+    append(&mut octets, ppp);
     item(ItemKind::Access(1), octets.as_slice())
 }
 
@@ -76,54 +87,97 @@ pub(super) fn hear(rt: &impl Abort, alloc: Global, bench: &mut Bench, item: Item
     bench.round(rt, alloc, &mut tally, 0, item)
 }
 
+// A shard whose rules have no pool.
+pub(super) fn opened(alloc: Global) -> Result<Bench, Fail> {
+    let rules = rules(alloc)?;
+    open_bench(alloc, rules, ONE)
+}
+
+// The first host asks for a session, and opens LCP there.
+fn open_lcp(rt: &impl Abort, alloc: Global, bench: &mut Bench) {
+    let _made = request(rt, alloc, bench, 1);
+    let _answered = hear(rt, alloc, bench, in_session(REQUEST));
+    let _opened = hear(rt, alloc, bench, in_session(ACK));
+}
+
 // A shard whose first host sent its password.
 fn asking(rt: &impl Abort, alloc: Global) -> Result<Bench, Fail> {
-    let mut bench = open_bench(alloc, rules(alloc)?, ONE)?;
-    let _made = request(rt, alloc, &mut bench, 1);
-    let _answered = hear(rt, alloc, &mut bench, in_session(REQUEST));
-    let _opened = hear(rt, alloc, &mut bench, in_session(ACK));
+    let mut bench = opened(alloc)?;
+    open_lcp(rt, alloc, &mut bench);
     let _asked = hear(rt, alloc, &mut bench, in_session(PASSWORD));
     Ok(bench)
+}
+
+// An item has no outs.
+fn assert_silent(rt: &impl Abort, alloc: Global, bench: &mut Bench, item: Item)
+    requires whole { item.frame.headroom ≡ 64 }
+{
+    let outs = hear(rt, alloc, bench, item);
+    assert_count(rt, outs.len(), 0);
+}
+
+// The number of the next question that is handed out.
+fn asked(bench: &Bench, handed: &mut Handed) -> Option<QuestionNo> {
+    let ask = bench.shard.asked(handed)?;
+    Some(ask.number)
+}
+
+const FIRST_QUESTION: QuestionNo = QuestionNo {
+    session: SessionNo(1),
+    ask: 1,
+};
+
+// A peer's password is asked about once, also where it comes again.
+fn assert_asks_once(rt: &impl Abort, alloc: Global, bench: &mut Bench) -> Result<(), Fail> {
+    let mut handed = Handed::open(alloc)?;
+    assert_same(rt, &asked(bench, &mut handed), &Some(FIRST_QUESTION));
+    assert_silent(rt, alloc, bench, in_session(AGAIN));
+    assert_same(rt, &asked(bench, &mut handed), &None);
+    Ok(())
+}
+
+// No question is open.
+fn assert_asks_nothing(rt: &impl Abort, alloc: Global, bench: &Bench) -> Result<(), Fail> {
+    let mut none = Handed::open(alloc)?;
+    assert_same(rt, &asked(bench, &mut none), &None);
+    Ok(())
 }
 
 // The outs of a verdict on a peer's password that was asked about once. A verdict on another question, or of another session, does
 // nothing, and neither does a second one.
 fn judged(rt: &impl Abort, alloc: Global, reply: &[u8; 24]) -> Result<Vec<OutRecord>, Fail> {
     let mut bench = asking(rt, alloc)?;
-    let mut handed = Handed::open(alloc)?;
-    let asked = bench.shard.asked(&mut handed).map(|ask| ask.number);
-    let number = QuestionNo {
-        session: SessionNo(1),
-        ask: 1,
-    };
-    assert_same(rt, &asked, &Some(number));
-    let again = hear(rt, alloc, &mut bench, in_session(AGAIN));
-    assert_count(rt, again.len(), 0);
-    assert_holds(rt, bench.shard.asked(&mut handed).is_none());
-    let other_question = hear(rt, alloc, &mut bench, verdict(1, 2, reply));
-    assert_count(rt, other_question.len(), 0);
-    let other_session = hear(rt, alloc, &mut bench, verdict(2, 1, reply));
-    assert_count(rt, other_session.len(), 0);
+    assert_asks_once(rt, alloc, &mut bench)?;
+    assert_silent(rt, alloc, &mut bench, verdict(1, 2, reply));
+    assert_silent(rt, alloc, &mut bench, verdict(2, 1, reply));
     let outs = hear(rt, alloc, &mut bench, verdict(1, 1, reply));
-    let mut none = Handed::open(alloc)?;
-    assert_holds(rt, bench.shard.asked(&mut none).is_none());
-    let late = hear(rt, alloc, &mut bench, verdict(1, 1, reply));
-    assert_count(rt, late.len(), 0);
+    assert_asks_nothing(rt, alloc, &bench)?;
+    assert_silent(rt, alloc, &mut bench, verdict(1, 1, reply));
     Ok(outs)
+}
+
+// The one out says that the password was accepted.
+fn assert_accepted(rt: &impl Abort, outs: &[OutRecord]) {
+    assert_count(rt, outs.len(), 1);
+    assert_count(rt, octets(outs, 0).len(), 29);
+    assert_octets(rt, span(outs, 0, 20, 29), ACCEPTED);
+}
+
+// The first of two outs says that the password was rejected.
+fn assert_rejected(rt: &impl Abort, outs: &[OutRecord]) {
+    assert_count(rt, outs.len(), 2);
+    assert_count(rt, octets(outs, 0).len(), 29);
+    assert_octets(rt, span(outs, 0, 20, 29), REJECTED);
+    // after the Authenticate-Nak LCP does Close, by a Terminate-Request
+    assert_octets(rt, span(outs, 1, 20, 23), b"\xc0\x21\x05");
 }
 
 #[test]
 fn a_verdict_counts_for_the_question_of_its_session_alone(rt: HostRuntime) -> Result<(), Fail> {
     let alloc = rt.alloc();
     let accepted = judged(&rt, alloc, ACCEPT)?;
-    assert_count(&rt, accepted.len(), 1);
-    assert_count(&rt, octets(&accepted, 0).len(), 29);
-    assert_octets(&rt, span(&accepted, 0, 20, 29), ACCEPTED);
-    // after the Authenticate-Nak LCP does Close, by a Terminate-Request
+    assert_accepted(&rt, &accepted);
     let refused = judged(&rt, alloc, REJECT)?;
-    assert_count(&rt, refused.len(), 2);
-    assert_count(&rt, octets(&refused, 0).len(), 29);
-    assert_octets(&rt, span(&refused, 0, 20, 29), REJECTED);
-    assert_octets(&rt, span(&refused, 1, 20, 23), b"\xc0\x21\x05");
+    assert_rejected(&rt, &refused);
     Ok(())
 }
