@@ -29,7 +29,7 @@ impl<R: RandomSource> Source for &R {
 #[derive(Drop)]
 pub struct RealEntropy<S: Source + Drop> {
     source: S,
-    pub(crate) faults: u64,
+    faults: u64,
 }
 
 impl<S: Source + Drop> RealEntropy<S> {
@@ -37,6 +37,13 @@ impl<S: Source + Drop> RealEntropy<S> {
         ensures { result.faults ≡ 0 }
     {
         RealEntropy { source, faults: 0 }
+    }
+
+    /// How many calls failed.
+    pub fn faults(&self) -> u64
+        ensures { self.now.faults ≡ result }
+    {
+        self.faults
     }
 }
 

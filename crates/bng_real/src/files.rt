@@ -13,7 +13,7 @@ use std::{fs, io};
 pub struct RealFiles<'a, F: SystemFiles> {
     files: &'a F,
     most: u64,
-    pub(crate) faults: u64,
+    faults: u64,
 }
 
 impl<'a, F: SystemFiles> RealFiles<'a, F> {
@@ -26,6 +26,13 @@ impl<'a, F: SystemFiles> RealFiles<'a, F> {
             most,
             faults: 0,
         }
+    }
+
+    /// How many reads failed, but for want of memory.
+    pub fn faults(&self) -> u64
+        ensures { self.now.faults ≡ result }
+    {
+        self.faults
     }
 }
 

@@ -3,8 +3,6 @@
 //! of the system's answers is proved: for any socket, source, reader and stream, also one that tells what it gave and took.
 #![tactic(auto)]
 
-#[cfg(test)]
-mod asserts;
 mod clock;
 mod ends;
 mod entropy;
@@ -17,8 +15,6 @@ mod readiness;
 mod sink;
 mod sockets;
 mod taking;
-#[cfg(test)]
-mod tests;
 mod trace;
 mod words;
 

@@ -23,7 +23,7 @@ pub struct RealPlant<'a, N: Net> {
     readiness: Readiness,
     // By the roles' places.
     sockets: [Option<UdpSocket>; 262],
-    pub(crate) faults: u64,
+    faults: u64,
 }
 
 impl<'a, N: Net> RealPlant<'a, N> {
@@ -37,6 +37,13 @@ impl<'a, N: Net> RealPlant<'a, N> {
             sockets: array::from_fn(|_| None),
             faults: 0,
         })
+    }
+
+    /// How many calls failed, and how many errors of earlier sends a receive was told.
+    pub fn faults(&self) -> u64
+        ensures { self.now.faults ≡ result }
+    {
+        self.faults
     }
 
     fn open(&mut self, role: Role, local: Peer) -> io::Result<()>

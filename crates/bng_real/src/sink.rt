@@ -11,7 +11,7 @@ use std::io::Write;
 #[derive(Drop)]
 pub struct StandardSink<W: Write + Drop> {
     stream: W,
-    pub(crate) faults: u64,
+    faults: u64,
 }
 
 impl<W: Write + Drop> StandardSink<W> {
@@ -19,6 +19,13 @@ impl<W: Write + Drop> StandardSink<W> {
         ensures { result.faults ≡ 0 }
     {
         StandardSink { stream, faults: 0 }
+    }
+
+    /// How many writes failed.
+    pub fn faults(&self) -> u64
+        ensures { self.now.faults ≡ result }
+    {
+        self.faults
     }
 }
 

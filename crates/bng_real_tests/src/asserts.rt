@@ -9,6 +9,11 @@ pub(crate) fn assert_same<T: PartialEq + Debug>(rt: &impl Abort, found: &T, want
     assert_eq!(rt; found, wanted);
 }
 
+/// The test fails where these are the same.
+pub(crate) fn assert_other<T: PartialEq + Debug>(rt: &impl Abort, found: &T, unwanted: &T) {
+    assert_ne!(rt; found, unwanted);
+}
+
 /// The test fails where these octets differ.
 pub(crate) fn assert_octets(rt: &impl Abort, found: &[u8], wanted: &[u8]) {
     assert_eq!(rt; found, wanted);
