@@ -397,14 +397,16 @@ module _ (subscribers workers : ℕ) (some : 1 ≤ workers) (few : workers ≤ 1
       let before = peers_beside 0 old in
       let after = peers_beside played.last new in
       record {
-        config = played.config;
-        is_exercise = played.is_exercise;
-        last = played.last;
-        course = played_course;
+        made = record {
+          config = played.config;
+          is_exercise = played.is_exercise;
+          last = played.last;
+          course = played_course;
+          traced = subst (λ (t : TraceTold). Grows t.rounds new.trace.rounds (records_told played_course.turns played_course.endings)) played_course.untraced played_course.told.rounds;
+          safe = safe_of played.config rules turns_most exercise_seed before after played_course;
+        };
         whole = played.completes.completes.whole;
         ended = played_ended;
-        traced = subst (λ (t : TraceTold). Grows t.rounds new.trace.rounds (records_told played_course.turns played_course.endings)) played_course.untraced played_course.told.rounds;
-        safe = safe_of played.config rules turns_most exercise_seed before after played_course;
         stopped = stopped_all played.config rules turns_most exercise_seed before after played_course played_ended;
         exact = exact played.config rules turns_most exercise_seed before after played_course played_ended;
         printed = subst (λ (text : List ℕ). Grows old.out.bytes new.out.bytes text)

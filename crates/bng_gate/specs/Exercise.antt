@@ -212,28 +212,6 @@ abbrev pub line_over : ℕ → Config → List Made → List MadeEnd → List �
 line_over subscribers config turns endings =
     exercise_text subscribers (length (all_terms_of config (rounds_of turns endings))) (total_in (plant_of turns endings).sent) (length (stops_of (rounds_of turns endings))) (sum (by_number (drops_of_run turns endings)))
 
--- What holds of an exercise that came to its line, with status 0 or 6.
-pub record Exercised (subscribers workers status : ℕ) (old new : World) : Type 0 where
-  -- The configuration of an exercise was served from the moment 0 on, in turns of serving, and of the ending, until no session was left, and
-  -- of the grace, until it was over.
-  pub config : Config
-  pub is_exercise : IsExercise workers config
-  pub last : ℕ
-  pub course : Course config turns_most exercise_seed (outside (peers_beside 0 old)) (outside (peers_beside last new))
-  pub whole : IsWhole turns_most course.turns course.endings course.last
-  pub ended : state_of course.last ≡ Ended
-  -- The trace was told the rounds of these turns, each once and in order, and no other.
-  pub traced : Grows old.trace.rounds new.trace.rounds (records_told course.turns course.endings)
-  -- They are a run of the gateway from its opening state, of which all holds that holds of a run over sockets; and each term has one Stop,
-  -- and the Stops say what was sent.
-  pub safe : IsSafe config turns_most exercise_seed (peers_beside 0 old) (peers_beside last new) course
-  pub stopped : AllZip AreStopped safe.history.shards (terms_of_run config (rounds_of course.turns course.endings))
-  pub exact : StopsAccount (stops_of (rounds_of course.turns course.endings)) safe.sent
-  -- Each number of the line, but that of the subscribers, is its sum over these rounds.
-  pub printed : Grows old.out.bytes new.out.bytes (line_over subscribers config course.turns course.endings)
-  -- With status 0 each Stop that was formed was acknowledged by a datagram that was heard later.
-  pub acknowledged : status ≡ 0 → StopsAreAcknowledged (calls_in_run config turns_most exercise_seed (peers_beside 0 old) (peers_beside last new) course)
-
 -- What holds of the turns that an exercise made, whatever status it ended with.
 pub record SafelyExercised (workers : ℕ) (old new : World) : Type 0 where
   -- The configuration of an exercise was served from the moment 0 on, in these turns.
@@ -245,3 +223,18 @@ pub record SafelyExercised (workers : ℕ) (old new : World) : Type 0 where
   pub traced : Grows old.trace.rounds new.trace.rounds (records_told course.turns course.endings)
   -- They are a run of the gateway from its opening state, of which all holds that holds of a run over sockets.
   pub safe : IsSafe config turns_most exercise_seed (peers_beside 0 old) (peers_beside last new) course
+
+-- What holds of an exercise that came to its line, with status 0 or 6.
+pub record Exercised (subscribers workers status : ℕ) (old new : World) : Type 0 where
+  pub made : SafelyExercised workers old new
+  -- They are turns of serving, and of the ending, until no session was left, and of the grace, until it was over; and the trace took each
+  -- round.
+  pub whole : IsWhole turns_most made.course.turns made.course.endings made.course.last
+  pub ended : state_of made.course.last ≡ Ended
+  -- Each term has one Stop, and the Stops say what was sent.
+  pub stopped : AllZip AreStopped made.safe.history.shards (terms_of_run made.config (rounds_of made.course.turns made.course.endings))
+  pub exact : StopsAccount (stops_of (rounds_of made.course.turns made.course.endings)) made.safe.sent
+  -- Each number of the line, but that of the subscribers, is its sum over these rounds.
+  pub printed : Grows old.out.bytes new.out.bytes (line_over subscribers made.config made.course.turns made.course.endings)
+  -- With status 0 each Stop that was formed was acknowledged by a datagram that was heard later.
+  pub acknowledged : status ≡ 0 → StopsAreAcknowledged (calls_in_run made.config turns_most exercise_seed (peers_beside 0 old) (peers_beside made.last new) made.course)
