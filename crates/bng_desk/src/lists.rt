@@ -77,9 +77,10 @@ fn zeros(mut list: Vec<u32>, count: usize) -> Result<Vec<u32>, AllocError>
     }
 }
 
-// Keeps the list of a journal for a later round, if few are kept, and there is memory to keep it.
+// Keeps the list of a journal for a later round, if something stood on it, few are kept, and there is memory to keep it. One with nothing on
+// it has no memory.
 fn keep(spare: &mut Vec<Batch<Entry>>, journal: Batch<Entry>) {
-    if SPARE_MOST <= spare.len() {
+    if journal.len() == 0 || SPARE_MOST <= spare.len() {
         return;
     }
     match spare.push(journal) {

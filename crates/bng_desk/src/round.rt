@@ -33,8 +33,17 @@ fn lend(shard: &mut Shard, mut list: Batch<Entry>)
     shard.keep_journal(list);
 }
 
-// Makes a shard ready for a round of so many items, in which so many terms may begin, with the list of a journal of before where one is
-// left.
+// The list of a journal of before, where the shard wants one and one is left.
+fn list_for(shard: &Shard, spare: &mut Vec<Batch<Entry>>) -> Option<Batch<Entry>> {
+    if shard.wants_journal() {
+        spare.pop()
+    } else {
+        None
+    }
+}
+
+// Makes a shard ready for a round of so many items, in which so many terms may begin, with the list of a journal of before where it wants
+// one and one is left.
 fn prepare_one(
     shard: &mut Shard,
     alloc: Global,
@@ -49,7 +58,7 @@ fn prepare_one(
     ensures ready { result ≡ true → IsReady items allowance shard.new }
     ensures rows { HasRows shard.new }
 {
-    if let Some(list) = spare.pop() {
+    if let Some(list) = list_for(shard, spare) {
         lend(shard, list);
     }
     shard.prepare(alloc, items, allowance).is_ok()
@@ -258,6 +267,9 @@ fn send_outs<P: Plant>(
     ensures capacity { outs.new.room ≡ outs.old.room }
 {
     let (journal, mut to_send) = shard.drain();
+    if to_send.len() == 0 {
+        return journal;
+    }
     for out in to_send.as_slice() {
         let sent = send(plant, out.role, out.to, out.frame.as_slice());
         outs.push_sent(out, sent);

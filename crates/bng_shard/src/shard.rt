@@ -61,6 +61,8 @@ pub struct Shard {
     outs: Batch<OutRecord>,
     pub(crate) changed: Vec<Answer>,
     room: usize,
+    // whether a journal was handed out with its memory, and no list was given for the next ones since
+    lent: bool,
 }
 
 impl Drop for Shard {
@@ -76,6 +78,7 @@ impl Drop for Shard {
             outs: _,
             changed: _,
             room: _,
+            lent: _,
         } = self;
     }
 }
@@ -135,6 +138,22 @@ fn reserve_amply(journal: &mut Batch<Entry>, outs: &mut Batch<OutRecord>, items:
         return true;
     }
     reserve(journal, outs, items)
+}
+
+// Hands out what is on a list. Its memory goes along, but stays where nothing was on it.
+fn handed_out<T: Drop>(list: &mut Batch<T>, alloc: Global) -> Batch<T>
+    ensures items { result.items ≡ list.old.items }
+    ensures none { list.new.items ≡ [] }
+{
+    if list.len() == 0 {
+        return Batch::new(alloc);
+    }
+    mem::replace(list, Batch::new(alloc))
+}
+
+// Whether a journal was handed out with its memory, after one more.
+fn is_lent(lent: bool, journal: &Batch<Entry>) -> bool {
+    lent || journal.len() > 0
 }
 
 // A book for each profile of these rules, in which nothing stands.
@@ -199,6 +218,7 @@ impl Shard {
             outs: Batch::new(alloc),
             changed: Vec::new(alloc),
             room: 0,
+            lent: false,
         })
     }
 
@@ -292,7 +312,7 @@ impl Shard {
         fate
     }
 
-    /// Hands out the journal of the round and what is to be sent for it.
+    /// Hands out the journal of the round and what is to be sent for it. A list with nothing on it has no memory: the shard keeps its own.
     pub fn drain(&mut self) -> (Batch<Entry>, Batch<OutRecord>)
         ensures journal { result.0.items ≡ self.old.journal }
         ensures outs { result.1.items ≡ self.old.outs }
@@ -300,8 +320,9 @@ impl Shard {
     {
         let alloc = self.terms.allocator();
         self.room = 0;
-        let journal = mem::replace(&mut self.journal, Batch::new(alloc));
-        let outs = mem::replace(&mut self.outs, Batch::new(alloc));
+        let journal = handed_out(&mut self.journal, alloc);
+        let outs = handed_out(&mut self.outs, alloc);
+        self.lent = is_lent(self.lent, &journal);
         (journal, outs)
     }
 
@@ -415,6 +436,12 @@ impl Shard {
     {
         self.room = 0;
         self.journal = list;
+        self.lent = false;
+    }
+
+    /// Whether a list for the journals to come would serve: one with memory was handed out, and none came in its place.
+    pub fn wants_journal(&self) -> bool {
+        self.lent
     }
 
     /// The same for what is to be sent.

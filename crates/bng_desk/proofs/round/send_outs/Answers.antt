@@ -1,12 +1,13 @@
-use Rattle.std.proofs.Common.{◌≡◌, ◌+◌, ◌*◌, ◌^◌, ℕ, List, [], ◌∷◌, ◌++◌, drop, length, length-append, refl, sym, ap, subst, ◌∙◌, arith}
+use Rattle.std.proofs.Common.{rules, ◌≡◌, ◌+◌, ◌*◌, ◌^◌, ℕ, List, [], ◌∷◌, ◌++◌, drop, length, length-append, refl, sym, ap, subst, ◌∙◌, arith}
 use Rattle.std.proofs.lemmas.List.{drop_all, drop_more}
 use Rattle.bng_base.specs.Batches.{Batch}
 use Rattle.bng_base.specs.declared.item.OutRecord.{OutRecord}
 use Rattle.bng_base.specs.Stretch.{ExtendsPlant}
 use Rattle.bng_engine.specs.Protocol.{IsOwned}
 use Rattle.bng_engine.specs.Showing.{ChargesShown}
-use Rattle.bng_engine.specs.Views.{row_keys}
-use Rattle.bng_shard.specs.Protocol.{pppoe}
+use Rattle.bng_base.specs.declared.item.Entry.{Entry}
+use Rattle.bng_engine.specs.Views.{ShardView, row_keys}
+use Rattle.bng_shard.specs.Protocol.{ShardState, pppoe}
 use Rattle.bng_shard.specs.Sums.{AreCovered, charged_as}
 use Rattle.bng_desk.specs.Reading.{sending}
 use Rattle.bng_desk.proofs.Sending.{SendsSome, sends_none, sends_more, sends_all, sent_low, book_has, row_has, still_covered}
@@ -109,3 +110,12 @@ returns-clause-sends g c =
     sends_all c.args.shard.now c.loop-out.shard c.keep_outs.new.self (told c.args.plant.now) (told c.loop-out.plant) c.args.outs.now.items c.loop-out.outs.items (drop i items)
     c.drain-journal.result.0.items c.args.drops.now c.loop-out.drops c.args.tally.now c.loop-out.tally c.requires.turns c.loop-out.invariant.sends (drop_all i items (omega (arith, c.loop-out-test.false))) c.drain-journal.ensures.journal
     c.keep_outs.ensures
+
+pub returns-then-len-eq0-clause-sends : goal.returns-then-len-eq0-clause-sends
+returns-then-len-eq0-clause-sends g c =
+    let told = g.P.Plant.told (c.args.plant.now) in
+    let v = c.args.shard.now in
+    let w = c.drain-journal.new.self in
+    sends_all v w w told told c.args.outs.now.items c.args.outs.now.items [] c.drain-journal.result.0.items c.args.drops.now c.args.drops.now c.args.tally.now c.args.tally.now c.requires.turns
+    (sends_none v w told c.args.outs.now.items [] c.args.drops.now c.args.tally.now c.drain-journal.ensures.after (search rules)) refl c.drain-journal.ensures.journal
+    (c.drain-journal.ensures.after ∙ sym (ap (λ (x : ShardView ShardState Entry). record x { room = 0 }) c.drain-journal.ensures.after))

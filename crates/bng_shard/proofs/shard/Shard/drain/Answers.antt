@@ -1,6 +1,4 @@
 use Rattle.std.proofs.Common.{ap, arith, length}
-use Rattle.bng_base.specs.Batches.{Batch}
-use Rattle.bng_base.specs.declared.item.Entry.{Entry}
 use Rattle.bng_shard.proofs.shard.Shard.drain.Goals as goal
 
 pub invariant_of-self : goal.invariant_of-self
@@ -20,7 +18,7 @@ invariant_of-self c =
       few_profiles = was.few_profiles;
       named = was.named;
       booked = was.booked;
-      journal_room = omega (arith, ap (λ (b : Batch Entry). length b.items) c.replace-journal.ensures.after, ap length c.new.ensures);
+      journal_room = omega (arith, ap length c.handed_out-journal.ensures.none);
       outs_room = λ some. absurd (omega (arith, some));
       terms_room = omega arith;
       changed_room = omega (arith, was.changed_room);
