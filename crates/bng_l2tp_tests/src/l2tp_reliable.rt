@@ -150,7 +150,7 @@ fn send_up_to_65535(channel: &mut Channel) {
     }
 }
 
-// Asserts what is in flight after acknowledgements that are passed over: an old one, and one of what was not sent.
+// Asserts that the same is in flight after acknowledgements that are passed over: an old one, one of what was not sent, and the last one again.
 fn assert_passed_over(rt: &impl Abort, channel: &mut Channel) {
     assert_left(rt, channel, 65_534, &OUTS);
     assert_left(rt, channel, 2, &OUTS);

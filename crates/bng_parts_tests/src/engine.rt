@@ -47,7 +47,7 @@ fn shards_with_claims() {
     octets_tell_charges::<Toy>();
 }
 
-// Its rounds are told by traces, and its turn is one.
+// Its rounds are told by traces and its turn is one, as entries and rounds with claims show.
 fn rounds_with_claims() {
     traces_tell_rounds::<Toy>();
     toy_entries_are_alike();

@@ -208,9 +208,13 @@ fn a_packet_of_the_subscriber_is_passed_on_or_left_as_it_is(rt: HostRuntime) {
     go_up_in_vain(&rt, short);
 }
 
-// To this term a packet passes, padded and not.
-fn go_down_both(rt: &impl Abort, holder: Option<TermView>) {
+// To this term a packet passes.
+fn passes_to(rt: &impl Abort, holder: Option<TermView>) {
     goes_down(rt, holder, &DOWN, Fate::Forwarded, &DOWN_SENT);
+}
+
+// To this term a padded one does.
+fn passes_padded_to(rt: &impl Abort, holder: Option<TermView>) {
     let padded = padded(&DOWN);
     goes_down(rt, holder, &padded, Fate::Forwarded, &DOWN_SENT);
 }
@@ -225,7 +229,8 @@ fn go_down_in_vain(rt: &impl Abort) {
 
 #[test]
 fn a_packet_of_the_core_is_passed_on_or_left_as_it_is(rt: HostRuntime) {
-    go_down_both(&rt, Some(OPEN));
+    passes_to(&rt, Some(OPEN));
+    passes_padded_to(&rt, Some(OPEN));
     go_down_in_vain(&rt);
 }
 
@@ -250,7 +255,8 @@ fn are_too_big(rt: &impl Abort) {
 
 #[test]
 fn a_packet_of_the_core_is_no_longer_than_the_mru(rt: HostRuntime) {
-    go_down_both(&rt, taking(20, true));
+    passes_to(&rt, taking(20, true));
+    passes_padded_to(&rt, taking(20, true));
     are_too_big(&rt);
     goes_up(&rt, Some(taking(19, true)), &UP, Fate::Forwarded, &UP_SENT);
 }

@@ -117,6 +117,7 @@ fn assert_lengths(rt: &impl Abort, sent: &[Datagram]) {
 fn assert_kept(rt: &impl Abort, plant: &MemoryPlant) {
     assert_same(rt, &plant.faults(), &3);
     assert_count(rt, plant.bound().len(), 1);
+    assert_count(rt, plant.sent().len(), 1);
     assert_lengths(rt, plant.sent());
 }
 

@@ -73,7 +73,7 @@ fn open<R: Net + Abort, P: Plant>(rt: &R, plant: &mut P, role: Role) -> io::Resu
 }
 
 /// A role has nothing more, and no fault was counted.
-fn has_no_more<N: Net>(rt: &impl Abort, plant: &mut RealPlant<'_, N>, role: Role) {
+fn assert_empty<N: Net>(rt: &impl Abort, plant: &mut RealPlant<'_, N>, role: Role) {
     let mut frame = Frame::new();
     let got = plant.recv(role, &mut frame);
     assert_same(rt, &(got, plant.faults()), &(Received::Empty, 0));
@@ -90,7 +90,7 @@ const LENGTHS: &[(usize, usize, bool)] = &[
 ];
 
 /// What comes next to access port 1 answers this, and so many octets of it, which count up, are kept.
-fn is_kept<P: Plant>(
+fn assert_received<P: Plant>(
     rt: &impl Abort,
     plant: &mut P,
     frame: &mut Frame,
@@ -115,7 +115,7 @@ fn each_length_comes<P: Plant>(
     for (length, kept, cut) in LENGTHS {
         send_all(rt, other, access, *length)?;
         let wanted = Received::Got { from, cut: *cut };
-        is_kept(rt, plant, &mut frame, wanted, *kept);
+        assert_received(rt, plant, &mut frame, wanted, *kept);
     }
     Ok(())
 }
@@ -126,7 +126,7 @@ fn datagrams_come_in_whole_up_to_4096_octets(rt: HostRuntime) -> Result<(), Fail
     let mut plant = RealPlant::new(&rt, rt.alloc())?;
     let access = open(&rt, &mut plant, Role::Access(1))?;
     each_length_comes(&rt, &mut plant, &other, access)?;
-    has_no_more(&rt, &mut plant, Role::Access(1));
+    assert_empty(&rt, &mut plant, Role::Access(1));
     Ok(())
 }
 
@@ -152,7 +152,7 @@ fn open_each<R: Net + Abort, P: Plant>(rt: &R, plant: &mut P, other: &Party) -> 
 }
 
 /// What a receive gave is a whole datagram of this sender, of so many octets.
-fn is_whole(rt: &impl Abort, got: Received, frame: &Frame, from: Peer, length: usize) {
+fn assert_whole(rt: &impl Abort, got: Received, frame: &Frame, from: Peer, length: usize) {
     assert_same(rt, &got, &Received::Got { from, cut: false });
     assert_count(rt, frame.payload().len(), length);
 }
@@ -162,7 +162,7 @@ fn each_has_its_own<P: Plant>(rt: &impl Abort, plant: &mut P, from: Peer) {
     let mut frame = Frame::new();
     for (at, role) in ROLES.iter().enumerate() {
         let got = plant.recv(*role, &mut frame);
-        is_whole(rt, got, &frame, from, at);
+        assert_whole(rt, got, &frame, from, at);
     }
 }
 

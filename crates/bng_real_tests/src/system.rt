@@ -252,7 +252,7 @@ fn reads<F: Files>(files: &mut F, alloc: Global, name: &str, want: &str) -> bool
 }
 
 /// A file with the first text, which stands for as long as it is read, is read as the second one.
-fn is_read_as<R: SystemFiles + Abort, F: Files>(
+fn assert_read_as<R: SystemFiles + Abort, F: Files>(
     rt: &R,
     files: &mut F,
     alloc: Global,
@@ -294,7 +294,7 @@ fn files_are_read_whole_or_to_the_limit(rt: HostRuntime) -> Result<(), Fail> {
     let name = file_in(alloc, place, process::id(rt.process()))?;
     let mut files = RealFiles::new(&rt, 10);
     for row in TEXTS {
-        is_read_as(&rt, &mut files, alloc, name.as_str(), *row)?;
+        assert_read_as(&rt, &mut files, alloc, name.as_str(), *row)?;
     }
     assert_same(&rt, &files.faults(), &0);
     fails_to_read(&rt, &mut files, alloc, name.as_str(), 1);

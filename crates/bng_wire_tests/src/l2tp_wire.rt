@@ -143,7 +143,7 @@ fn assert_count_of_avps(rt: &impl Abort, octets: &[u8], wanted: Result<usize, Re
     assert_same(rt, &count_of_avps(octets), &wanted);
 }
 
-// a message without AVPs whose reserved bits are set, and an octet past its Length
+// a message without AVPs that has reserved bits set, and an octet past its Length
 const PADDED: [u8; 13] = [0xf8, 0x12, 0, 12, 0, 5, 0, 0, 0, 0, 0, 0, 0x80];
 
 #[test]

@@ -25,7 +25,7 @@ const DATA: [u8; 60] = [
     0, 0, 0, 0, 0, 0, 0, 0,
 ];
 
-// the types and values of its tags
+// the types and values of the tags of INITIATION
 const INITIATION_TAGS: &[(u16, &[u8])] = &[
     (SERVICE_NAME, &[]),
     (HOST_UNIQ, &[0xa1, 0xb2, 0xc3, 0xd4]),

@@ -305,7 +305,7 @@ fn texts_of_a_wrong_length_are_told(rt: HostRuntime) -> Result<(), Fail> {
     Ok(())
 }
 
-/// The full configuration with texts of the most and the least octets.
+/// The full configuration with a pool's name of the most octets, a user's name of 64, and a gateway's name of the least.
 fn with_longest(alloc: Global) -> Result<String, AllocError> {
     let text = changed(alloc, FULL, "\"b\"", "\"0123456789abcdefghijklmnopqrst-_\"")?;
     let text = changed(alloc, text.as_str(), "fixed2", LONGEST)?;

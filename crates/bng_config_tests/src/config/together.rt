@@ -38,7 +38,7 @@ fn values_that_an_earlier_key_has_are_told(rt: HostRuntime) -> Result<(), Fail> 
     Ok(())
 }
 
-/// What two keys may share: a pool and a profile their name, and a socket its other end.
+/// The full configuration where two keys share what they may: a pool and a profile their name, and a socket its other end.
 fn with_shared(alloc: Global) -> Result<String, AllocError> {
     let text = changed(alloc, FULL, "name = \"gold\"", "name = \"a\"")?;
     let text = changed(alloc, text.as_str(), "127.0.0.1:9021", "127.0.0.1:9011")?;

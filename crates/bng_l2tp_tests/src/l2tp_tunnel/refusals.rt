@@ -77,7 +77,7 @@ fn refusals_come_in_their_order(rt: HostRuntime) -> Result<(), Fail> {
     Ok(())
 }
 
-// Whether there is a secret, an SCCRQ, and the StopCCN that it is answered by.
+// Whether there is a secret, an SCCRQ, and the StopCCN that it is answered by, if one goes out.
 const LACKING: &[(bool, &str, &str)] = &[
     // a hidden Host Name and no Random Vector, where there is a secret
     (

@@ -1,5 +1,5 @@
 //! The waits of a plant, and what its turns read.
-use super::{Party, has_no_more, is_whole, open, send_all, send_counting, stranger};
+use super::{Party, assert_empty, assert_whole, open, send_all, send_counting, stranger};
 use crate::asserts::{assert_holds, assert_other, assert_same};
 use bng_base::{Frame, Peer, Received, Role};
 use bng_plant::Plant;
@@ -31,7 +31,7 @@ fn wait_for_one<N: Net>(
     plant.wait(50_000);
     let got = plant.recv(Role::Control, &mut frame);
     assert_other(rt, &got, &Received::Empty);
-    has_no_more(rt, plant, Role::Control);
+    assert_empty(rt, plant, Role::Control);
     Ok(())
 }
 
@@ -71,7 +71,7 @@ fn take_four<P: Plant>(rt: &impl Abort, plant: &mut P, from: Peer) {
     let mut frame = Frame::new();
     for length in 1..=4 {
         let got = take_or_wait(plant, &mut frame);
-        is_whole(rt, got, &frame, from, length);
+        assert_whole(rt, got, &frame, from, length);
     }
 }
 
@@ -82,7 +82,7 @@ fn what_came_is_read_on_until_it_runs_out(rt: HostRuntime) -> Result<(), Fail> {
     let access = open(&rt, &mut plant, Role::Access(1))?;
     send_four(&rt, &other, access)?;
     take_four(&rt, &mut plant, other.end);
-    has_no_more(&rt, &mut plant, Role::Access(1));
+    assert_empty(&rt, &mut plant, Role::Access(1));
     Ok(())
 }
 
@@ -119,7 +119,7 @@ fn come_in<P: Plant>(
 }
 
 /// What comes to access port 1 is read in such turns, once and whole.
-fn is_read_beside_control<N: Net>(
+fn assert_read_beside_control<N: Net>(
     rt: &impl Abort,
     plant: &mut RealPlant<'_, N>,
     other: &Party,
@@ -131,7 +131,7 @@ fn is_read_beside_control<N: Net>(
     send_all(rt, other, access, 4)?;
     let got = come_in(plant, &other.socket, control, more)?;
     assert_same(rt, &got, &Received::Got { from, cut: false });
-    has_no_more(rt, plant, Role::Access(1));
+    assert_empty(rt, plant, Role::Access(1));
     Ok(())
 }
 
@@ -145,7 +145,7 @@ fn turns_read_a_port_whatever_comes_to_control(rt: HostRuntime) -> Result<(), Fa
     let control = open(&rt, &mut plant, Role::Control)?;
     let access = open(&rt, &mut plant, Role::Access(1))?;
     for more in MORE {
-        is_read_beside_control(&rt, &mut plant, &other, control, access, *more)?;
+        assert_read_beside_control(&rt, &mut plant, &other, control, access, *more)?;
     }
     Ok(())
 }

@@ -183,7 +183,7 @@ fn assert_reaps(rt: &impl Abort, bench: &mut Bench, serial: u64, cause: u8) {
     assert_holds(rt, bench.reap().is_none());
 }
 
-// The Accept of this host, by which it asks this question, has the outs of one that begins a term.
+// The verdict of this host's question has two outs, as an Accept has that begins a term.
 fn assert_accepted(rt: &impl Abort, alloc: Global, bench: &mut Bench, host: u8, ask: u64) {
     let outs = accepted(rt, alloc, bench, host, ask);
     assert_count(rt, outs.len(), 2);

@@ -252,9 +252,9 @@ fn assert_term(rt: &impl Abort, bench: &Bench, place: usize, term: (TermId, Circ
     assert_holds(rt, shows(bench, place, term));
 }
 
-// So many terms are there.
-fn assert_terms(rt: &impl Abort, bench: &Bench, count: usize) {
-    assert_holds(rt, bench.shard.term(count).is_none());
+// No term stands at this place, from 0.
+fn assert_no_term(rt: &impl Abort, bench: &Bench, place: usize) {
+    assert_holds(rt, bench.shard.term(place).is_none());
 }
 
 // An End is told to one session alone.
@@ -289,7 +289,7 @@ fn an_end_ends_circuits_too_and_each_leaves_by_a_stop(rt: HostRuntime) -> Result
 fn assert_shows_both(rt: &impl Abort, bench: &Bench) {
     assert_term(rt, bench, 0, first());
     assert_term(rt, bench, 1, second());
-    assert_terms(rt, bench, 2);
+    assert_no_term(rt, bench, 2);
 }
 
 #[test]
@@ -300,7 +300,7 @@ fn terms_are_shown_by_their_numbers_until_they_leave(rt: HostRuntime) -> Result<
     assert_shows_both(&rt, &bench);
     assert_reaps(&rt, &mut bench, first());
     assert_term(&rt, &bench, 0, second());
-    assert_terms(&rt, &bench, 1);
+    assert_no_term(&rt, &bench, 1);
     Ok(())
 }
 
