@@ -50,7 +50,29 @@ fn ask_one<P: Plant>(plant: &mut P, lane: &mut Lane, ask: &AuthAsk, draws: &mut 
     let _sent = send_one(plant, lane, id, &request);
 }
 
-// Asks the questions that wait in a shard, as long as there is an identifier.
+// Asks the questions that wait in a shard, as long as there is an identifier. It is not inlined: it blanks the room for a question, and a
+// shard without one would pay for that in each turn.
+#[inline(never)]
+fn ask_waiting<P: Plant>(
+    plant: &mut P,
+    lane: &mut Lane,
+    shard: &Shard,
+    handed: &mut Handed,
+    draws: &mut Draws,
+    now: u64,
+)
+    requires drawn { draws.old.drawn < 2 ^ 61 }
+    ensures { AsksAll now shard.now.number shard.now.state.slots (P.told plant.old) (P.told plant.new) lane.old lane.new handed.old handed.new draws.old draws.new }
+{
+    while lane.room() {
+        let Some(ask) = shard.asked(handed) else {
+            return;
+        };
+        ask_one(plant, lane, &ask, draws, now);
+    }
+}
+
+// The same, where a question is open.
 fn ask_all<P: Plant>(
     plant: &mut P,
     lane: &mut Lane,
@@ -65,12 +87,7 @@ fn ask_all<P: Plant>(
     if !shard.has_open() {
         return;
     }
-    while lane.room() {
-        let Some(ask) = shard.asked(handed) else {
-            return;
-        };
-        ask_one(plant, lane, &ask, draws, now);
-    }
+    ask_waiting(plant, lane, shard, handed, draws, now);
 }
 
 /// Sends the requests that are due again at this moment in milliseconds, and then asks the questions that wait in the shards, in their

@@ -13,7 +13,35 @@ use crate::accounts::Accounts;
 use bng_pool::PlainPool;
 use bng_shard::Shard;
 
-// Lets the terms of a shard leave that ended, the first in order first. `began` are the terms that began in the round, of all shards.
+// Lets the terms of a shard leave that ended, the first in order first. `began` are the terms that began in the round, of all shards. It is
+// not inlined: it blanks the room for a term that ended, and a shard without one would pay for that in each turn.
+#[inline(never)]
+fn reap_ended(
+    shard: &mut Shard,
+    pool: &mut PlainPool,
+    accounts: &mut Accounts,
+    moment: u64,
+    wall: u64,
+)
+    requires low { LinesWithin far (shard.old ∷ []) accounts.old.lines }
+    requires low_in_all { AllWithin far (shard.old ∷ []) accounts.old.stopped }
+    requires terms { AreTenures moment shard.old.state.slots }
+    requires settling { (front back began : List Key) × AreSettling (front ++ (keys (terms_of shard.old.state) ++ back)) began accounts.old.billing }
+    requires held { AreHeld shard.old.number (terms_of shard.old.state) pool.old.table }
+    ensures reaps { ReapsShard shard.old.state.slots.terms moment wall shard.old shard.new pool.old pool.new accounts.old accounts.new }
+    ensures settling { (front back began : List Key) → AreSettling (front ++ (keys (terms_of shard.old.state) ++ back)) began accounts.old.billing → AreSettling (front ++ (keys (terms_of shard.new.state) ++ back)) began accounts.new.billing }
+    ensures terms { AreTenures moment shard.new.state.slots }
+    ensures held { AreHeld shard.new.number (terms_of shard.new.state) pool.new.table }
+    ensures others { (n : ℕ) (terms : List Term) → n ≢ shard.old.number → AreHeld n terms pool.old.table → AreHeld n terms pool.new.table }
+{
+    while let Some(ended) = shard.reap(pool) {
+        // What accounting knows of terms agrees with its records: no Stop of a live term is open.
+        prove!(accounts.free() <= u32::MAX);
+        accounts.stop(ended, moment, wall);
+    }
+}
+
+// The same, where a term has ended or a session is to leave.
 fn reap(shard: &mut Shard, pool: &mut PlainPool, accounts: &mut Accounts, moment: u64, wall: u64)
     requires low { LinesWithin far (shard.old ∷ []) accounts.old.lines }
     requires low_in_all { AllWithin far (shard.old ∷ []) accounts.old.stopped }
@@ -29,11 +57,7 @@ fn reap(shard: &mut Shard, pool: &mut PlainPool, accounts: &mut Accounts, moment
     if shard.is_settled() {
         return;
     }
-    while let Some(ended) = shard.reap(pool) {
-        // What accounting knows of terms agrees with its records: no Stop of a live term is open.
-        prove!(accounts.free() <= u32::MAX);
-        accounts.stop(ended, moment, wall);
-    }
+    reap_ended(shard, pool, accounts, moment, wall);
 }
 
 /// Lets the terms leave that ended, of the shards in their order: each by one Stop, with which its address is given back, of which a

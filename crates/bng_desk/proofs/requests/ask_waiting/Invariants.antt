@@ -1,7 +1,7 @@
 use Rattle.std.proofs.Common.{length}
 use Rattle.bng_shard.specs.Questions.{waiting}
 use Rattle.bng_desk.specs.Intake.{AsksSome}
-use Rattle.bng_desk.proofs.requests.ask_all.Given as goal
+use Rattle.bng_desk.proofs.requests.ask_waiting.Given as goal
 
 -- what was asked so far
 abbrev pub invariant-loop-handed : goal.invariant-loop-handed

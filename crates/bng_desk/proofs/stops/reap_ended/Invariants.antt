@@ -1,7 +1,7 @@
 use Rattle.std.proofs.Common.{length}
 use Rattle.bng_shard.specs.Protocol.{ended_terms}
 use Rattle.bng_desk.proofs.Reaping.{ReapsFew}
-use Rattle.bng_desk.proofs.stops.reap.Given as goal
+use Rattle.bng_desk.proofs.stops.reap_ended.Given as goal
 
 -- what left so far
 abbrev pub invariant-loop-ended : goal.invariant-loop-ended
