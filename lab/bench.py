@@ -30,8 +30,16 @@ SESSIONS = 16000
 TERMS = (0, 1000, 10000)
 # Shards and sessions, which send no echoes.
 PACED = ((1, 0), (64, 0), (64, SESSIONS))
-TICKS = os.sysconf("SC_CLK_TCK")
 PAGE = os.sysconf("SC_PAGE_SIZE")
+
+
+def ran(pid):
+    """The processor seconds of a process's threads so far, which the system counts in nanoseconds."""
+    total = 0
+    for thread in os.listdir(f"/proc/{pid}/task"):
+        with open(f"/proc/{pid}/task/{thread}/schedstat", encoding="ascii") as file:
+            total += int(file.read().split()[0])
+    return total / 1e9
 
 
 class Spent:
@@ -41,7 +49,7 @@ class Spent:
         with open(f"/proc/{pid}/stat", encoding="ascii") as file:
             fields = file.read().rsplit(")", 1)[1].split()
         self.faults = int(fields[7]) + int(fields[9])
-        self.seconds = (int(fields[11]) + int(fields[12])) / TICKS
+        self.seconds = ran(pid)
 
 
 # One run at one size: packets a second, processor microseconds and page faults a packet, packets that came and that
@@ -182,7 +190,7 @@ def table(results):
 
 
 def spent(runs):
-    """The processor time a packet over all turns: a clock that ticks a hundred times a second tells little of one of them."""
+    """The processor time a packet over all turns."""
     return sum(run.used * run.came for run in runs) / max(sum(run.came for run in runs), 1)
 
 
