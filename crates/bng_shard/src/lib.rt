@@ -30,6 +30,8 @@ mod meters;
 mod parting;
 mod questions;
 mod replies;
+mod reporting;
+mod rooms;
 mod rules;
 mod seeking;
 mod sending;

@@ -1,5 +1,5 @@
 //! One shard.
-ghost use Rattle.std.specs.Prelude.{ℕ, Some, IsSome, ◌⊎◌, drop, slice_get, IfSome, IfNone, ◌≡◌, ◌≢◌, ◌≤◌, ◌<◌, ◌+◌, ◌*◌, ◌^◌, [], true, IfOk, OnOk, length, option_map, replicate};
+ghost use Rattle.std.specs.Prelude.{ℕ, Some, drop, slice_get, IfSome, IfNone, ◌≡◌, ◌≢◌, ◌≤◌, ◌<◌, ◌+◌, ◌^◌, [], IfOk, OnOk, length, option_map, replicate};
 ghost use Rattle.bng_engine.specs.Calls.{Kept, IsReady};
 ghost use Rattle.bng_engine.specs.Protocol.{IsOwned};
 ghost use Rattle.bng_engine.specs.Quantities.{empty_book};
@@ -9,11 +9,8 @@ ghost use Rattle.bng_engine.specs.Views.{row_keys};
 ghost use Rattle.bng_profile.specs.Books.{AreDifferent, names_of};
 ghost use Rattle.bng_shard.specs.Protocol.{AreHeld, Handles, HasPools, Leaves, SaysOf, TellsNew, ended_terms, entry_of, key_of, opened, pppoe, sessions_of, stop_of, terms_of};
 ghost use Rattle.bng_shard.specs.Room.{Admits};
-ghost use Rattle.bng_shard.specs.declared.session.Session.{Session};
-ghost use Rattle.bng_shard.specs.Interims.{AwaitsInterims, owed, row_in, row_told, with_report};
-ghost use Rattle.bng_slots.specs.Sessions.{IsNumberOf, value_at};
+ghost use Rattle.bng_slots.specs.Sessions.{IsNumberOf};
 ghost use Rattle.std.specs.List.{All, AllPairs};
-ghost use Rattle.bng_engine.specs.Lists.{AnyOf};
 ghost use Rattle.bng_pool.specs.Tables.{TableFrees};
 ghost use Rattle.bng_shard.specs.State.{reaped};
 ghost use Rattle.bng_shard.specs.Tenures.{LeavesTerms, Tenure};
@@ -23,21 +20,20 @@ use crate::changes::Answer;
 use crate::claim::{ask, left_after};
 use crate::hear::hear;
 use crate::incoming::Incoming;
-use crate::interims::Reports;
+use crate::rooms::{handed_out, is_lent, reserve_amply};
 use crate::rules::Rules;
-use crate::served::{Served, Survey};
+use crate::served::Served;
 use crate::sums::{Charged, book, charged_as, tally};
-use crate::term::{EndedTerm, LiveTerm, ReportedTerm};
+use crate::term::{EndedTerm, LiveTerm};
 use crate::term_rows::stop_from;
 use crate::terms::Terms;
 use crate::wish::wish_for;
-use bng_base::{At, Batch, Book, Entry, Fate, Item, LONGEST, OutRecord, SessionNo, Static};
+use bng_base::{At, Batch, Book, Entry, Fate, Item, LONGEST, OutRecord, Static};
 use bng_coa::ChangeVerdict;
 use bng_pool::PlainPool;
 use bng_profile::Profiles;
-use std::alloc::{AllocError, Global};
+use std::alloc::Global;
 use std::marker::Model;
-use std::mem;
 
 /// What a shard was not opened or made ready for.
 #[derive(Clone, Copy, Debug)]
@@ -101,59 +97,6 @@ impl Model for Shard {
     ghost view = { λ a. record { number = a.served.sessions.shard; state = record { rules = a.rules; slots = whole a.served a.terms; changed = a.changed.items }; rows = rows_in a.terms.rows; books = a.profiles.books; allowance = a.allowance; journal = a.journal.items; outs = a.outs.items; sends = []; stops = []; starts = []; room = a.room } };
 
     ghost invariant = { Fits };
-}
-
-/// How many outs an item has at most, a Tick and an End aside.
-const OUTS: usize = 10;
-/// How many a Tick and an End have in all, and the last session of a Tick might have beside them.
-const TIMED_OUTS: usize = 645;
-
-/// For how many items a round makes room at first: as many as a turn of the desk has at most, so that no later round makes the lists
-/// anew. Of the room only what is used is touched.
-const ITEMS_AT_FIRST: usize = 736;
-
-// Makes room for a round of so many items in lists that are empty, and says whether there is.
-fn reserve(journal: &mut Batch<Entry>, outs: &mut Batch<OutRecord>, items: usize) -> bool
-    requires few { items < 2 ^ 16 }
-    requires none { (journal.old.items ≡ []) × (outs.old.items ≡ []) }
-    ensures none_still { (journal.new.items ≡ []) × (outs.new.items ≡ []) }
-    ensures journal { result ≡ true → items ≤ journal.new.room }
-    ensures outs { result ≡ true → 10 * items + 645 ≤ outs.new.room }
-{
-    if journal.reserve(items).is_err() {
-        return false;
-    }
-    outs.reserve(OUTS * items + TIMED_OUTS).is_ok()
-}
-
-// The same, with room for a full round where there is memory for that.
-fn reserve_amply(journal: &mut Batch<Entry>, outs: &mut Batch<OutRecord>, items: usize) -> bool
-    requires few { items < 2 ^ 16 }
-    requires none { (journal.old.items ≡ []) × (outs.old.items ≡ []) }
-    ensures none_still { (journal.new.items ≡ []) × (outs.new.items ≡ []) }
-    ensures journal { result ≡ true → items ≤ journal.new.room }
-    ensures outs { result ≡ true → 10 * items + 645 ≤ outs.new.room }
-{
-    if items < ITEMS_AT_FIRST && reserve(journal, outs, ITEMS_AT_FIRST) {
-        return true;
-    }
-    reserve(journal, outs, items)
-}
-
-// Hands out what is on a list. Its memory goes along, but stays where nothing was on it.
-fn handed_out<T: Drop>(list: &mut Batch<T>, alloc: Global) -> Batch<T>
-    ensures items { result.items ≡ list.old.items }
-    ensures none { list.new.items ≡ [] }
-{
-    if list.len() == 0 {
-        return Batch::new(alloc);
-    }
-    mem::replace(list, Batch::new(alloc))
-}
-
-// Whether a journal was handed out with its memory, after one more.
-fn is_lent(lent: bool, journal: &Batch<Entry>) -> bool {
-    lent || journal.len() > 0
 }
 
 // A book for each profile of these rules, in which nothing stands.
@@ -373,58 +316,6 @@ impl Shard {
         }
         let answer = self.changed.remove(0);
         Some((answer.ask, answer.verdict))
-    }
-
-    /// Hands out the live term of the lowest session number whose Interim (RFC 2869 section 5.16) is due at this moment, in milliseconds, and
-    /// takes that Interim: the next one counts from this moment. None exactly where none is due. Which were taken is kept in `reports`, which
-    /// is this shard's alone. Until one may be due it looks at no session, unless requests for changes were answered that were not told yet:
-    /// they may have brought one forward. It is called once the Stops of a round were formed.
-    pub fn interim(&self, reports: &mut Reports, now: u64) -> Option<ReportedTerm>
-        requires moment { now < 2 ^ 60 }
-        requires awaits { self.now.state.changed ≡ [] → AwaitsInterims self.now.state.slots reports.old }
-        ensures first { option_map row_told result ≡ slice_get (owed self.now reports.old.last now) 0 }
-        ensures rest { owed self.now reports.new.last now ≡ drop 1 (owed self.now reports.old.last now) }
-        ensures taken { IfSome result (λ t. reports.new.last ≡ with_report reports.old.last now t.term.term.session) }
-        ensures kept { IfNone result (reports.new.last ≡ reports.old.last) }
-        ensures says { IfSome result (λ t. AnyOf (SaysOf t.term.user.items t.term.class.items t.term.began (key_of t.term)) self.now.state.slots.terms) }
-        ensures awaits { self.now.state.changed ≡ [] → AwaitsInterims self.now.state.slots reports.new }
-        ensures all { IfNone result (AwaitsInterims self.now.state.slots reports.new) }
-        ensures soon { (reports.new.next ≡ reports.old.next) ⊎ (reports.new.next ≤ now + 60000) }
-    {
-        if !self.may_report(reports, now) {
-            return None;
-        }
-        match self.served.survey(reports, now) {
-            Survey::Owes(number) => {
-                let told = self.told_of(number);
-                reports.note(number, now);
-                Some(told)
-            }
-            Survey::None { until } => {
-                reports.wait_until(until);
-                None
-            }
-        }
-    }
-
-    // The live term of the session with this number, which has one, and what it carried so far.
-    fn told_of(&self, number: SessionNo) -> ReportedTerm
-        requires { (x : Session) × (value_at self.now.state.slots.sessions number.0 ≡ Some x) × (x.number ≡ number) × IsSome x.lease }
-        ensures row { (x : Session) → value_at self.now.state.slots.sessions number.0 ≡ Some x → row_in self.now.rows x ≡ Some (row_told result) }
-        ensures session { result.term.term.session ≡ number }
-        ensures says { AnyOf (SaysOf result.term.user.items result.term.class.items result.term.began (key_of result.term)) self.now.state.slots.terms }
-    {
-        let Some(session) = self.served.get(number) else {
-            unreachable!();
-        };
-        let Some(lease) = session.lease() else {
-            unreachable!();
-        };
-        self.terms.are_rising();
-        let Some(told) = self.terms.told_of(lease.serial) else {
-            unreachable!();
-        };
-        told
     }
 
     /// Keeps an empty list for the journals of the rounds to come, as one that `drain` handed out: its places serve again. No round
