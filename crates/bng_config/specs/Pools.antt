@@ -2,7 +2,8 @@
 use Rattle.std.specs.Prelude.{◌≡◌, ◌≢◌, ℕ, ◌≤◌, List, length, map, slice_get, Some}
 use Rattle.bng_base.specs.declared.book.Range.{Range}
 use Rattle.bng_base.specs.declared.settings.NamedRange.{NamedRange}
-use Rattle.bng_schema.specs.Ranges.{InRange, address_count}
+use Rattle.bng_base.specs.Ranges.{InRange}
+use Rattle.bng_schema.specs.Ranges.{address_count}
 
 -- no address is in two of the ranges
 abbrev pub AreApart : List Range → Type 0

@@ -11,7 +11,8 @@ use Rattle.bng_schema.specs.declared.keys.Table.TheVariants.{Pool, Profile, Stat
 use Rattle.bng_schema.specs.Keys.{path_of, value_at, entries}
 use Rattle.bng_schema.specs.Forms.{StandsAt, IsAddress, natural_or}
 use Rattle.bng_schema.specs.Repeats.{HasText, StandsBelow}
-use Rattle.bng_schema.specs.Ranges.{InRange, IsRangeAt}
+use Rattle.bng_base.specs.Ranges.{InRange}
+use Rattle.bng_schema.specs.Ranges.{IsRangeAt}
 
 -- for how many terms there is room: 8,192 where the document does not say
 abbrev pub terms_of : Data → ℕ

@@ -3,14 +3,11 @@ use Rattle.std.specs.Prelude.{◌≡◌, ◌<◌, ◌≤◌, ◌+◌, ◌-◌, �
 use Rattle.toml.specs.Data.{Data}
 use Rattle.bng_base.specs.declared.address.Ip4.{Ip4}
 use Rattle.bng_base.specs.declared.book.Range.{Range}
+use Rattle.bng_base.specs.Ranges.{InRange}
 use Rattle.bng_schema.specs.declared.keys.Field.TheVariants.{GatewayAddress, PoolFirst, PoolLast}
 use Rattle.bng_schema.specs.declared.keys.Key.{Key}
 use Rattle.bng_schema.specs.declared.keys.Key.TheVariants.{Whole, Of}
 use Rattle.bng_schema.specs.Forms.{StandsAt, EachPlace, IsAddress}
-
--- the address is the range's
-abbrev pub InRange : Range → ℕ → Type 0
-InRange r a = (r.first.0 ≤ a) × (a ≤ r.last.0)
 
 -- some range has the address
 abbrev pub HasAddress : List Range → ℕ → Type 0

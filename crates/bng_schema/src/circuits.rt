@@ -2,7 +2,8 @@
 ghost use Rattle.std.specs.Prelude.{◌≡◌, ◌↔◌, ◌⊎◌, ℤ, IsTrue, IfSome, IfNone};
 ghost use Rattle.toml.specs.View.{view};
 ghost use Rattle.bng_schema.specs.Circuits.{HasNumber, HasSessionBelow, SharesSession, SharesAddress, IsPooledBelow, IsOutside, IsProfileName, NamesNoProfile, IsBadCircuit};
-ghost use Rattle.bng_schema.specs.Ranges.{IsRangeAt, InRange};
+ghost use Rattle.bng_base.specs.Ranges.{InRange};
+ghost use Rattle.bng_schema.specs.Ranges.{IsRangeAt};
 ghost use Rattle.bng_base.specs.declared.book.Range.{Range as Addresses};
 
 use crate::find::{entries_of, integer_at, natural_at};

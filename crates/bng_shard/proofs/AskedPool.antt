@@ -16,7 +16,8 @@ use Rattle.bng_base.specs.declared.item.ItemKind.TheVariants.{Access, Core, Tunn
 use Rattle.bng_base.specs.declared.settings.NamedRange.{NamedRange}
 use Rattle.bng_grant.specs.Grants.{Gift}
 use Rattle.bng_pool.specs.Plain.{PlainView}
-use Rattle.bng_pool.specs.Ranges.{HasAddress, InRange}
+use Rattle.bng_base.specs.Ranges.{InRange}
+use Rattle.bng_pool.specs.Ranges.{HasAddress}
 use Rattle.bng_pool.specs.Tables.{TableClaims, TableScans}
 use Rattle.bng_shard.specs.declared.meters.Plan.{Plan}
 use Rattle.bng_shard.specs.declared.rules.Rules.{Rules}

@@ -1,5 +1,6 @@
 use Rattle.toml.specs.View.{view}
-use Rattle.bng_schema.specs.Ranges.{IsRangeAt, InRange}
+use Rattle.bng_base.specs.Ranges.{InRange}
+use Rattle.bng_schema.specs.Ranges.{IsRangeAt}
 use Rattle.bng_schema.proofs.Totals.{range_once}
 use Rattle.bng_schema.proofs.Such.{one_such, none_such}
 use Rattle.bng_schema.proofs.circuits.has_pool_at.Goals as goal

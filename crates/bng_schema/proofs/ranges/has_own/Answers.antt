@@ -3,7 +3,7 @@ use Rattle.bng_base.specs.declared.address.Ip4.{Ip4}
 use Rattle.bng_schema.specs.declared.keys.Field.TheVariants.{GatewayAddress}
 use Rattle.bng_schema.specs.declared.keys.Key.TheVariants.{Of}
 use Rattle.bng_schema.specs.Forms.{StandsAt, IsAddress}
-use Rattle.bng_schema.specs.Ranges.{InRange}
+use Rattle.bng_base.specs.Ranges.{InRange}
 use Rattle.bng_schema.proofs.Once.{address_at_once, one_at}
 use Rattle.bng_schema.proofs.Such.{one_such, none_such}
 use Rattle.bng_schema.proofs.ranges.has_own.Goals as goal
