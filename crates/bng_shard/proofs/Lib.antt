@@ -86,3 +86,4 @@ pub mod OpenedKeys
 pub mod ClaimedTerms
 pub mod Numbered
 pub mod TermYeses
+pub mod PlainLaws

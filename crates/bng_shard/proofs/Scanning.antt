@@ -17,7 +17,7 @@ use Rattle.bng_shard.specs.Discovery.{is_repeated, is_repeated_in, same_option}
 use Rattle.bng_shard.specs.Indexed.{address_of}
 use Rattle.bng_shard.specs.Listing.{IsLowestPassing, does_pass}
 use Rattle.bng_shard.specs.Serving.{AreOwn, AreYoung, is_young, is_young_in}
-use Rattle.bng_shard.specs.State.{State, holder_of, is_on, is_on_way, is_port, leases}
+use Rattle.bng_shard.specs.State.{is_on, is_on_way, is_port, leases}
 use Rattle.bng_shard.proofs.Earliest.{read_there}
 use Rattle.bng_shard.proofs.Listing.{lowest_is, none_is}
 use Rattle.bng_shard.proofs.Values.{find_none, find_only, none_some, same_some}
@@ -72,7 +72,7 @@ is_leased : (o : Option Lease) (a : Ip4) → option_map (λ (l : Lease). l.addre
 is_leased None a e = absurd (none_some a e)
 is_leased (Some l) a e = eq-eqb l.address.0 a.0 (ap (λ (b : Ip4). b.0) (same_some l.address a e))
 
-module _ (s : State) (a : Ip4) where
+module _ (s : Sessions Session) (a : Ip4) where
   -- what does not lease the address fails
   fails : (x : Session) → (address_of x ≡ Some a → ⊥) → leases a x ≡ false
   fails x other =
@@ -81,13 +81,13 @@ module _ (s : State) (a : Ip4) where
         | false ↦ λ e. refl
       ] refl
 
-  pub holder_none : ((n : ℕ) → read_at address_of s.sessions n ≢ Some a) → holder_of s a ≡ None
-  holder_none nobody = find_none (leases a) s.sessions (λ n x is. fails x (λ e. nobody n (ap (option_and_then address_of) is ∙ e)))
+  pub holder_none : ((n : ℕ) → read_at address_of s n ≢ Some a) → find (leases a) (values s) ≡ None
+  holder_none nobody = find_none (leases a) s (λ n x is. fails x (λ e. nobody n (ap (option_and_then address_of) is ∙ e)))
 
-  pub holder_is : (n : SessionNo) → ((m : SessionNo) → ◌≡◌ {A = Option SessionNo} (Some n) (Some m) ↔ (read_at address_of s.sessions m.0 ≡ Some a)) → holder_of s a ≡ value_at s.sessions n.0
+  pub holder_is : (n : SessionNo) → ((m : SessionNo) → ◌≡◌ {A = Option SessionNo} (Some n) (Some m) ↔ (read_at address_of s m.0 ≡ Some a)) → find (leases a) (values s) ≡ value_at s n.0
   holder_is n found =
-      let x = read_there address_of (value_at s.sessions n.0) a ((found n).0 refl) in
-      find_only (leases a) s.sessions n.0 x.0 x.1 (is_leased x.0.lease a x.2)
+      let x = read_there address_of (value_at s n.0) a ((found n).0 refl) in
+      find_only (leases a) s n.0 x.0 x.1 (is_leased x.0.lease a x.2)
       (λ m y differ e. fails y (λ has.
       let same = same_some n (record { 0 = m }) ((found (record { 0 = m })).1 (ap (option_and_then address_of) e ∙ has)) in
       differ (sym (ap (λ (k : SessionNo). k.0) same))))

@@ -45,3 +45,4 @@ pub mod Claiming
 pub mod Live
 pub mod Interims
 pub mod Surveying
+pub mod Plain

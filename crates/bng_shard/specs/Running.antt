@@ -76,12 +76,12 @@ pub record SumsStay (t t' : TermsView) : Type 0 where
   pub room : t.room ≤ t'.room + 1
 
 -- A term may begin that has this address: no term has it, there is room, and no number is above the count of those that began.
-pub record MayBegin (a : Ip4) (s : State) (t : TermsView) : Type 0 where
+pub record MayBegin (unique : Bool) (a : Ip4) (s : State) (t : TermsView) : Type 0 where
   pub room : 0 < t.room
   pub few : s.begun + 1 < 2 ^ 48
   pub numbered : All (λ (r : Running). r.term.serial ≤ s.begun) t.rows
   pub numbered_news : All (λ (r : Running). r.term.serial ≤ s.begun) t.news
-  pub free : All (λ (r : Running). r.lease ≢ a) t.rows
+  pub free : unique ≡ true → All (λ (r : Running). r.lease ≢ a) t.rows
   pub tied : AreTied s.sessions (tenures_in t.rows)
 
 -- a row, once its term has ended by this cause, and once that with this number has; one that had ended has its cause

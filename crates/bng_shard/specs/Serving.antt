@@ -1,15 +1,15 @@
 -- What a shard keeps of its sessions, beside them.
-use Rattle.std.specs.Prelude.{◌≡◌, is_some, not, ℕ, ◌<◌, ◌^◌, ◌&&◌, Bool, false, true, List, Option, Some, IsSome, length, vec_capacity}
+use Rattle.std.specs.Prelude.{◌≡◌, is_some, not, ℕ, ◌<◌, ◌^◌, ◌&&◌, Bool, false, true, List, Option, Some, IsSome, length}
 use Rattle.std.specs.List.{All}
 use Rattle.bng_base.specs.declared.address.Ip4.{Ip4}
 use Rattle.bng_base.specs.declared.address.SessionNo.{SessionNo}
 use Rattle.bng_slots.specs.Sessions.{Sessions, IsNumberOf, read_at, value_at}
 use Rattle.bng_ppp.specs.Phases.{KeepsPhases}
+use Rattle.bng_shard.specs.declared.meters.Meters.{Meters}
 use Rattle.bng_shard.specs.declared.session.Lease.{Lease}
 use Rattle.bng_shard.specs.declared.session.Service.{Service}
 use Rattle.bng_shard.specs.declared.session.Service.TheVariants.{Provisioned, Discovered}
 use Rattle.bng_shard.specs.declared.session.Session.{Session}
-use Rattle.bng_shard.specs.declared.served.Served.TheInside.{Inside}
 use Rattle.bng_shard.specs.Listing.{AreListed, passing_in}
 use Rattle.bng_shard.specs.Questions.{open_of}
 use Rattle.bng_shard.specs.Indexed.{address_of}
@@ -62,20 +62,20 @@ AreLeased sessions = (n : ℕ) (x : Session) → value_at sessions n ≡ Some x 
 
 -- The numbers of the sessions that have ended, of those that have an open question, and of the young ones, for which there is room. And
 -- of each number a moment, in milliseconds, and meters.
-pub record Keeps (a : Inside) : Type 0 where
-  pub own : AreOwn a.sessions
-  pub of_shard : AreOfShard a.sessions
-  pub apart : AreApart a.sessions
-  pub leased : AreLeased a.sessions
-  pub leaving : AreLeaving a.sessions a.leaving.items
-  pub counted : passing_in leaves a.sessions ≡ length a.leaving.items
-  pub room : 1022 < vec_capacity a.leaving
-  pub asking : AreAsking a.sessions a.asking.items
-  pub asking_counted : passing_in asks a.sessions ≡ length a.asking.items
-  pub asking_room : 1022 < vec_capacity a.asking
-  pub young : AreYoung a.sessions a.young.items
-  pub young_counted : passing_in is_young a.sessions ≡ length a.young.items
-  pub young_room : 1022 < vec_capacity a.young
-  pub passed : length a.passed.items ≡ 1024
-  pub passed_low : All (λ moment. moment < 2 ^ 60) a.passed.items
-  pub metered : length a.meters.items ≡ 1024
+pub record Keeps (unique : Bool) (sessions : Sessions Session) (the_leaving : List SessionNo) (room_of_leaving : ℕ) (the_asking : List SessionNo) (room_of_asking : ℕ) (the_young : List SessionNo) (room_of_young : ℕ) (the_passed : List ℕ) (the_meters : List Meters) : Type 0 where
+  pub own : AreOwn sessions
+  pub of_shard : AreOfShard sessions
+  pub apart : unique ≡ true → AreApart sessions
+  pub leased : AreLeased sessions
+  pub leaving : AreLeaving sessions the_leaving
+  pub counted : passing_in leaves sessions ≡ length the_leaving
+  pub room : 1022 < room_of_leaving
+  pub asking : AreAsking sessions the_asking
+  pub asking_counted : passing_in asks sessions ≡ length the_asking
+  pub asking_room : 1022 < room_of_asking
+  pub young : AreYoung sessions the_young
+  pub young_counted : passing_in is_young sessions ≡ length the_young
+  pub young_room : 1022 < room_of_young
+  pub passed : length the_passed ≡ 1024
+  pub passed_low : All (λ moment. moment < 2 ^ 60) the_passed
+  pub metered : length the_meters ≡ 1024

@@ -5,6 +5,7 @@ ghost use Rattle.bng_pppoe_wire.specs.View.{frame_of};
 ghost use Rattle.bng_shard.specs.Discovery.{IsVacancy};
 ghost use Rattle.bng_shard.specs.Replying.{IsReply};
 
+use crate::store::Store;
 use crate::host_uniq::host_uniq;
 use crate::served::Served;
 use bng_base::SessionNo;
@@ -26,7 +27,7 @@ pub(crate) enum Reply {
 }
 
 // A new session, where there may be one more.
-fn make_or_refuse(served: &Served) -> Reply
+fn make_or_refuse<S: Store>(served: &Served<S>) -> Reply
     ensures make { (n : Number) → result ≡ Reply.Make n → IsVacancy served.now (Some n.0) }
     ensures refuse { (result ≡ Reply.Refuse ErrorTag.AcSystemError × IsVacancy served.now Nothing) ⊎ ((n : Number) × (result ≡ Reply.Make n)) }
 {
@@ -37,7 +38,7 @@ fn make_or_refuse(served: &Served) -> Reply
 }
 
 /// What a frame that came to the port with this number is answered (RFC 2516 section 5).
-pub(crate) fn reply_to(served: &Served, number: u8, offers: &PortRules, frame: &Pppoe<'_>) -> Reply
+pub(crate) fn reply_to<S: Store>(served: &Served<S>, number: u8, offers: &PortRules, frame: &Pppoe<'_>) -> Reply
     requires { (ts : List PppoeTag) × AreTags ts frame.now.payload.now × (length ts ≤ 64) }
     ensures { (ts : List PppoeTag) → AreTags ts frame.now.payload.now → IsReply result served.now number offers.now (frame_of frame.now) ts }
 {

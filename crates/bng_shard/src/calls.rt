@@ -23,6 +23,7 @@ ghost use Rattle.bng_shard.specs.State.{beside_at, call_of, is_port, with_tunnel
 ghost use Rattle.bng_shard.specs.Timed.{TurnedOnce};
 ghost use Rattle.bng_shard.specs.Timers.{does_live, lives_at};
 
+use crate::store::Store;
 use crate::cutting::LOST_CARRIER;
 use crate::drive::drive;
 use crate::in_turn::send_datagrams;
@@ -69,8 +70,8 @@ fn is_unmade(told: &TunnelStep) -> bool
 }
 
 // Where a session number is free for a call that was asked for, and its ICRP goes out, or will, there is a session of it.
-fn make_session(
-    served: &mut Served,
+fn make_session<S: Store>(
+    served: &mut Served<S>,
     vacant: Option<SessionNo>,
     unmade: bool,
     called: Called,
@@ -92,8 +93,8 @@ fn make_session(
 }
 
 // An ICRQ that the tunnel with this number handed over. Where a session number is free and the ICRP goes out, or will, there is a session.
-fn ask_for_call(
-    served: &mut Served,
+fn ask_for_call<S: Store>(
+    served: &mut Served<S>,
     incoming: &Incoming<'_>,
     number: TunnelNo,
     heard: TunnelStep,
@@ -121,8 +122,8 @@ fn ask_for_call(
 // Messages of calls that there are ---------------------------------------------------------------------------------------------
 
 // The ICCN was taken: the session's link is made anew and told Open and Up. Answers how many questions were asked then.
-fn connect(
-    served: &mut Served,
+fn connect<S: Store>(
+    served: &mut Served<S>,
     terms: &mut Terms,
     session: &mut Session,
     incoming: &Incoming<'_>,
@@ -150,8 +151,8 @@ fn connect(
 }
 
 // The call of a session took a message, of which the tunnel and the call said this: it was established, has ended, or goes on.
-fn turn(
-    served: &mut Served,
+fn turn<S: Store>(
+    served: &mut Served<S>,
     terms: &mut Terms,
     session: &mut Session,
     told: &TunnelStep,
@@ -184,8 +185,8 @@ fn turn(
 }
 
 // A call takes a message that the tunnel with this number handed over.
-fn answer_over(
-    served: &mut Served,
+fn answer_over<S: Store>(
+    served: &mut Served<S>,
     called: &mut Called,
     number: TunnelNo,
     heard: TunnelStep,
@@ -205,8 +206,8 @@ fn answer_over(
 }
 
 // The call of a session takes a message that the tunnel with this number handed over.
-fn answer_for(
-    served: &mut Served,
+fn answer_for<S: Store>(
+    served: &mut Served<S>,
     session: &mut Session,
     number: TunnelNo,
     heard: TunnelStep,
@@ -230,8 +231,8 @@ fn answer_for(
 }
 
 // A message that the tunnel with this number handed over, for the call of the session with that number, which lives.
-fn take_for_call(
-    served: &mut Served,
+fn take_for_call<S: Store>(
+    served: &mut Served<S>,
     terms: &mut Terms,
     incoming: &Incoming<'_>,
     number: TunnelNo,
@@ -270,8 +271,8 @@ fn take_for_call(
 }
 
 // A message that the tunnel with this number handed over, for which there is no call.
-fn take_for_none(
-    served: &mut Served,
+fn take_for_none<S: Store>(
+    served: &mut Served<S>,
     incoming: &Incoming<'_>,
     number: TunnelNo,
     heard: TunnelStep,
@@ -291,7 +292,7 @@ fn take_for_none(
 }
 
 // Whether a message is for the call of a session that lives.
-fn is_for_call(served: &Served, incoming: &Incoming<'_>, number: TunnelNo, session: u16) -> bool
+fn is_for_call<S: Store>(served: &Served<S>, incoming: &Incoming<'_>, number: TunnelNo, session: u16) -> bool
     ensures { result ≡ does_live (call_of served.now incoming.now.item.now.from number.0 session) }
 {
     match served.call_of(incoming.item.from, number.0, SessionNo(session)) {
@@ -301,8 +302,8 @@ fn is_for_call(served: &Served, incoming: &Incoming<'_>, number: TunnelNo, sessi
 }
 
 /// Handles a call's message that the tunnel with this number handed over; `heard` is what the tunnel said, and its peer is the sender.
-pub(crate) fn hear_call(
-    served: &mut Served,
+pub(crate) fn hear_call<S: Store>(
+    served: &mut Served<S>,
     terms: &mut Terms,
     incoming: &Incoming<'_>,
     number: TunnelNo,

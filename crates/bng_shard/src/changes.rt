@@ -16,6 +16,7 @@ ghost use Rattle.bng_shard.specs.Timers.{stays_at};
 ghost use Rattle.bng_shard.specs.declared.changes.Answer.{Answer as AnswerOf};
 ghost use Rattle.bng_shard.specs.declared.session.Session.{Session as Seen};
 
+use crate::store::Store;
 use crate::incoming::Incoming;
 use crate::lapsing::end_term;
 use crate::meters::{Meters, plan_at};
@@ -98,7 +99,7 @@ fn lease_for(session: &Session, serial: u64) -> Option<Lease>
 }
 
 // The live term that a request names.
-fn found_by(served: &Served, terms: &Terms, rules: &Rules, request: &Radius<'_>) -> Option<Meant>
+fn found_by<S: Store>(served: &Served<S>, terms: &Terms, rules: &Rules, request: &Radius<'_>) -> Option<Meant>
     ensures { result ≡ option_map meant_of (found_by rules.now (whole served.now terms.now) (packet_of request.now).attributes) }
 {
     let asked = terms.asked_for(rules, request)?;
@@ -112,7 +113,7 @@ fn found_by(served: &Served, terms: &Terms, rules: &Rules, request: &Radius<'_>)
 }
 
 // The meters of a term that is under another profile start full; those of one that is under the same stay.
-fn change_meters(served: &mut Served, number: SessionNo, rules: &Rules, places: (u8, u8), now: u64)
+fn change_meters<S: Store>(served: &mut Served<S>, number: SessionNo, rules: &Rules, places: (u8, u8), now: u64)
     ensures { served.new ≡ record served.old { meters = meters_after rules.now served.old number now places.0 places.1 } }
 {
     let (old, new) = places;
@@ -124,8 +125,8 @@ fn change_meters(served: &mut Served, number: SessionNo, rules: &Rules, places: 
 }
 
 // Changes a term, as a CoA-Request wants it.
-fn change(
-    served: &mut Served,
+fn change<S: Store>(
+    served: &mut Served<S>,
     terms: &mut Terms,
     incoming: &Incoming<'_>,
     meant: &Meant,
@@ -158,8 +159,8 @@ fn change(
 }
 
 // Ends a term, as a Disconnect-Request wants it.
-fn disconnect(
-    served: &mut Served,
+fn disconnect<S: Store>(
+    served: &mut Served<S>,
     terms: &mut Terms,
     incoming: &Incoming<'_>,
     meant: &Meant,
@@ -193,8 +194,8 @@ fn disconnect(
 }
 
 // Does to the term that a request names what the request says.
-fn apply(
-    served: &mut Served,
+fn apply<S: Store>(
+    served: &mut Served<S>,
     terms: &mut Terms,
     incoming: &Incoming<'_>,
     request: &Radius<'_>,
@@ -224,8 +225,8 @@ fn apply(
 }
 
 // What a request comes to that is not refused whatever terms there are: it is applied to the term that it names, if there is one.
-fn obey_found(
-    served: &mut Served,
+fn obey_found<S: Store>(
+    served: &mut Served<S>,
     terms: &mut Terms,
     incoming: &Incoming<'_>,
     request: &Radius<'_>,
@@ -266,8 +267,8 @@ fn refusal_of(rules: &Rules, request: &Radius<'_>) -> Option<u16>
 }
 
 // What a request comes to: the first cause that holds, or else it is applied.
-fn obey(
-    served: &mut Served,
+fn obey<S: Store>(
+    served: &mut Served<S>,
     terms: &mut Terms,
     incoming: &Incoming<'_>,
     request: &Radius<'_>,
@@ -295,8 +296,8 @@ fn obey(
 /// Handles a request for a change. What it is answered stands behind the answers before; octets that are no request are not answered, and
 /// change nothing.
 #[inline(never)]
-pub(crate) fn hear_change(
-    served: &mut Served,
+pub(crate) fn hear_change<S: Store>(
+    served: &mut Served<S>,
     terms: &mut Terms,
     incoming: &Incoming<'_>,
     answers: &mut Vec<Answer>,

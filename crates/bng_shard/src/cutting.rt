@@ -5,6 +5,7 @@ ghost use Rattle.bng_shard.specs.Cutting.{cut_at, cut_if as cut_where, cut_off a
 ghost use Rattle.bng_shard.specs.Fits.{ArePlaced};
 ghost use Rattle.bng_shard.specs.Running.{whole, KeepSums};
 
+use crate::store::Store;
 use crate::served::{NUMBERS, SPAN, Served};
 use crate::terms::Terms;
 use bng_base::{SessionNo, TunnelNo};
@@ -13,7 +14,7 @@ use bng_base::{SessionNo, TunnelNo};
 pub(crate) const LOST_CARRIER: u8 = 2;
 
 // The session with this number has ended, where it is a call of this tunnel.
-fn cut_one(served: &mut Served, terms: &mut Terms, number: SessionNo, tunnel: TunnelNo)
+fn cut_one<S: Store>(served: &mut Served<S>, terms: &mut Terms, number: SessionNo, tunnel: TunnelNo)
     ensures cut { whole served.new terms.new ≡ cut_at tunnel.0 (whole served.old terms.old) number.0 }
     ensures sums { KeepSums terms.old terms.new }
     ensures shard { served.new.sessions.shard ≡ served.old.sessions.shard }
@@ -29,7 +30,7 @@ fn cut_one(served: &mut Served, terms: &mut Terms, number: SessionNo, tunnel: Tu
 }
 
 // So have all calls of the tunnel, and nothing else changed.
-fn cut_off(served: &mut Served, terms: &mut Terms, tunnel: TunnelNo)
+fn cut_off<S: Store>(served: &mut Served<S>, terms: &mut Terms, tunnel: TunnelNo)
     ensures cut { whole served.new terms.new ≡ cut_all tunnel.0 (whole served.old terms.old) }
     ensures clears { Clears tunnel.0 (whole served.old terms.old) (whole served.new terms.new) }
     ensures sums { KeepSums terms.old terms.new }
@@ -50,7 +51,7 @@ fn is_last(cleared: bool, tunnel: TunnelNo) -> bool
 }
 
 /// Where the tunnel with this number was cleared, its calls have ended, and their live terms by Lost Carrier. 0 is no tunnel's number.
-pub(crate) fn cut_if(served: &mut Served, terms: &mut Terms, cleared: bool, tunnel: TunnelNo)
+pub(crate) fn cut_if<S: Store>(served: &mut Served<S>, terms: &mut Terms, cleared: bool, tunnel: TunnelNo)
     ensures cut { whole served.new terms.new ≡ cut_where cleared tunnel.0 (whole served.old terms.old) }
     ensures sums { KeepSums terms.old terms.new }
     ensures shard { served.new.sessions.shard ≡ served.old.sessions.shard }

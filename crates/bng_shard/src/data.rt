@@ -13,6 +13,7 @@ ghost use Rattle.bng_shard.specs.Running.{AreTied, tenures_in, whole};
 ghost use Rattle.bng_shard.specs.State.{session_at, session_of};
 ghost use Rattle.bng_shard.specs.Tenures.{has_kept};
 
+use crate::store::Store;
 use crate::drive::port_of;
 use crate::incoming::Incoming;
 use crate::meters::Meters;
@@ -47,14 +48,14 @@ fn charge_of(session: &Session, lease: Lease, input: bool, octets: u16) -> Charg
 }
 
 // The view of the live term of a session.
-fn view_in(served: &Served, session: &Session) -> Option<TermView>
+fn view_in<S: Store>(served: &Served<S>, session: &Session) -> Option<TermView>
     ensures { result ≡ view_in served.now.meters session.now }
 {
     session.view(served.meters_at(session.number))
 }
 
 // The view of the term of a frame's session, if there is a session.
-fn found_for(served: &Served, session: Option<&Session>) -> Option<Option<TermView>>
+fn found_for<S: Store>(served: &Served<S>, session: Option<&Session>) -> Option<Option<TermView>>
     ensures { result ≡ option_map (view_in served.now.meters) (option_copied session.entry) }
 {
     match session {
@@ -64,8 +65,8 @@ fn found_for(served: &Served, session: Option<&Session>) -> Option<Option<TermVi
 }
 
 // The view of the term that has this address: the live one of its holder, or one that has ended and is not open.
-fn holder_view(
-    served: &Served,
+fn holder_view<S: Store>(
+    served: &Served<S>,
     holder: Option<&Session>,
     terms: &Terms,
     address: Ip4,
@@ -106,8 +107,8 @@ fn meters_found(found: Option<Option<TermView>>) -> Meters
 }
 
 /// Handles the IPv4 packet of a circuit, for which the session with this number was found, if there is one.
-pub(crate) fn pass_up(
-    served: &mut Served,
+pub(crate) fn pass_up<S: Store>(
+    served: &mut Served<S>,
     terms: &Terms,
     incoming: &Incoming<'_>,
     number: Option<SessionNo>,
@@ -142,8 +143,8 @@ pub(crate) fn pass_up(
 }
 
 /// Handles a frame that came to the port with this number and carries an IPv4 packet of so many octets.
-pub(crate) fn hear_data(
-    served: &mut Served,
+pub(crate) fn hear_data<S: Store>(
+    served: &mut Served<S>,
     terms: &Terms,
     incoming: &Incoming<'_>,
     number: u8,
@@ -189,8 +190,8 @@ fn put_on_way(rules: &Rules, session: &Session, packet: &mut Frame) -> (Role, Pe
 }
 
 // Handles a packet of the core that says this.
-fn hear_packet(
-    served: &mut Served,
+fn hear_packet<S: Store>(
+    served: &mut Served<S>,
     terms: &Terms,
     incoming: &Incoming<'_>,
     header: Ipv4,
@@ -232,8 +233,8 @@ fn hear_packet(
 }
 
 /// Handles a datagram of the core.
-pub(crate) fn hear_core(
-    served: &mut Served,
+pub(crate) fn hear_core<S: Store>(
+    served: &mut Served<S>,
     terms: &Terms,
     incoming: &Incoming<'_>,
     outs: &mut Batch<OutRecord>,

@@ -15,6 +15,7 @@ ghost use Rattle.bng_shard.specs.Serving.{KeepsLease};
 ghost use Rattle.bng_shard.specs.State.{beside_at, port_at, with_driven, Beside};
 ghost use Rattle.bng_slots.specs.Sessions.{IsLowestVacant};
 
+use crate::store::Store;
 use crate::answering::{Reply, reply_to};
 use crate::drive::{drive, offers_of, port_of};
 use crate::host_uniq::host_uniq;
@@ -76,8 +77,8 @@ fn new_session(
 }
 
 // Makes a session, and tells its link Open and Up.
-fn make(
-    served: &mut Served,
+fn make<S: Store>(
+    served: &mut Served<S>,
     incoming: &Incoming<'_>,
     number: u8,
     frame: &Pppoe<'_>,
@@ -106,8 +107,8 @@ fn make(
 
 /// Handles a frame of the discovery stage that is no PADT and came to the port with this number.
 #[inline(never)]
-pub(crate) fn hear_discovery(
-    served: &mut Served,
+pub(crate) fn hear_discovery<S: Store>(
+    served: &mut Served<S>,
     incoming: &Incoming<'_>,
     number: u8,
     frame: &Pppoe<'_>,

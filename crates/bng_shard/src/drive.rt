@@ -13,6 +13,7 @@ ghost use Rattle.bng_shard.specs.Fits.{IsPlaced};
 ghost use Rattle.bng_shard.specs.Link.{call_outs, data_outs, message_outs, ppp_outs, SaysOn};
 ghost use Rattle.bng_shard.specs.Driven.{Driven, LastsOver};
 
+use crate::store::Store;
 use crate::incoming::Incoming;
 use crate::parting::part;
 use crate::rules::Rules;
@@ -200,8 +201,8 @@ fn send_frames(
 /// Tells a session's link an input and appends what goes out for it; so many questions had been asked in its shard. Where LCP
 /// finished the session has ended, and last its way is told so. Answers how many questions were asked then, and the cause, where the step
 /// ended the session's live term.
-pub(crate) fn drive(
-    served: &mut Served,
+pub(crate) fn drive<S: Store>(
+    served: &mut Served<S>,
     session: &mut Session,
     asked: u64,
     incoming: &Incoming<'_>,

@@ -15,6 +15,7 @@ ghost use Rattle.bng_shard.specs.State.{beside_at, session_of, with_driven, with
 ghost use Rattle.bng_shard.specs.Timers.{lives_at};
 ghost use Rattle.bng_slots.specs.Sessions.{value_at};
 
+use crate::store::Store;
 use crate::drive::drive;
 use crate::incoming::Incoming;
 use crate::served::Served;
@@ -27,7 +28,7 @@ use bng_pppoe_wire::Pppoe;
 const USER_REQUEST: u8 = 1;
 
 // A session that lives ends, by the subscriber's PADT.
-fn end_session(served: &mut Served, terms: &mut Terms, number: SessionNo)
+fn end_session<S: Store>(served: &mut Served<S>, terms: &mut Terms, number: SessionNo)
     requires lives { lives_at served.old number.0 ≡ true }
     ensures sums { KeepSums terms.old terms.new }
     ensures ended { (x : Seen) → value_at served.old.sessions number.0 ≡ Some x → whole served.new terms.new ≡ with_ended (whole served.old terms.old) number.0 x.lease user_request (ended x) }
@@ -39,8 +40,8 @@ fn end_session(served: &mut Served, terms: &mut Terms, number: SessionNo)
 }
 
 /// Tells the link of a session that lives an input, and appends what goes out for it.
-pub(crate) fn drive_at(
-    served: &mut Served,
+pub(crate) fn drive_at<S: Store>(
+    served: &mut Served<S>,
     terms: &mut Terms,
     number: SessionNo,
     incoming: &Incoming<'_>,
@@ -79,7 +80,7 @@ pub(crate) enum Control {
     Heard,
 }
 
-fn control_of(served: &Served, number: u8, frame: &Pppoe<'_>) -> Control
+fn control_of<S: Store>(served: &Served<S>, number: u8, frame: &Pppoe<'_>) -> Control
     ensures { IsControl (session_of served.now number frame.now.src frame.now.session) result }
 {
     match served.session_of(number, frame.src, SessionNo(frame.session)) {
@@ -96,8 +97,8 @@ fn control_of(served: &Served, number: u8, frame: &Pppoe<'_>) -> Control
 
 /// Handles a frame that came to the port with this number, names a session and carries no IPv4 packet.
 #[inline(never)]
-pub(crate) fn hear_control(
-    served: &mut Served,
+pub(crate) fn hear_control<S: Store>(
+    served: &mut Served<S>,
     terms: &mut Terms,
     incoming: &Incoming<'_>,
     number: u8,

@@ -16,6 +16,7 @@ ghost use Rattle.bng_shard.specs.Running.{AreTied, KeepSums, MayBegin, SumsStay,
 ghost use Rattle.bng_shard.specs.Step.{Step};
 ghost use Rattle.bng_shard.specs.Wished.{IsAnswered};
 
+use crate::store::Store;
 use crate::changes::{Answer, hear_change};
 use crate::data::{hear_core, hear_data};
 use crate::discover::hear_discovery;
@@ -31,8 +32,8 @@ use bng_forward::{Arrived, carried, frame_at, names_session};
 use bng_pppoe_wire::Pppoe;
 
 // A frame that came to the port with this number.
-fn hear_frame(
-    served: &mut Served,
+fn hear_frame<S: Store>(
+    served: &mut Served<S>,
     terms: &mut Terms,
     incoming: &Incoming<'_>,
     number: u8,
@@ -62,8 +63,8 @@ fn hear_frame(
 }
 
 // A datagram of the access port with this number.
-fn hear_access(
-    served: &mut Served,
+fn hear_access<S: Store>(
+    served: &mut Served<S>,
     terms: &mut Terms,
     incoming: &Incoming<'_>,
     number: u8,
@@ -95,8 +96,8 @@ fn hear_access(
 
 /// Handles an item, with what was answered where it asked for an address, and answers its fate. What is to be sent for it stands
 /// after what stood in `outs`, and what a request for a change is answered after what stood in `answers`, of which no memory is taken.
-pub(crate) fn hear(
-    served: &mut Served,
+pub(crate) fn hear<S: Store>(
+    served: &mut Served<S>,
     terms: &mut Terms,
     incoming: &Incoming<'_>,
     claim: Claim,
@@ -114,7 +115,7 @@ pub(crate) fn hear(
     requires whole { incoming.now.item.now.frame.headroom ≡ 64 }
     requires place { incoming.now.at.shard ≡ served.old.sessions.shard }
     requires asked { IsAnswered incoming.now.rules.now served.old incoming.now.item.now limited claim }
-    requires begins { (a : Address) → claim ≡ Claim.Claimed a → MayBegin a served.old terms.old }
+    requires begins { (a : Address) → claim ≡ Claim.Claimed a → MayBegin S.unique a served.old terms.old }
     requires answers_room { length answers.old.items < vec_capacity answers.old }
     requires room { length outs.old.items + outs_most incoming.now.item.now.kind + 5 ≤ outs.old.room }
     ensures answered { (e : EntryOf) → e.item ≡ incoming.now.item.now → (answer : Maybe AnswerOf) × IsAnswerOf incoming.now.rules.now (whole served.old terms.old) e answer × (answers.new.items ≡ answers.old.items ++ option_to_list answer) }

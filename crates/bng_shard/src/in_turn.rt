@@ -9,6 +9,7 @@ ghost use Rattle.bng_shard.specs.Running.{whole, KeepSums};
 ghost use Rattle.bng_shard.specs.State.{with_tunnels};
 ghost use Rattle.bng_shard.specs.Timed.{RemindedAt, RemindedInTurn, ToldInTurn, ToldOnce};
 
+use crate::store::Store;
 use crate::cutting::cut_if;
 use crate::sending::push_out;
 use crate::served::Served;
@@ -29,8 +30,8 @@ pub(crate) fn send_datagrams(at: At, to: Peer, frames: &[Frame], outs: &mut Batc
 }
 
 // The timers of the tunnel at this place do what they ask for. Where that clears it, its calls have ended.
-fn remind_one(
-    served: &mut Served,
+fn remind_one<S: Store>(
+    served: &mut Served<S>,
     terms: &mut Terms,
     at: At,
     place: usize,
@@ -55,8 +56,8 @@ fn remind_one(
 }
 
 /// The timers of each tunnel do what they ask for, by rising number.
-pub(crate) fn remind_tunnels(
-    served: &mut Served,
+pub(crate) fn remind_tunnels<S: Store>(
+    served: &mut Served<S>,
     terms: &mut Terms,
     at: At,
     now: u64,
@@ -76,7 +77,7 @@ pub(crate) fn remind_tunnels(
 }
 
 // The tunnel at this place tells its peer that the gateway shuts down.
-fn stop_one(served: &mut Served, at: At, place: usize, now: u64, outs: &mut Batch<OutRecord>)
+fn stop_one<S: Store>(served: &mut Served<S>, at: At, place: usize, now: u64, outs: &mut Batch<OutRecord>)
     requires room { length outs.old.items < outs.old.room }
     ensures told { ToldOnce at (stopped now served.old.tunnels place) served.new.tunnels outs.old.items outs.new.items }
     ensures others { served.new ≡ with_tunnels served.old served.new.tunnels }
@@ -90,7 +91,7 @@ fn stop_one(served: &mut Served, at: At, place: usize, now: u64, outs: &mut Batc
 }
 
 /// Each tunnel that stands tells its peer that the gateway shuts down, by rising number.
-pub(crate) fn stop_tunnels(served: &mut Served, at: At, now: u64, outs: &mut Batch<OutRecord>)
+pub(crate) fn stop_tunnels<S: Store>(served: &mut Served<S>, at: At, now: u64, outs: &mut Batch<OutRecord>)
     requires room { length outs.old.items + 16 ≤ outs.old.room }
     ensures told { ToldInTurn stopped at now served.old.tunnels served.new.tunnels outs.old.items outs.new.items }
     ensures others { served.new ≡ with_tunnels served.old served.new.tunnels }

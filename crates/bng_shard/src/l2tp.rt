@@ -13,6 +13,7 @@ ghost use Rattle.bng_shard.specs.Frames.{HearsData};
 ghost use Rattle.bng_shard.specs.Running.{tenures_in, whole, AreTied, KeepSums};
 ghost use Rattle.bng_shard.specs.State.{call_of};
 
+use crate::store::Store;
 use crate::calls::hear_call;
 use crate::cutting::cut_if;
 use crate::data::pass_up;
@@ -30,8 +31,8 @@ use bng_ppp::WholeInput;
 
 // A message that the tunnel with this number took, with these words. A call's was handed over; else what the tunnel says goes to the
 // sender, and where that is its last its calls have ended.
-fn take_step(
-    served: &mut Served,
+fn take_step<S: Store>(
+    served: &mut Served<S>,
     terms: &mut Terms,
     incoming: &Incoming<'_>,
     number: TunnelNo,
@@ -60,8 +61,8 @@ fn take_step(
 
 // A control message.
 #[inline(never)]
-fn hear_message(
-    served: &mut Served,
+fn hear_message<S: Store>(
+    served: &mut Served<S>,
     terms: &mut Terms,
     incoming: &Incoming<'_>,
     message: &Control<'_>,
@@ -96,7 +97,7 @@ fn hear_message(
 // Data --------------------------------------------------------------------------------------------------------------------------
 
 // What a PPP frame of a call without an IPv4 packet is to do.
-fn hearing_of(served: &Served, from: Peer, message: &Data<'_>) -> Hearing
+fn hearing_of<S: Store>(served: &Served<S>, from: Peer, message: &Data<'_>) -> Hearing
     ensures { IsControlOver (call_of served.now from message.now.tunnel message.now.session) result }
 {
     match served.call_of(from, message.tunnel, SessionNo(message.session)) {
@@ -113,8 +114,8 @@ fn hearing_of(served: &Served, from: Peer, message: &Data<'_>) -> Hearing
 
 // A PPP frame of a call without an IPv4 packet.
 #[inline(never)]
-fn hear_over(
-    served: &mut Served,
+fn hear_over<S: Store>(
+    served: &mut Served<S>,
     terms: &mut Terms,
     incoming: &Incoming<'_>,
     message: &Data<'_>,
@@ -144,8 +145,8 @@ fn hear_over(
 }
 
 // The IPv4 packet that a data message carries.
-fn pass_over(
-    served: &mut Served,
+fn pass_over<S: Store>(
+    served: &mut Served<S>,
     terms: &Terms,
     incoming: &Incoming<'_>,
     message: &Data<'_>,
@@ -168,8 +169,8 @@ fn pass_over(
 }
 
 // A data message.
-fn hear_tunnel_data(
-    served: &mut Served,
+fn hear_tunnel_data<S: Store>(
+    served: &mut Served<S>,
     terms: &mut Terms,
     incoming: &Incoming<'_>,
     message: &Data<'_>,
@@ -195,8 +196,8 @@ fn hear_tunnel_data(
 }
 
 // A datagram that was read.
-fn hear_read(
-    served: &mut Served,
+fn hear_read<S: Store>(
+    served: &mut Served<S>,
     terms: &mut Terms,
     incoming: &Incoming<'_>,
     datagram: &TunnelDatagram<'_>,
@@ -222,8 +223,8 @@ fn hear_read(
 }
 
 /// Handles a datagram of the gateway's end for tunnels.
-pub(crate) fn hear_tunnel(
-    served: &mut Served,
+pub(crate) fn hear_tunnel<S: Store>(
+    served: &mut Served<S>,
     terms: &mut Terms,
     incoming: &Incoming<'_>,
     outs: &mut Batch<OutRecord>,

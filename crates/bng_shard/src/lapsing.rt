@@ -5,6 +5,7 @@ ghost use Rattle.bng_shard.specs.Serving.{KeepsLease};
 ghost use Rattle.bng_shard.specs.State.{beside_at, with_tunnels};
 ghost use Rattle.bng_shard.specs.Timed.{ClosedLink, LostTerm};
 
+use crate::store::Store;
 use crate::drive::drive;
 use crate::incoming::Incoming;
 use crate::served::Served;
@@ -14,8 +15,8 @@ use bng_base::{Batch, OutRecord};
 use bng_ppp::WholeInput;
 
 // The link of a session without a term takes Close, if it has one. Answers how many questions were asked then.
-fn close_link(
-    served: &mut Served,
+fn close_link<S: Store>(
+    served: &mut Served<S>,
     session: &mut Session,
     asked: u64,
     incoming: &Incoming<'_>,
@@ -45,8 +46,8 @@ fn close_link(
 }
 
 /// The live term of a session ends by this cause, and its link takes Close, if it has one. Answers how many questions were asked then.
-pub(crate) fn end_term(
-    served: &mut Served,
+pub(crate) fn end_term<S: Store>(
+    served: &mut Served<S>,
     session: &mut Session,
     terms: &mut Terms,
     asked: u64,

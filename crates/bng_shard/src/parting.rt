@@ -10,6 +10,7 @@ ghost use Rattle.bng_shard.specs.Deed.{frame_outs};
 ghost use Rattle.bng_shard.specs.Fits.{IsPlaced};
 ghost use Rattle.bng_shard.specs.Link.{EndsWith, HangsUp, PartsOn, parted_way};
 
+use crate::store::Store;
 use crate::drive::{between, offers_of, port_of, push_written};
 use crate::in_turn::send_datagrams;
 use crate::incoming::Incoming;
@@ -67,8 +68,8 @@ pub(crate) fn send_padt(
 }
 
 // Ends a call, and appends the CDN where its tunnel sends it now.
-fn hang_up(
-    served: &mut Served,
+fn hang_up<S: Store>(
+    served: &mut Served<S>,
     called: &mut Called,
     incoming: &Incoming<'_>,
     outs: &mut Batch<OutRecord>,
@@ -87,8 +88,8 @@ fn hang_up(
 }
 
 /// Ends a session on its way, whose link has finished.
-pub(crate) fn part(
-    served: &mut Served,
+pub(crate) fn part<S: Store>(
+    served: &mut Served<S>,
     session: &mut Session,
     incoming: &Incoming<'_>,
     outs: &mut Batch<OutRecord>,

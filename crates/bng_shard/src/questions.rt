@@ -5,12 +5,12 @@ ghost use Rattle.bng_shard.specs.Listing.{with_listed, without_listed};
 ghost use Rattle.bng_shard.specs.Questions.{IsLowestWaiting, handed_after, none_handed, place_of, waits_at};
 ghost use Rattle.bng_shard.specs.Serving.{asks};
 
+use crate::store::Store;
 use crate::session::Session;
 use crate::shard::ShardError;
 use arrayvec::ArrayVec;
 use bng_auth::{Credentials, Proof};
 use bng_base::SessionNo;
-use bng_slots::Slots;
 use bng_verdict::QuestionNo;
 use std::alloc::Global;
 use std::marker::Model;
@@ -141,8 +141,8 @@ fn list_of(octets: &[u8]) -> ArrayVec<u8, 128>
 }
 
 // Whether the session with this number has an open question that was not handed out yet.
-fn waits(number: SessionNo, sessions: &Slots<Session>, handed: &Handed) -> bool
-    ensures { result ≡ waits_at sessions.now handed.now number }
+fn waits<S: Store>(number: SessionNo, sessions: &S, handed: &Handed) -> bool
+    ensures { result ≡ waits_at (S.sessions sessions.now) handed.now number }
 {
     let Some(session) = sessions.get(number) else {
         return false;
@@ -168,12 +168,12 @@ pub(crate) fn lower(lowest: Option<SessionNo>, number: SessionNo) -> SessionNo
 }
 
 // The lowest of these numbers whose session has an open question that was not handed out yet.
-pub(crate) fn lowest_waiting(
+pub(crate) fn lowest_waiting<S: Store>(
     asking: &[SessionNo],
-    sessions: &Slots<Session>,
+    sessions: &S,
     handed: &Handed,
 ) -> Option<SessionNo>
-    ensures { IsLowestWaiting sessions.now handed.now asking.now result }
+    ensures { IsLowestWaiting (S.sessions sessions.now) handed.now asking.now result }
 {
     let mut lowest = None;
     for number in asking {

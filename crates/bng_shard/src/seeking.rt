@@ -13,6 +13,7 @@ ghost use Rattle.bng_shard.specs.Cutting.{is_cut};
 ghost use Rattle.bng_shard.specs.Listing.{does_pass};
 ghost use Rattle.bng_shard.specs.Timers.{IsFirstDue, IsLowest, NoneIsDue, NoneStays};
 
+use crate::store::Store;
 use crate::interims::{LEAST, Reports, interim_at};
 use crate::questions::{Handed, copied, lowest_waiting};
 use crate::served::{NUMBERS, Served, Survey};
@@ -21,7 +22,7 @@ use crate::young::lowest_repeated;
 use bng_base::{Ip4, Mac, Peer, SessionNo, TunnelNo};
 use bng_verdict::{AuthAsk, QuestionNo};
 
-impl Served {
+impl<S: Store> Served<S> {
     /// The number of the open question of the session with this number.
     pub(crate) fn open_ask(&self, number: SessionNo) -> Option<u64>
         ensures { result ≡ open_ask_at self.now number.0 }
@@ -156,8 +157,7 @@ impl Served {
     pub(crate) fn holder_of(&self, address: Ip4) -> Option<&Session>
         ensures { option_copied result ≡ holder_of self.now address }
     {
-        let number = self.sessions.by_address(address)?;
-        self.sessions.get(number)
+        self.sessions.holder(address)
     }
 
     /// The lowest number that is not used.

@@ -1,6 +1,7 @@
 //! The sessions of a shard, and its tunnels beside them.
 ghost use Rattle.std.specs.Prelude.{◌≡◌, ◌≢◌, ◌+◌, ◌<◌, ◌≤◌, ◌^◌, ◌∷◌, [], ℕ, IsSome, Some, None as Nothing, true, false, IfOk, IfSome, IfNone, slice_set};
 ghost use Rattle.std.specs.List.{AllPairs, All};
+ghost use Rattle.std.specs.FinMap.{empty};
 ghost use Rattle.bng_slots.specs.Sessions.{value_at, without, IsNumberOf};
 ghost use Rattle.bng_shard.specs.Metered.{meters_at};
 ghost use Rattle.bng_shard.specs.Opening.{circuit_at, opened_slots, provisioned as provisioned_at};
@@ -13,6 +14,7 @@ ghost use Rattle.bng_shard.specs.Timers.{stays_at};
 
 use crate::leaving::list_leaving;
 use crate::limited::NO_LIMITS;
+use crate::store::Store;
 use crate::meters::{Meters, opened_meters};
 use crate::questions::{list, unlist};
 use crate::session::{Lease, Service, Session};
@@ -20,7 +22,6 @@ use crate::way::Way;
 use crate::young::{list_young, unlist_young};
 use bng_base::{Profile, SessionNo, Static};
 use bng_lns::Tunnels;
-use bng_slots::Slots;
 use bng_term::Lifetime;
 use std::alloc::{AllocError, Global};
 use std::marker::Model;
@@ -28,8 +29,8 @@ use std::marker::Model;
 /// The sessions of a shard by number, provisioned circuits among them; how many terms began, how many questions were asked, by session
 /// number the moment in milliseconds at which its last packet passed and its meters, the numbers of the sessions that have ended and leave
 /// at the settlement, of those whose question has no verdict yet, and of those for which a request may come again. And the tunnels.
-pub struct Served {
-    pub(crate) sessions: Slots<Session>,
+pub struct Served<S: Store> {
+    pub(crate) sessions: S,
     pub(crate) begun: u64,
     pub(crate) asked: u64,
     pub(crate) passed: Vec<u64>,
@@ -40,7 +41,7 @@ pub struct Served {
     pub(crate) tunnels: Tunnels,
 }
 
-impl Drop for Served {
+impl<S: Store> Drop for Served<S> {
     fn drop(self) {
         let Served {
             sessions: _,
@@ -56,8 +57,8 @@ impl Drop for Served {
     }
 }
 
-impl Model for Served {
-    ghost use Rattle.std.specs.Prelude.{[]};
+impl<S: Store> Model for Served<S> {
+    ghost use Rattle.std.specs.Prelude.{[], vec_capacity};
     ghost use Rattle.bng_shard.specs.State.{State};
     ghost use Rattle.bng_shard.specs.Serving.{Keeps};
     ghost use Rattle.bng_shard.specs.Codes.{state_code};
@@ -66,9 +67,9 @@ impl Model for Served {
 
     ghost coded = { state_code };
 
-    ghost view = { λ a. record { sessions = a.sessions; begun = a.begun; asked = a.asked; terms = []; news = []; passed = a.passed.items; meters = a.meters.items; tunnels = a.tunnels } };
+    ghost view = { λ a. record { sessions = S.sessions a.sessions; begun = a.begun; asked = a.asked; terms = []; news = []; passed = a.passed.items; meters = a.meters.items; tunnels = a.tunnels } };
 
-    ghost invariant = { Keeps };
+    ghost invariant = { λ a. Keeps S.unique (S.sessions a.sessions) a.leaving.items (vec_capacity a.leaving) a.asking.items (vec_capacity a.asking) a.young.items (vec_capacity a.young) a.passed.items a.meters.items };
 }
 
 /// So many session numbers are a shard's, from 1 past 1,024 times the shard's number on (`SessionNo`).
@@ -114,16 +115,18 @@ fn provisioned(circuit: &Static, serial: u64, now: u64) -> Session
     }
 }
 
-impl Served {
+impl<S: Store> Served<S> {
     /// The sessions of these circuits, whose numbers are the shard's, and no tunnel. Their terms are numbered from 1 on, by rising session
     /// number, and are metered by their profiles from this moment on, in milliseconds.
     pub(crate) fn open(
         alloc: Global,
+        mut sessions: S,
         number: u16,
         profiles: &[Profile],
         circuits: &[Static],
         now: u64,
-    ) -> Result<Served, AllocError>
+    ) -> Result<Served<S>, AllocError>
+        requires empty { S.sessions sessions ≡ record { shard = number; by_number = empty } }
         requires moment { now < 2 ^ 60 }
         requires number { number < 64 }
         requires own { All (λ c. IsNumberOf number c.session.0) circuits.now }
@@ -131,9 +134,6 @@ impl Served {
         requires addresses { AllPairs (λ a b. a.address ≢ b.address) circuits.now }
         ensures opened { IfOk result (λ s. s ≡ record (opened_slots number profiles.now circuits.now now) { terms = [] }) }
     {
-        let Ok(mut sessions) = Slots::open(alloc, number) else {
-            return Err(AllocError);
-        };
         let passed = Vec::from_elem(alloc, 0, usize::from(SPAN))?;
         let meters = opened_meters(alloc, number, profiles, circuits, now)?;
         let leaving = Vec::with_capacity(alloc, usize::from(NUMBERS) + 1)?;
@@ -248,7 +248,7 @@ impl Served {
         ensures number { result.number ≡ number }
         ensures of_shard { IsNumberOf self.old.sessions.shard number.0 }
         ensures after { self.new ≡ record self.old { sessions = without self.old.sessions number.0 } }
-        ensures apart { NoneShares address_of self.new.sessions result }
+        ensures apart { S.unique ≡ true → NoneShares address_of self.new.sessions result }
         ensures leased { KeepsLease result.service result.lease }
     {
         let Some(session) = self.sessions.remove(number) else {
@@ -263,7 +263,7 @@ impl Served {
     pub(crate) fn put(&mut self, session: Session)
         requires number { IsNumberOf self.old.sessions.shard session.number.0 }
         requires vacant { value_at self.old.sessions session.number.0 ≡ Nothing }
-        requires apart { NoneShares address_of self.old.sessions session }
+        requires apart { S.unique ≡ true → NoneShares address_of self.old.sessions session }
         requires leased { KeepsLease session.service session.lease }
         ensures { self.new ≡ with_session self.old session.number.0 session }
     {

@@ -9,7 +9,7 @@ ghost use Rattle.bng_engine.specs.Views.{row_keys};
 ghost use Rattle.bng_profile.specs.Books.{AreDifferent, names_of};
 ghost use Rattle.bng_shard.specs.Protocol.{AreHeld, Handles, HasPools, Leaves, SaysOf, TellsNew, ended_terms, entry_of, key_of, opened, pppoe, sessions_of, stop_of, terms_of};
 ghost use Rattle.bng_shard.specs.Room.{Admits};
-ghost use Rattle.bng_shard.specs.declared.session.Session.{Session};
+ghost use Rattle.bng_shard.specs.declared.session.Session.{Session as Seen};
 ghost use Rattle.bng_shard.specs.Interims.{AwaitsInterims, owed, row_in, row_told, with_report};
 ghost use Rattle.bng_slots.specs.Sessions.{IsNumberOf, value_at};
 ghost use Rattle.std.specs.List.{All, AllPairs};
@@ -25,6 +25,7 @@ use crate::hear::hear;
 use crate::incoming::Incoming;
 use crate::interims::Reports;
 use crate::rules::Rules;
+use crate::session::Session;
 use crate::served::{Served, Survey};
 use crate::sums::{Charged, book, charged_as, tally};
 use crate::term::{EndedTerm, LiveTerm, ReportedTerm};
@@ -35,6 +36,7 @@ use bng_base::{At, Batch, Book, Entry, Fate, Item, LONGEST, OutRecord, SessionNo
 use bng_coa::ChangeVerdict;
 use bng_pool::PlainPool;
 use bng_profile::Profiles;
+use bng_slots::Slots;
 use std::alloc::{AllocError, Global};
 use std::marker::Model;
 use std::mem;
@@ -51,7 +53,7 @@ pub enum ShardError {
 /// items more there is room.
 pub struct Shard {
     rules: Rules,
-    pub(crate) served: Served,
+    pub(crate) served: Served<Slots<Session>>,
     pub(crate) terms: Terms,
     pub(crate) profiles: Profiles,
     pub(crate) allowance: u32,
@@ -199,7 +201,10 @@ impl Shard {
         ensures few { IfOk result (λ s. sessions_of s.state ≤ 1022) }
     {
         let profiles = books_of(alloc, &rules)?;
-        let Ok(served) = Served::open(alloc, number, rules.profiles.as_slice(), circuits, now)
+        let Ok(sessions) = Slots::open(alloc, number) else {
+            return Err(ShardError::OutOfMemory);
+        };
+        let Ok(served) = Served::open(alloc, sessions, number, rules.profiles.as_slice(), circuits, now)
         else {
             return Err(ShardError::OutOfMemory);
         };
@@ -409,8 +414,8 @@ impl Shard {
 
     // The live term of the session with this number, which has one, and what it carried so far.
     fn told_of(&self, number: SessionNo) -> ReportedTerm
-        requires { (x : Session) × (value_at self.now.state.slots.sessions number.0 ≡ Some x) × (x.number ≡ number) × IsSome x.lease }
-        ensures row { (x : Session) → value_at self.now.state.slots.sessions number.0 ≡ Some x → row_in self.now.rows x ≡ Some (row_told result) }
+        requires { (x : Seen) × (value_at self.now.state.slots.sessions number.0 ≡ Some x) × (x.number ≡ number) × IsSome x.lease }
+        ensures row { (x : Seen) → value_at self.now.state.slots.sessions number.0 ≡ Some x → row_in self.now.rows x ≡ Some (row_told result) }
         ensures session { result.term.term.session ≡ number }
         ensures says { AnyOf (SaysOf result.term.user.items result.term.class.items result.term.began (key_of result.term)) self.now.state.slots.terms }
     {

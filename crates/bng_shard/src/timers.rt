@@ -12,6 +12,7 @@ ghost use Rattle.bng_shard.specs.Running.{closed_rows, whole, KeepSums};
 ghost use Rattle.bng_shard.specs.State.{beside_at, made_one, with_tunnels};
 ghost use Rattle.bng_shard.specs.Timers.{TellsEnd, TellsOn, at_once};
 
+use crate::store::Store;
 use crate::drive::drive;
 use crate::in_turn::{remind_tunnels, stop_tunnels};
 use crate::incoming::Incoming;
@@ -32,8 +33,8 @@ const NAS_REQUEST: u8 = 10;
 const AT_ONCE: u8 = 64;
 
 // A session's link takes Timer; where that ends its live term, the term ends. Answers how many questions were asked then.
-fn remind(
-    served: &mut Served,
+fn remind<S: Store>(
+    served: &mut Served<S>,
     session: &mut Session,
     terms: &mut Terms,
     asked: u64,
@@ -63,8 +64,8 @@ fn remind(
 }
 
 // The link of a session takes Timer, if it has one. Answers how many questions were asked then.
-fn remind_link(
-    served: &mut Served,
+fn remind_link<S: Store>(
+    served: &mut Served<S>,
     session: &mut Session,
     terms: &mut Terms,
     asked: u64,
@@ -93,8 +94,8 @@ fn remind_link(
 
 // A session's live term is looked at, whose last packet passed at the moment `passed`: where one of its timeouts is over it ends, and the
 // link takes Close, if there is one. Answers how many questions were asked then.
-fn look_at(
-    served: &mut Served,
+fn look_at<S: Store>(
+    served: &mut Served<S>,
     session: &mut Session,
     terms: &mut Terms,
     asked: u64,
@@ -123,8 +124,8 @@ fn look_at(
 }
 
 // Handles the due deadline that comes first, and says whether one is due.
-fn tick_once(
-    served: &mut Served,
+fn tick_once<S: Store>(
+    served: &mut Served<S>,
     terms: &mut Terms,
     incoming: &Incoming<'_>,
     outs: &mut Batch<OutRecord>,
@@ -184,8 +185,8 @@ fn tell_end(rules: &Rules, at: At, session: &Session, outs: &mut Batch<OutRecord
 }
 
 // Ends the session with the lowest number, and says whether one has not ended.
-fn end_once(
-    served: &mut Served,
+fn end_once<S: Store>(
+    served: &mut Served<S>,
     terms: &mut Terms,
     rules: &Rules,
     at: At,
@@ -214,8 +215,8 @@ fn end_once(
 // Handles the deadlines of sessions that are due at a Tick's moment, the earliest first, and of equal ones that of the lower session
 // number first: at most 64. Each time the session's link takes Timer, if it has one, and then its live term is looked at: where one of its
 // timeouts is over it ends (RFC 2865 sections 5.27 and 5.28), and the link takes Close.
-fn tick_sessions(
-    served: &mut Served,
+fn tick_sessions<S: Store>(
+    served: &mut Served<S>,
     terms: &mut Terms,
     incoming: &Incoming<'_>,
     outs: &mut Batch<OutRecord>,
@@ -239,8 +240,8 @@ fn tick_sessions(
 /// Handles a Tick: the timers of each tunnel do what they ask for, by rising number, and where that clears it its calls have ended. Then
 /// those of sessions do, of which one comes after another by its deadline: at most 64.
 #[inline(never)]
-pub(crate) fn tick(
-    served: &mut Served,
+pub(crate) fn tick<S: Store>(
+    served: &mut Served<S>,
     terms: &mut Terms,
     incoming: &Incoming<'_>,
     outs: &mut Batch<OutRecord>,
@@ -259,8 +260,8 @@ pub(crate) fn tick(
 }
 
 // Ends the sessions with the lowest numbers, by rising number: at most 64. Those that discovery made are told so by a PADT.
-fn end_sessions(
-    served: &mut Served,
+fn end_sessions<S: Store>(
+    served: &mut Served<S>,
     terms: &mut Terms,
     rules: &Rules,
     at: At,
@@ -281,7 +282,7 @@ fn end_sessions(
 }
 
 // Once no session stays each tunnel tells its peer that the gateway shuts down.
-fn stop_at_last(served: &mut Served, at: At, now: u64, outs: &mut Batch<OutRecord>)
+fn stop_at_last<S: Store>(served: &mut Served<S>, at: At, now: u64, outs: &mut Batch<OutRecord>)
     requires room { length outs.old.items + 16 ≤ outs.old.room }
     ensures stopped { Stopped at now served.old served.new.tunnels outs.old.items outs.new.items }
     ensures others { served.new ≡ with_tunnels served.old served.new.tunnels }
@@ -296,8 +297,8 @@ fn stop_at_last(served: &mut Served, at: At, now: u64, outs: &mut Batch<OutRecor
 /// Handles an End: the sessions with the lowest numbers end, at most 64, and once none stays each tunnel tells its peer that the gateway
 /// shuts down.
 #[inline(never)]
-pub(crate) fn end(
-    served: &mut Served,
+pub(crate) fn end<S: Store>(
+    served: &mut Served<S>,
     terms: &mut Terms,
     incoming: &Incoming<'_>,
     outs: &mut Batch<OutRecord>,

@@ -15,6 +15,7 @@ ghost use Rattle.bng_shard.specs.Calls.{call_after, call_step};
 ghost use Rattle.bng_shard.specs.State.{with_tunnels};
 ghost use Rattle.bng_shard.specs.Timers.{NoneStays};
 
+use crate::store::Store;
 use crate::rules::Rules;
 use crate::served::Served;
 use crate::session::earlier;
@@ -24,7 +25,7 @@ use bng_l2tp_call::Call;
 use bng_l2tp_wire::Control;
 use bng_lns::{Came, Taken, Told};
 
-impl Served {
+impl<S: Store> Served<S> {
     /// A control message came: the tunnel that it is for takes it, or it asks for a tunnel.
     pub(crate) fn take_message(
         &mut self,

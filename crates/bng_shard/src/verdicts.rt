@@ -24,6 +24,7 @@ ghost use Rattle.bng_shard.specs.declared.wish.Wish.{Wish as Asks};
 ghost use Rattle.bng_slots.specs.Sessions.{value_at};
 ghost use Rattle.bng_term.specs.Lifetimes.{HasAllowedInterval};
 
+use crate::store::Store;
 use crate::drive::drive;
 use crate::incoming::Incoming;
 use crate::limited::{NO_LIMITS, limits_of};
@@ -199,8 +200,8 @@ struct TermGrant {
 }
 
 // A term of the session begins.
-fn begin_term(
-    served: &mut Served,
+fn begin_term<S: Store>(
+    served: &mut Served<S>,
     terms: &mut Terms,
     session: &mut Session,
     grant: TermGrant,
@@ -250,8 +251,8 @@ fn begin_term(
 }
 
 // The session's link is told what was found of its open question, and a term begins where the peer is accepted with an address.
-fn settle_question(
-    served: &mut Served,
+fn settle_question<S: Store>(
+    served: &mut Served<S>,
     terms: &mut Terms,
     number: SessionNo,
     incoming: &Incoming<'_>,
@@ -263,7 +264,7 @@ fn settle_question(
     requires offers { length incoming.now.rules.now.offers ≡ length incoming.now.rules.now.access }
     requires placed { ArePlaced incoming.now.rules.now served.old.sessions }
     requires asks { (x : Seen) × (q : Asked) × (value_at served.old.sessions number.0 ≡ Some x) × (open_of x ≡ Some q) }
-    requires begins { (a : Address) → told.lease ≡ Some a → (told.yes ≡ true) × MayBegin a served.old terms.old }
+    requires begins { (a : Address) → told.lease ≡ Some a → (told.yes ≡ true) × MayBegin S.unique a served.old terms.old }
     requires room { length outs.old.items + 5 ≤ outs.old.room }
     ensures settled { (x : Seen) (q : Asked) → value_at served.old.sessions number.0 ≡ Some x → open_of x ≡ Some q → (x' : Seen) × (cause : Maybe ℕ) × (after : Beside)
         × Driven incoming.now.rules.now incoming.now.at (IsToldVerdict incoming.now.rules.now.link told incoming.now.moment incoming.now.item.now.random) (beside_at incoming.now.moment served.old.asked served.old.tunnels) x cause x' after outs.old.items outs.new.items
@@ -304,8 +305,8 @@ fn settle_question(
 /// Handles the octets of a reply to a question. Where the question that the item names is open, its session's link is told what they
 /// come to, with what was answered where they asked for an address; and a term begins where the peer is accepted with one.
 #[inline(never)]
-pub(crate) fn hear_verdict(
-    served: &mut Served,
+pub(crate) fn hear_verdict<S: Store>(
+    served: &mut Served<S>,
     terms: &mut Terms,
     incoming: &Incoming<'_>,
     claim: Claim,
@@ -321,7 +322,7 @@ pub(crate) fn hear_verdict(
     requires here { incoming.now.at.shard ≡ served.old.sessions.shard }
     requires kind { incoming.now.item.now.kind ≡ VerdictKind }
     requires asked { IsAnswered incoming.now.rules.now served.old incoming.now.item.now limited claim }
-    requires begins { (a : Address) → claim ≡ Claim.Claimed a → MayBegin a served.old terms.old }
+    requires begins { (a : Address) → claim ≡ Claim.Claimed a → MayBegin S.unique a served.old terms.old }
     requires room { length outs.old.items + 5 ≤ outs.old.room }
     ensures does { Does (HearsVerdict incoming.now.rules.now (whole served.old terms.old) (entry_with claim incoming.now.at.seat incoming.now.at.place incoming.now.moment incoming.now.item.now) limited) 5 (whole served.old terms.old) (whole served.new terms.new) outs.old.items outs.new.items (entry_with claim incoming.now.at.seat incoming.now.at.place incoming.now.moment incoming.now.item.now) result }
     ensures sums { SumsStay terms.old terms.new }

@@ -6,6 +6,7 @@ ghost use Rattle.bng_grant.specs.Grants.{gift};
 ghost use Rattle.bng_shard.specs.Wished.{IsWished, WishesVerdict};
 ghost use Rattle.bng_shard.specs.Wishes.{is_named, is_within, pool_for, wish_among, wish_in, wish_of, Wishes};
 
+use crate::store::Store;
 use crate::meters::plan_for;
 use crate::rules::Rules;
 use crate::served::Served;
@@ -116,7 +117,7 @@ fn octets_wish(rules: &Rules, limited: bool, octets: &[u8]) -> Wish
 }
 
 // What a verdict asks, where the question that it names is open.
-fn verdict_wish(served: &Served, rules: &Rules, item: &Item, limited: bool) -> Wish
+fn verdict_wish<S: Store>(served: &Served<S>, rules: &Rules, item: &Item, limited: bool) -> Wish
     requires few_pools { length rules.now.pools ≤ 16 }
     requires few_profiles { length rules.now.profiles ≤ 16 }
     ensures { WishesVerdict rules.now served.now item.now limited result }
@@ -129,7 +130,7 @@ fn verdict_wish(served: &Served, rules: &Rules, item: &Item, limited: bool) -> W
 
 /// What an item asks of the pools of addresses, where the shard's allowance of new terms is used up (`limited`) or is not. Only a
 /// verdict on an open question asks for an address.
-pub(crate) fn wish_for(served: &Served, rules: &Rules, item: &Item, limited: bool) -> Wish
+pub(crate) fn wish_for<S: Store>(served: &Served<S>, rules: &Rules, item: &Item, limited: bool) -> Wish
     requires few_pools { length rules.now.pools ≤ 16 }
     requires few_profiles { length rules.now.profiles ≤ 16 }
     ensures { IsWished rules.now served.now item.now limited result }

@@ -6,10 +6,10 @@ ghost use Rattle.bng_shard.specs.Discovery.{is_repeated};
 ghost use Rattle.bng_shard.specs.Listing.{IsLowestPassing, does_pass, with_listed, without_listed};
 ghost use Rattle.bng_shard.specs.Serving.{is_young};
 
+use crate::store::Store;
 use crate::questions::{lower, take_off};
 use crate::session::Session;
 use bng_base::{Mac, SessionNo};
-use bng_slots::Slots;
 
 // Lists the number of a young session.
 pub(crate) fn list_young(young: &mut Vec<SessionNo>, session: &Session)
@@ -33,14 +33,14 @@ pub(crate) fn unlist_young(young: &mut Vec<SessionNo>, session: &Session)
 }
 
 // Whether the session with this number was made for the same request before.
-fn repeats(
+fn repeats<S: Store>(
     number: SessionNo,
-    sessions: &Slots<Session>,
+    sessions: &S,
     port: u8,
     mac: Mac,
     asked: Option<&[u8]>,
 ) -> bool
-    ensures { result ≡ does_pass (is_repeated port mac (option_map (λ o. o.now) asked.entry)) (value_at sessions.now number.0) }
+    ensures { result ≡ does_pass (is_repeated port mac (option_map (λ o. o.now) asked.entry)) (value_at (S.sessions sessions.now) number.0) }
 {
     match sessions.get(number) {
         Some(session) => session.is_repeated(port, mac, asked),
@@ -49,14 +49,14 @@ fn repeats(
 }
 
 // The lowest of these numbers whose session was made for the same request before.
-pub(crate) fn lowest_repeated(
+pub(crate) fn lowest_repeated<S: Store>(
     young: &[SessionNo],
-    sessions: &Slots<Session>,
+    sessions: &S,
     port: u8,
     mac: Mac,
     asked: Option<&[u8]>,
 ) -> Option<SessionNo>
-    ensures { IsLowestPassing (is_repeated port mac (option_map (λ o. o.now) asked.entry)) sessions.now young.now result }
+    ensures { IsLowestPassing (is_repeated port mac (option_map (λ o. o.now) asked.entry)) (S.sessions sessions.now) young.now result }
 {
     let mut lowest = None;
     for number in young {

@@ -11,7 +11,7 @@ use Rattle.bng_shard.specs.State.{with_tunnels}
 use Rattle.bng_shard.proofs.calls.answer_for.Goals as goal
 
 pub returns-clause-answered : goal.returns-clause-answered
-returns-clause-answered c = λ t k stands way.
+returns-clause-answered g c = λ t k stands way.
     let s = c.args.served.now in
     let n = c.args.number.0 in
     let now = c.args.now in

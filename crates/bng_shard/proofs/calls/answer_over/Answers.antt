@@ -4,7 +4,7 @@ use Rattle.bng_shard.specs.declared.way.Called.{Called}
 use Rattle.bng_shard.proofs.calls.answer_over.Goals as goal
 
 pub returns-clause-answered : goal.returns-clause-answered
-returns-clause-answered c = λ t stands. (c.answer_call.ensures.said t stands, c.answer_call.ensures.after t stands)
+returns-clause-answered g c = λ t stands. (c.answer_call.ensures.said t stands, c.answer_call.ensures.after t stands)
 
 pub returns-clause-called : goal.returns-clause-called
-returns-clause-called c = ap (λ (k : CallState). let called : Called = record c.args.called.now { call = k } in called) c.answer_call.ensures.call
+returns-clause-called g c = ap (λ (k : CallState). let called : Called = record c.args.called.now { call = k } in called) c.answer_call.ensures.call

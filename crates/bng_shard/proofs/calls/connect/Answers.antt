@@ -12,13 +12,13 @@ use Rattle.bng_shard.proofs.FewOuts.{new_by_start}
 use Rattle.bng_shard.proofs.calls.connect.Goals as goal
 
 pub drive-asked-requires-clause-placed : goal.drive-asked-requires-clause-placed
-drive-asked-requires-clause-placed c = subst (λ (y : Session). IsPlaced c.args.incoming.now.rules.now y.way) (sym c.link_anew.ensures.anew.2) c.requires.placed
+drive-asked-requires-clause-placed g c = subst (λ (y : Session). IsPlaced c.args.incoming.now.rules.now y.way) (sym c.link_anew.ensures.anew.2) c.requires.placed
 
 pub drive-asked-requires-clause-made : goal.drive-asked-requires-clause-made
-drive-asked-requires-clause-made c = ap (λ (y : Session). made_one y.service) c.link_anew.ensures.anew.2
+drive-asked-requires-clause-made g c = ap (λ (y : Session). made_one y.service) c.link_anew.ensures.anew.2
 
 pub returns-clause-driven : goal.returns-clause-driven
-returns-clause-driven c =
+returns-clause-driven g c =
     let (link, new, is) = c.link_anew.ensures.anew in
     let r = c.args.incoming.now.rules.now in
     let now = c.args.incoming.now.moment in
@@ -35,13 +35,13 @@ returns-clause-driven c =
     )
 
 pub returns-clause-terms : goal.returns-clause-terms
-returns-clause-terms c = c.close.ensures ∙ ap (λ (l : Option Lease). let t : TermsView = record c.args.terms.now { rows = closed_rows l (Some 2) c.args.terms.now.rows } in t) c.lease.ensures
+returns-clause-terms g c = c.close.ensures ∙ ap (λ (l : Option Lease). let t : TermsView = record c.args.terms.now { rows = closed_rows l (Some 2) c.args.terms.now.rows } in t) c.lease.ensures
 
 pub returns-clause-number : goal.returns-clause-number
-returns-clause-number c = c.drive-asked.ensures.number ∙ ap (λ (y : Session). y.number) c.link_anew.ensures.anew.2
+returns-clause-number g c = c.drive-asked.ensures.number ∙ ap (λ (y : Session). y.number) c.link_anew.ensures.anew.2
 
 pub returns-clause-few : goal.returns-clause-few
-returns-clause-few c =
+returns-clause-few g c =
     let (link, new, is) = c.link_anew.ensures.anew in
     let now = c.args.incoming.now.moment in
     let d = c.drive-asked.ensures.driven in

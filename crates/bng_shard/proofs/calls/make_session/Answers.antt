@@ -8,45 +8,46 @@ use Rattle.bng_shard.specs.Discovery.{IsVacancy}
 use Rattle.bng_shard.specs.Indexed.{address_of}
 use Rattle.bng_shard.specs.State.{with_session}
 use Rattle.bng_shard.proofs.Serves.{nothing_shared}
+use Rattle.bng_shard.proofs.calls.make_session.Given.{Over}
 use Rattle.bng_shard.proofs.calls.make_session.Goals as goal
 use Rattle.bng_shard.proofs.calls.make_session.Goals.{After-session_for}
 
 -- the number is free
-free : (c : After-session_for) → IsLowestVacant c.args.served.now.sessions c.in-Some.session.0
-free c = subst (λ (o : Option SessionNo). IsVacancy c.args.served.now (option_map (λ (n : SessionNo). n.0) o)) c.in-Some.is c.requires
+free : (g : Over) (c : After-session_for g) → IsLowestVacant c.args.served.now.sessions c.in-Some.session.0
+free g c = subst (λ (o : Option SessionNo). IsVacancy c.args.served.now (option_map (λ (n : SessionNo). n.0) o)) c.in-Some.is c.requires
 
 -- and the session has it
-its_number : (c : After-session_for) → c.session_for.result.number.0 ≡ c.in-Some.session.0
-its_number c = ap (λ (y : Session). y.number.0) c.session_for.ensures.is.2
+its_number : (g : Over) (c : After-session_for g) → c.session_for.result.number.0 ≡ c.in-Some.session.0
+its_number g c = ap (λ (y : Session). y.number.0) c.session_for.ensures.is.2
 
 pub returns-in-None : goal.returns-in-None
-returns-in-None c =
+returns-in-None g c =
     subst (λ (o : Option SessionNo). MakesSession (option_map (λ (n : SessionNo). n.0) o) c.args.unmade c.args.called c.args.random.now c.args.served.now c.args.served.now) (sym c.in-None.is) refl
 
 pub returns-then-unmade : goal.returns-then-unmade
-returns-then-unmade c =
+returns-then-unmade g c =
     subst (λ (o : Option SessionNo). MakesSession (option_map (λ (n : SessionNo). n.0) o) c.args.unmade c.args.called c.args.random.now c.args.served.now c.args.served.now) (sym c.in-Some.is)
     (subst (λ (b : Bool). MakesSession (Some c.in-Some.session.0) b c.args.called c.args.random.now c.args.served.now c.args.served.now) (sym c.if-unmade.true) refl)
 
 pub put-requires-clause-number : goal.put-requires-clause-number
-put-requires-clause-number c =
-    let d = (goal.at.put-requires-clause-number c).After-session_for in
-    subst (λ (n : ℕ). IsNumberOf c.args.served.now.sessions.shard n) (sym (its_number d)) (free d).of_shard
+put-requires-clause-number g c =
+    let d = (goal.at.put-requires-clause-number g c).After-session_for in
+    subst (λ (n : ℕ). IsNumberOf c.args.served.now.sessions.shard n) (sym (its_number g d)) (free g d).of_shard
 
 pub put-requires-clause-vacant : goal.put-requires-clause-vacant
-put-requires-clause-vacant c =
-    let d = (goal.at.put-requires-clause-vacant c).After-session_for in
-    ap (λ (n : ℕ). value_at c.args.served.now.sessions n) (its_number d) ∙ (free d).vacant
+put-requires-clause-vacant g c =
+    let d = (goal.at.put-requires-clause-vacant g c).After-session_for in
+    ap (λ (n : ℕ). value_at c.args.served.now.sessions n) (its_number g d) ∙ (free g d).vacant
 
 pub put-requires-clause-apart : goal.put-requires-clause-apart
-put-requires-clause-apart c = nothing_shared c.args.served.now.sessions c.session_for.result (ap address_of c.session_for.ensures.is.2)
+put-requires-clause-apart g c unique = nothing_shared c.args.served.now.sessions c.session_for.result (ap address_of c.session_for.ensures.is.2)
 
 pub returns-else-unmade : goal.returns-else-unmade
-returns-else-unmade c =
-    let d = (goal.at.returns-else-unmade c).After-session_for in
+returns-else-unmade g c =
+    let d = (goal.at.returns-else-unmade g c).After-session_for in
     let (link, new, is) = c.session_for.ensures.is in
     let n = c.in-Some.session.0 in
     let s = c.args.served.now in
     subst (λ (o : Option SessionNo). MakesSession (option_map (λ (k : SessionNo). k.0) o) c.args.unmade c.args.called c.args.random.now s c.put.new.self) (sym c.in-Some.is)
     (subst (λ (b : Bool). MakesSession (Some n) b c.args.called c.args.random.now s c.put.new.self) (sym c.if-unmade.false)
-    (link, new, c.put.ensures ∙ ap (λ (k : ℕ). with_session s k c.session_for.result) (its_number d) ∙ ap (λ (y : Session). with_session s n y) is))
+    (link, new, c.put.ensures ∙ ap (λ (k : ℕ). with_session s k c.session_for.result) (its_number g d) ∙ ap (λ (y : Session). with_session s n y) is))

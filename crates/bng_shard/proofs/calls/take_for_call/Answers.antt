@@ -25,32 +25,33 @@ use Rattle.bng_shard.proofs.Carrying.{its_place}
 use Rattle.bng_shard.proofs.Replacing.{number_back, put_back, taken_still, vacant_back}
 use Rattle.bng_shard.proofs.Serves.{live_stays, shares_as}
 use Rattle.bng_shard.proofs.Tunnelling.{others_kept, payloads_length, standing}
+use Rattle.bng_shard.proofs.calls.take_for_call.Given.{Over}
 use Rattle.bng_shard.proofs.calls.take_for_call.Goals as goal
 use Rattle.bng_shard.proofs.calls.take_for_call.Goals.{After-answer_for-told, After-turn-asked}
 
 pub take-session-requires : goal.take-session-requires
-take-session-requires c = live_stays (value_at c.args.served.now.sessions c.args.message.now.session) c.requires.lives
+take-session-requires g c = live_stays (value_at c.args.served.now.sessions c.args.message.now.session) c.requires.lives
 
 pub answer_for-told-requires-clause-stands : goal.answer_for-told-requires-clause-stands
-answer_for-told-requires-clause-stands c =
+answer_for-told-requires-clause-stands g c =
     subst (λ (q : State). IsSome (tunnel_at q.tunnels c.args.number.0)) (sym c.take-session.ensures.after) (c.requires.taken.stands c.requires.call)
 
 pub answer_for-told-requires-clause-few : goal.answer_for-told-requires-clause-few
-answer_for-told-requires-clause-few c = c.requires.taken.room c.requires.call
+answer_for-told-requires-clause-few g c = c.requires.taken.room c.requires.call
 
 pub answer_for-told-requires-clause-call : goal.answer_for-told-requires-clause-call
-answer_for-told-requires-clause-call c =
+answer_for-told-requires-clause-call g c =
     let x = c.take-session.result in
     let (k, way) = taken_called c.args.served.now c.args.incoming.now.item.now.from c.args.number.0 c.args.message.now.session x c.take-session.ensures.value c.requires.found in
     called_no_port x.way k way
 
 pub send_datagrams-requires : goal.send_datagrams-requires
-send_datagrams-requires c = record { room = omega (arith, c.requires.room, c.answer_for-told.ensures.few, payloads_length c.answer_for-told.result.outs.items, ap length c.as_slice.ensures.value) }
+send_datagrams-requires g c = record { room = omega (arith, c.requires.room, c.answer_for-told.ensures.few, payloads_length c.answer_for-told.result.outs.items, ap length c.as_slice.ensures.value) }
 
 -- the call of the session took the message
-taken : (c : After-answer_for-told) → (x' : Session) × (x' ≡ c.answer_for-told.new.session) × (x'.number ≡ c.take-session.result.number) × (x'.service ≡ c.take-session.result.service) × (x'.lease ≡ c.take-session.result.lease)
+taken : (g : Over) (c : After-answer_for-told g) → (x' : Session) × (x' ≡ c.answer_for-told.new.session) × (x'.number ≡ c.take-session.result.number) × (x'.service ≡ c.take-session.result.service) × (x'.lease ≡ c.take-session.result.lease)
     × ((r : Rules) → IsPlaced r x'.way) × (c.answer_for-told.new.served ≡ with_tunnels c.take-session.new.self c.answer_for-told.new.served.tunnels)
-taken c =
+taken g c =
     let x = c.take-session.result in
     let n = c.args.number.0 in
     let m = control_of c.args.message.now in
@@ -68,49 +69,49 @@ taken c =
     )
 
 pub turn-asked-requires-clause-placed : goal.turn-asked-requires-clause-placed
-turn-asked-requires-clause-placed c =
-    let (x', same, number, service, lease, placed, others) = taken ((goal.at.turn-asked-requires-clause-placed c).After-answer_for-told) in
+turn-asked-requires-clause-placed g c =
+    let (x', same, number, service, lease, placed, others) = taken g ((goal.at.turn-asked-requires-clause-placed g c).After-answer_for-told) in
     let r = c.args.incoming.now.rules.now in
     subst (λ (y : Session). IsPlaced r y.way) same (placed r)
 
 pub turn-asked-requires-clause-leased : goal.turn-asked-requires-clause-leased
-turn-asked-requires-clause-leased c =
-    let (x', same, number, service, lease, placed, others) = taken ((goal.at.turn-asked-requires-clause-leased c).After-answer_for-told) in
+turn-asked-requires-clause-leased g c =
+    let (x', same, number, service, lease, placed, others) = taken g ((goal.at.turn-asked-requires-clause-leased g c).After-answer_for-told) in
     subst (λ (y : Session). KeepsLease y.service y.lease) same
     (subst (λ (l : Option Lease). KeepsLease x'.service l) (sym lease) (subst (λ (v : Service). KeepsLease v c.take-session.result.lease) (sym service) c.take-session.ensures.leased))
 
 pub turn-asked-requires-clause-room : goal.turn-asked-requires-clause-room
-turn-asked-requires-clause-room c =
+turn-asked-requires-clause-room g c =
     omega (arith, c.requires.room, c.send_datagrams.ensures.few, c.send_datagrams.ensures.capacity, c.answer_for-told.ensures.few, payloads_length c.answer_for-told.result.outs.items, ap length c.as_slice.ensures.value)
 
 -- the session keeps its number
-same_number : (d : After-answer_for-told) (c : After-turn-asked) → c.turn-asked.new.session.number ≡ d.answer_for-told.new.session.number → c.turn-asked.new.session.number.0 ≡ d.args.message.now.session
-same_number d c kept =
-    let (x', same, number, service, lease, placed, others) = taken d in
+same_number : (g : Over) (d : After-answer_for-told g) (c : After-turn-asked g) → c.turn-asked.new.session.number ≡ d.answer_for-told.new.session.number → c.turn-asked.new.session.number.0 ≡ d.args.message.now.session
+same_number g d c kept =
+    let (x', same, number, service, lease, placed, others) = taken g d in
     ap (λ (n : SessionNo). n.0) (kept ∙ ap (λ (y : Session). y.number) (sym same) ∙ number ∙ d.take-session.ensures.number)
 
 -- the others stay while it is out
-still : (d : After-answer_for-told) (s : State) → s ≡ with_tunnels d.answer_for-told.new.served s.tunnels → s ≡ record (with_tunnels d.args.served.now s.tunnels) { sessions = without d.args.served.now.sessions d.args.message.now.session }
-still d s kept =
-    let (x', same, number, service, lease, placed, others) = taken d in
+still : (g : Over) (d : After-answer_for-told g) (s : State) → s ≡ with_tunnels d.answer_for-told.new.served s.tunnels → s ≡ record (with_tunnels d.args.served.now s.tunnels) { sessions = without d.args.served.now.sessions d.args.message.now.session }
+still g d s kept =
+    let (x', same, number, service, lease, placed, others) = taken g d in
     taken_still d.args.served.now d.take-session.new.self s d.args.message.now.session s.tunnels d.take-session.ensures.after (kept ∙ ap (λ (q : State). with_tunnels q s.tunnels) others)
 
 pub put-requires-clause-number : goal.put-requires-clause-number
-put-requires-clause-number c =
-    let at = goal.at.put-requires-clause-number c in
+put-requires-clause-number g c =
+    let at = goal.at.put-requires-clause-number g c in
     let u = c.turn-asked.new.served in
-    number_back (with_tunnels c.args.served.now u.tunnels) u c.args.message.now.session c.turn-asked.new.session.number.0 (still at.After-answer_for-told u c.turn-asked.ensures.others) (same_number at.After-answer_for-told at.After-turn-asked c.turn-asked.ensures.number) c.take-session.ensures.of_shard
+    number_back (with_tunnels c.args.served.now u.tunnels) u c.args.message.now.session c.turn-asked.new.session.number.0 (still g at.After-answer_for-told u c.turn-asked.ensures.others) (same_number g at.After-answer_for-told at.After-turn-asked c.turn-asked.ensures.number) c.take-session.ensures.of_shard
 
 pub put-requires-clause-vacant : goal.put-requires-clause-vacant
-put-requires-clause-vacant c =
-    let at = goal.at.put-requires-clause-vacant c in
+put-requires-clause-vacant g c =
+    let at = goal.at.put-requires-clause-vacant g c in
     let u = c.turn-asked.new.served in
-    vacant_back (with_tunnels c.args.served.now u.tunnels) u c.args.message.now.session c.turn-asked.new.session.number.0 (still at.After-answer_for-told u c.turn-asked.ensures.others) (same_number at.After-answer_for-told at.After-turn-asked c.turn-asked.ensures.number)
+    vacant_back (with_tunnels c.args.served.now u.tunnels) u c.args.message.now.session c.turn-asked.new.session.number.0 (still g at.After-answer_for-told u c.turn-asked.ensures.others) (same_number g at.After-answer_for-told at.After-turn-asked c.turn-asked.ensures.number)
 
 pub put-requires-clause-apart : goal.put-requires-clause-apart
-put-requires-clause-apart c =
-    let d = (goal.at.put-requires-clause-apart c).After-answer_for-told in
-    let (x', same, number, service, lease, placed, others) = taken d in
+put-requires-clause-apart g c unique =
+    let d = (goal.at.put-requires-clause-apart g c).After-answer_for-told in
+    let (x', same, number, service, lease, placed, others) = taken g d in
     let now = c.args.incoming.now.moment in
     let told = c.answer_for-told.result in
     let ss = c.take-session.new.self.sessions in
@@ -120,18 +121,18 @@ put-requires-clause-apart c =
     subst (λ (t : State). NoneShares address_of t.sessions y) (sym (c.turn-asked.ensures.others ∙ ap (λ (q : State). with_tunnels q u.tunnels) others))
     (turned_apart c.args.incoming.now.rules.now c.args.incoming.now.at now c.args.incoming.now.item.now.random (beside_at now c.answer_for-told.new.served.asked c.answer_for-told.new.served.tunnels) before y (beside_at now c.turn-asked.result u.tunnels) c.args.terms.now c.turn-asked.new.terms c.send_datagrams.new.outs.items c.turn-asked.new.outs.items
     told.opened told.ended ss c.turn-asked.ensures.turned
-    (shares_as ss c.take-session.result before (ap address_of (sym same) ∙ ap (option_map (λ (l : Lease). l.address)) lease) c.take-session.ensures.apart))
+    (shares_as ss c.take-session.result before (ap address_of (sym same) ∙ ap (option_map (λ (l : Lease). l.address)) lease) (c.take-session.ensures.apart unique)))
 
 pub returns-clause-sums : goal.returns-clause-sums
-returns-clause-sums c =
+returns-clause-sums g c =
     let now = c.args.incoming.now.moment in
     let told = c.answer_for-told.result in
     turned_sums c.args.incoming.now.rules.now c.args.incoming.now.at now c.args.incoming.now.item.now.random (beside_at now c.answer_for-told.new.served.asked c.answer_for-told.new.served.tunnels) c.answer_for-told.new.session c.turn-asked.new.session (beside_at now c.turn-asked.result c.turn-asked.new.served.tunnels) c.args.terms.now c.turn-asked.new.terms c.send_datagrams.new.outs.items c.turn-asked.new.outs.items
     told.opened told.ended c.turn-asked.ensures.turned
 
 pub returns-clause-does : goal.returns-clause-does
-returns-clause-does c y found =
-    let at = goal.at.returns-clause-does c in
+returns-clause-does g c y found =
+    let at = goal.at.returns-clause-does g c in
     let d = at.After-answer_for-told in
     let r = c.args.incoming.now.rules.now in
     let a = c.args.incoming.now.at in
@@ -170,7 +171,7 @@ returns-clause-does c y found =
     (subst (λ (z : Session). TurnedOnce told.opened told.ended r a now item.random (beside_at now s₂.asked s₂.tunnels) z x' behind c.args.terms.now t' outs₁ outs') session c.turn-asked.ensures.turned)) in
     let counted : State → State = λ q. record q { asked = count } in
     let next = c.count_asked.ensures
-    ∙ ap counted (put_back (with_tunnels s u') c.turn-asked.new.served at_n x'.number.0 (still d c.turn-asked.new.served c.turn-asked.ensures.others) (same_number d at.After-turn-asked c.turn-asked.ensures.number) c.put.new.self x' c.put.ensures) in
+    ∙ ap counted (put_back (with_tunnels s u') c.turn-asked.new.served at_n x'.number.0 (still g d c.turn-asked.new.served c.turn-asked.ensures.others) (same_number g d at.After-turn-asked c.turn-asked.ensures.number) c.put.new.self x' c.put.ensures) in
     let (more, turns, are) = turns_so r a now item.random (with_tunnels s u) c.count_asked.new.self c.args.terms.now t' at_n y k call x' count u' outs₁ outs' next told.opened told.ended once in
     takes_call r (whole s c.args.terms.now) a item c.args.outs.now.items c.requires.here now n heard m t stands y k way (said told) answered.0 (c.answer_for-told.ensures.spelled c.requires.taken.spelled) c.answer_for-told.ensures.few more outs₁ outs'
     (c.send_datagrams.ensures.items ∙ ap (λ (sent : List Packet). c.args.outs.now.items ++ tunnel_outs a item.from (payloads sent)) c.as_slice.ensures.value) are

@@ -14,19 +14,19 @@ use Rattle.bng_shard.proofs.Tunnelling.{payloads_length, standing}
 use Rattle.bng_shard.proofs.calls.take_for_none.Goals as goal
 
 pub new_call-called-requires : goal.new_call-called-requires
-new_call-called-requires c = c.requires.taken.stands c.requires.call
+new_call-called-requires g c = c.requires.taken.stands c.requires.call
 
 pub answer_call-told-requires-clause-stands : goal.answer_call-told-requires-clause-stands
-answer_call-told-requires-clause-stands c = c.requires.taken.stands c.requires.call
+answer_call-told-requires-clause-stands g c = c.requires.taken.stands c.requires.call
 
 pub answer_call-told-requires-clause-few : goal.answer_call-told-requires-clause-few
-answer_call-told-requires-clause-few c = c.requires.taken.room c.requires.call
+answer_call-told-requires-clause-few g c = c.requires.taken.room c.requires.call
 
 pub send_datagrams-requires : goal.send_datagrams-requires
-send_datagrams-requires c = record { room = omega (arith, c.requires.room, c.answer_call-told.ensures.few, payloads_length c.answer_call-told.result.outs.items, ap length c.as_slice.ensures.value) }
+send_datagrams-requires g c = record { room = omega (arith, c.requires.room, c.answer_call-told.ensures.few, payloads_length c.answer_call-told.result.outs.items, ap length c.as_slice.ensures.value) }
 
 pub returns-clause-does : goal.returns-clause-does
-returns-clause-does c terms =
+returns-clause-does g c terms =
     let (t, stands) = standing (tunnel_at c.args.served.now.tunnels c.args.number.0) (c.requires.taken.stands c.requires.call) in
     let r = c.args.incoming.now.rules.now in
     let a = c.args.incoming.now.at in

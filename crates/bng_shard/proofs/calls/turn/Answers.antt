@@ -9,7 +9,7 @@ use Rattle.bng_shard.proofs.Replacing.{ended_keeps}
 use Rattle.bng_shard.proofs.calls.turn.Goals as goal
 
 pub returns-then-told-clause-turned : goal.returns-then-told-clause-turned
-returns-then-told-clause-turned c =
+returns-then-told-clause-turned g c =
     let now = c.args.incoming.now.moment in
     let told = c.args.told.now in
     let (link, new, none, driven) = c.connect.ensures.driven in
@@ -17,7 +17,7 @@ returns-then-told-clause-turned c =
     (sym c.if-told.true) (link, new, none, driven, c.connect.ensures.terms)
 
 pub returns-then-not-told-clause-turned : goal.returns-then-not-told-clause-turned
-returns-then-not-told-clause-turned c =
+returns-then-not-told-clause-turned g c =
     let now = c.args.incoming.now.moment in
     let r = c.args.incoming.now.rules.now in
     let random = c.args.incoming.now.item.now.random in
@@ -33,7 +33,7 @@ returns-then-not-told-clause-turned c =
     (refl, ap (λ (n : ℕ). beside_at now n u) c.asked-asked.ensures, refl, refl))
 
 pub returns-clause-turned : goal.returns-clause-turned
-returns-clause-turned c =
+returns-clause-turned g c =
     let now = c.args.incoming.now.moment in
     let r = c.args.incoming.now.rules.now in
     let random = c.args.incoming.now.item.now.random in
@@ -51,7 +51,7 @@ returns-clause-turned c =
     (c.end.ensures, ap (λ (n : ℕ). beside_at now n u) c.asked-asked.ensures, c.close.ensures ∙ ap (λ (l : Option Lease). let v : TermsView = record t { rows = closed_rows l (Some 2) t.rows } in v) c.lease.ensures, refl))
 
 pub returns-clause-leased : goal.returns-clause-leased
-returns-clause-leased c = subst (λ (y : Session). KeepsLease y.service y.lease) (sym c.end.ensures) (ended_keeps c.args.session.now.service c.args.session.now.lease c.requires.leased)
+returns-clause-leased g c = subst (λ (y : Session). KeepsLease y.service y.lease) (sym c.end.ensures) (ended_keeps c.args.session.now.service c.args.session.now.lease c.requires.leased)
 
 pub returns-clause-number : goal.returns-clause-number
-returns-clause-number c = ap (λ (y : Session). y.number) c.end.ensures
+returns-clause-number g c = ap (λ (y : Session). y.number) c.end.ensures

@@ -14,22 +14,22 @@ use Rattle.bng_shard.proofs.Values.{same_some}
 use Rattle.bng_shard.proofs.changes.apply.Goals as goal
 
 pub change-requires-clause-stays : goal.change-requires-clause-stays
-change-requires-clause-stays c =
+change-requires-clause-stays g c =
     let (f, is, same) = c.requires.found in
     meant_stays c.args.incoming.now.rules.now (whole c.args.served.now c.args.terms.now) (packet_of c.args.request.now) f c.args.meant.now is same
 
 pub change-requires-clause-leased : goal.change-requires-clause-leased
-change-requires-clause-leased c x at =
+change-requires-clause-leased g c x at =
     let (f, is, same) = c.requires.found in
     meant_leased c.args.incoming.now.rules.now (whole c.args.served.now c.args.terms.now) (packet_of c.args.request.now) f c.args.meant.now is same x at
 
 pub disconnect-requires-clause-stays : goal.disconnect-requires-clause-stays
-disconnect-requires-clause-stays c =
+disconnect-requires-clause-stays g c =
     let (f, is, same) = c.requires.found in
     meant_stays c.args.incoming.now.rules.now (whole c.args.served.now c.args.terms.now) (packet_of c.args.request.now) f c.args.meant.now is same
 
 pub returns-then-is_change-clause-does : goal.returns-then-is_change-clause-does
-returns-then-is_change-clause-does c f is =
+returns-then-is_change-clause-does g c f is =
     let r = c.args.incoming.now.rules.now in
     let s = whole c.args.served.now c.args.terms.now in
     let p = packet_of c.args.request.now in
@@ -41,7 +41,7 @@ returns-then-is_change-clause-does c f is =
     changes r s c.args.incoming.now.at c.args.incoming.now.item.now c.args.outs.now.items c.requires.here now p f (whole c.change.new.served c.change.new.terms) c.if-is_change.true next
 
 pub returns-else-is_change-clause-does : goal.returns-else-is_change-clause-does
-returns-else-is_change-clause-does c f is =
+returns-else-is_change-clause-does g c f is =
     let r = c.args.incoming.now.rules.now in
     let a = c.args.incoming.now.at in
     let now = c.args.incoming.now.moment in

@@ -8,7 +8,7 @@ use Rattle.bng_shard.specs.Running.{KeepSums, whole}
 use Rattle.bng_shard.proofs.cutting.cut_off.Given as goal
 
 abbrev pub invariant-loop-n : goal.invariant-loop-n
-invariant-loop-n l = record {
+invariant-loop-n g l = record {
   cut : whole l.served l.terms ≡ fold (cut_at l.tunnel.0) (whole l.fn.served l.fn.terms) (range_with_len l.first (l.n - l.first));
   sums : KeepSums l.fn.terms l.terms;
   shard : l.served.sessions.shard ≡ l.fn.served.sessions.shard;

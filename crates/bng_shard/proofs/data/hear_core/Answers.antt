@@ -10,7 +10,7 @@ use Rattle.bng_shard.proofs.Carrying.{nothing_done}
 use Rattle.bng_shard.proofs.data.hear_core.Goals as goal
 
 pub returns-in-Some-clause-does : goal.returns-in-Some-clause-does
-returns-in-Some-clause-does c =
+returns-in-Some-clause-does g c =
     let r = c.args.incoming.now.rules.now in
     let s = whole c.args.served.now c.args.terms.now in
     let item = c.args.incoming.now.item.now in
@@ -20,7 +20,7 @@ returns-in-Some-clause-does c =
     (λ d says. inr (header, came, says)) c.hear_packet.ensures.does
 
 pub returns-in-None-clause-does : goal.returns-in-None-clause-does
-returns-in-None-clause-does c =
+returns-in-None-clause-does g c =
     let r = c.args.incoming.now.rules.now in
     let s = whole c.args.served.now c.args.terms.now in
     let item = c.args.incoming.now.item.now in

@@ -11,7 +11,7 @@ use Rattle.bng_shard.proofs.Arriving.{frame_with}
 use Rattle.bng_shard.proofs.data.hear_data.Goals as goal
 
 pub returns-clause-does : goal.returns-clause-does
-returns-clause-does c info carries =
+returns-clause-does g c info carries =
     let r = c.args.incoming.now.rules.now in
     let s = whole c.args.served.now c.args.terms.now in
     let s' = whole c.pass_up.new.served c.args.terms.now in

@@ -18,30 +18,31 @@ use Rattle.bng_shard.specs.declared.meters.Meters.{Meters}
 use Rattle.bng_shard.specs.declared.session.Session.{Session}
 use Rattle.bng_shard.proofs.Carrying.{drops_down, goes_down}
 use Rattle.bng_shard.proofs.Values.{found_at}
+use Rattle.bng_shard.proofs.data.hear_packet.Given.{Over}
 use Rattle.bng_shard.proofs.data.hear_packet.Goals as goal
 use Rattle.bng_shard.proofs.data.hear_packet.Goals.{After-down-fate}
 
 -- the view of the holder
-found : (c : After-down-fate) → c.holder_view-view.result ≡ found_down (whole c.args.served.now c.args.terms.now) c.args.header.dst
-found c = c.holder_view-view.ensures ∙ ap (λ (o : Option Session). found_among c.args.served.now.meters o (list_any (has_kept c.args.header.dst) (tenures_in c.args.terms.now.rows)) c.args.header.dst) c.holder_of-holder.ensures
+found : (g : Over) (c : After-down-fate g) → c.holder_view-view.result ≡ found_down (whole c.args.served.now c.args.terms.now) c.args.header.dst
+found g c = c.holder_view-view.ensures ∙ ap (λ (o : Option Session). found_among c.args.served.now.meters o (list_any (has_kept c.args.header.dst) (tenures_in c.args.terms.now.rows)) c.args.header.dst) c.holder_of-holder.ensures
 
-fated : (c : After-down-fate) → DownFate (found_down (whole c.args.served.now c.args.terms.now)) c.args.incoming.now.moment c.args.incoming.now.item.now.frame.payload c.down-fate.result
-fated c =
-    subst (λ (octets : List ℕ). DownFate (found_down (whole c.args.served.now c.args.terms.now)) c.args.incoming.now.moment octets c.down-fate.result) (ap (λ (f : Packet). f.payload) c.copy_from.ensures) (c.down-fate.ensures.fate (found_down (whole c.args.served.now c.args.terms.now)) (sym (found c)))
+fated : (g : Over) (c : After-down-fate g) → DownFate (found_down (whole c.args.served.now c.args.terms.now)) c.args.incoming.now.moment c.args.incoming.now.item.now.frame.payload c.down-fate.result
+fated g c =
+    subst (λ (octets : List ℕ). DownFate (found_down (whole c.args.served.now c.args.terms.now)) c.args.incoming.now.moment octets c.down-fate.result) (ap (λ (f : Packet). f.payload) c.copy_from.ensures) (c.down-fate.ensures.fate (found_down (whole c.args.served.now c.args.terms.now)) (sym (found g c)))
 
 pub put_on_way-role-requires-clause-placed : goal.put_on_way-role-requires-clause-placed
-put_on_way-role-requires-clause-placed c =
+put_on_way-role-requires-clause-placed g c =
     let x = c.in-Some.session.now in
     let (n, at, passes) = found_at (leases c.args.header.dst) (whole c.args.served.now c.args.terms.now).sessions x (sym c.in-Some.ensures) in
     c.requires.placed n x at
 
 pub returns-in_default-clause-does : goal.returns-in_default-clause-does
-returns-in_default-clause-does c =
-    drops_down c.args.incoming.now.rules.now (whole c.args.served.now c.args.terms.now) c.args.incoming.now.at c.args.incoming.now.item.now c.args.outs.now.items c.requires.here c.args.incoming.now.moment c.args.header c.down-fate.result (fated (goal.at.returns-in_default-clause-does c).After-down-fate) c.in_default.not-Forwarded
+returns-in_default-clause-does g c =
+    drops_down c.args.incoming.now.rules.now (whole c.args.served.now c.args.terms.now) c.args.incoming.now.at c.args.incoming.now.item.now c.args.outs.now.items c.requires.here c.args.incoming.now.moment c.args.header c.down-fate.result (fated g (goal.at.returns-in_default-clause-does g c).After-down-fate) c.in_default.not-Forwarded
 
 pub returns-clause-does : goal.returns-clause-does
-returns-clause-does c =
-    let d = (goal.at.returns-clause-does c).After-down-fate in
+returns-clause-does g c =
+    let d = (goal.at.returns-clause-does g c).After-down-fate in
     let r = c.args.incoming.now.rules.now in
     let s = whole c.args.served.now c.args.terms.now in
     let v = c.args.header in
@@ -59,6 +60,6 @@ returns-clause-does c =
     ∙ ap (λ (ms : Meters). with_passed c.args.served.now x.number moment ms) c.from_view.ensures in
     subst (λ (t : State). DoesWith (λ e d. HearsPacket r s e v d) 1 s (whole t c.args.terms.now) c.args.outs.now.items c.push_out.new.outs.items c.args.incoming.now.at c.args.incoming.now.moment c.args.incoming.now.item.now Forwarded) (sym next)
     (goes_down r s c.args.incoming.now.at c.args.incoming.now.item.now c.args.outs.now.items c.requires.here moment v c.down-fate.new.packet.payload octets role to x l c.holder_view-view.result c.down-fate.new.holder
-    c.push_out.new.outs.items (found d) spends (sym c.in-Some.ensures) (sym c.in-Some-lease.ensures) (c.requires.tied n x l at (sym c.in-Some-lease.ensures)) c.put_on_way-role.ensures
-    (subst (λ (f : Fate). DownFate (found_down s) moment c.args.incoming.now.item.now.frame.payload f) on (fated d)) (subst (λ (octets : List ℕ). IsPassedOn v octets c.down-fate.new.packet.payload) (ap (λ (f : Packet). f.payload) c.copy_from.ensures) passed)
+    c.push_out.new.outs.items (found g d) spends (sym c.in-Some.ensures) (sym c.in-Some-lease.ensures) (c.requires.tied n x l at (sym c.in-Some-lease.ensures)) c.put_on_way-role.ensures
+    (subst (λ (f : Fate). DownFate (found_down s) moment c.args.incoming.now.item.now.frame.payload f) on (fated g d)) (subst (λ (octets : List ℕ). IsPassedOn v octets c.down-fate.new.packet.payload) (ap (λ (f : Packet). f.payload) c.copy_from.ensures) passed)
     (c.push_out.ensures.items ∙ ap (λ (y : Charge). c.args.outs.now.items ++ out c.args.incoming.now.at role to octets (Some y) ∷ []) c.charge_of-charge.ensures))

@@ -16,12 +16,13 @@ use Rattle.bng_slots.specs.Sessions.{value_at}
 use Rattle.bng_shard.specs.State.{State, session_at}
 use Rattle.bng_shard.proofs.Carrying.{drops_up, goes_up}
 use Rattle.bng_shard.proofs.Values.{none_some}
+use Rattle.bng_shard.proofs.data.pass_up.Given.{Over}
 use Rattle.bng_shard.proofs.data.pass_up.Goals as goal
 use Rattle.bng_shard.proofs.data.pass_up.Goals.{After-up-fate}
 
 -- what was found for the packet
-found : (c : After-up-fate) → c.found_for-found.result ≡ found_up (whole c.args.served.now c.args.terms.now) (session_at (whole c.args.served.now c.args.terms.now) c.args.number)
-found c = c.found_for-found.ensures ∙ ap (λ (o : Option Session). option_map (view_in c.args.served.now.meters) o) c.session_at-session.ensures
+found : (g : Over) (c : After-up-fate g) → c.found_for-found.result ≡ found_up (whole c.args.served.now c.args.terms.now) (session_at (whole c.args.served.now c.args.terms.now) c.args.number)
+found g c = c.found_for-found.ensures ∙ ap (λ (o : Option Session). option_map (view_in c.args.served.now.meters) o) c.session_at-session.ensures
 
 -- the session that was found stands
 stands : (s : State) (o : Option SessionNo) (x : Session) → session_at s o ≡ Some x → (n : ℕ) × (value_at s.sessions n ≡ Some x)
@@ -29,15 +30,15 @@ stands s None x is = absurd (none_some x is)
 stands s (Some n) x is = (n.0, is)
 
 pub returns-in_default-clause-does : goal.returns-in_default-clause-does
-returns-in_default-clause-does c =
-    let d = (goal.at.returns-in_default-clause-does c).After-up-fate in
+returns-in_default-clause-does g c =
+    let d = (goal.at.returns-in_default-clause-does g c).After-up-fate in
     let s = whole c.args.served.now c.args.terms.now in
-    drops_up c.args.incoming.now.rules.now s c.args.incoming.now.at c.args.incoming.now.item.now c.args.outs.now.items c.requires.here c.args.incoming.now.moment (session_at s c.args.number) c.args.packet.now.payload c.found_for-found.result c.up-fate.result (found d)
+    drops_up c.args.incoming.now.rules.now s c.args.incoming.now.at c.args.incoming.now.item.now c.args.outs.now.items c.requires.here c.args.incoming.now.moment (session_at s c.args.number) c.args.packet.now.payload c.found_for-found.result c.up-fate.result (found g d)
     c.up-fate.ensures.fate c.in_default.not-Forwarded
 
 pub returns-clause-does : goal.returns-clause-does
-returns-clause-does c =
-    let d = (goal.at.returns-clause-does c).After-up-fate in
+returns-clause-does g c =
+    let d = (goal.at.returns-clause-does g c).After-up-fate in
     let r = c.args.incoming.now.rules.now in
     let s = whole c.args.served.now c.args.terms.now in
     let info = c.args.packet.now.payload in
@@ -56,6 +57,6 @@ returns-clause-does c =
     ∙ ap (λ (ms : Meters). with_passed c.args.served.now x.number moment ms) c.meters_found.ensures in
     subst (λ (t : State). DoesWith (λ e d. HearsData r s e session info d) 1 s (whole t c.args.terms.now) c.args.outs.now.items c.push_out.new.outs.items c.args.incoming.now.at c.args.incoming.now.moment c.args.incoming.now.item.now Forwarded) (sym next)
     (goes_up r s c.args.incoming.now.at c.args.incoming.now.item.now c.args.outs.now.items c.requires.here moment session info c.up-fate.new.packet.payload found_there c.up-fate.new.found x l (length c.payload.result.now) c.push_out.new.outs.items
-    (found d) (sym c.in-Some.ensures) (sym c.in-Some-lease.ensures) (c.requires.tied n x l at (sym c.in-Some-lease.ensures)) up
+    (found g d) (sym c.in-Some.ensures) (sym c.in-Some-lease.ensures) (c.requires.tied n x l at (sym c.in-Some-lease.ensures)) up
     (v, may, passed, spends) (ap length (sym c.payload.ensures.octets))
     (c.push_out.ensures.items ∙ ap (λ (y : Charge). c.args.outs.now.items ++ out c.args.incoming.now.at Core r.core_peer c.up-fate.new.packet.payload (Some y) ∷ []) c.charge_of-charge.ensures))

@@ -16,31 +16,31 @@ use Rattle.bng_shard.proofs.Driving.{number_of}
 use Rattle.bng_shard.proofs.discover.make.Goals as goal
 
 pub drive-asked-requires-clause-placed : goal.drive-asked-requires-clause-placed
-drive-asked-requires-clause-placed c =
+drive-asked-requires-clause-placed g c =
     let (port, is) = c.requires.placed in
     subst (λ (y : Session). IsPlaced c.args.incoming.now.rules.now y.way) (sym c.new_session-made.ensures.is.2) (port, is)
 
 pub drive-asked-requires-clause-made : goal.drive-asked-requires-clause-made
-drive-asked-requires-clause-made c = ap (λ (y : Session). made_one y.service) c.new_session-made.ensures.is.2
+drive-asked-requires-clause-made g c = ap (λ (y : Session). made_one y.service) c.new_session-made.ensures.is.2
 
 pub put-requires-clause-number : goal.put-requires-clause-number
-put-requires-clause-number c =
+put-requires-clause-number g c =
     let its = number_of c.drive-asked.ensures.driven (ap (λ (y : Session). y.number) c.new_session-made.ensures.is.2) in
     subst (λ (t : State). IsNumberOf t.sessions.shard c.drive-asked.new.session.number.0) (sym c.drive-asked.ensures.others) (subst (λ (n : ℕ). IsNumberOf c.args.served.now.sessions.shard n) (sym its) c.requires.vacant.of_shard)
 
 pub put-requires-clause-vacant : goal.put-requires-clause-vacant
-put-requires-clause-vacant c =
+put-requires-clause-vacant g c =
     let its = number_of c.drive-asked.ensures.driven (ap (λ (y : Session). y.number) c.new_session-made.ensures.is.2) in
     ap (λ (t : State). value_at t.sessions c.drive-asked.new.session.number.0) c.drive-asked.ensures.others ∙ ap (λ (n : ℕ). value_at c.args.served.now.sessions n) its ∙ c.requires.vacant.vacant
 
 pub put-requires-clause-apart : goal.put-requires-clause-apart
-put-requires-clause-apart c =
+put-requires-clause-apart g c unique =
     let d = c.drive-asked.ensures.driven.drives in
     let none = ap (λ (y : Session). y.lease) d.session ∙ ap (λ (y : Session). kept_lease d.says.term_ended y.lease) c.new_session-made.ensures.is.2 ∙ none_kept d.says.term_ended in
     nothing_shared c.drive-asked.new.served.sessions c.drive-asked.new.session (ap (λ (l : Option Lease). let x : Session = record c.drive-asked.new.session { lease = l } in address_of x) none)
 
 pub returns-clause-made : goal.returns-clause-made
-returns-clause-made c ts are =
+returns-clause-made g c ts are =
     let its = number_of c.drive-asked.ensures.driven (ap (λ (y : Session). y.number) c.new_session-made.ensures.is.2) in
     let r = c.args.incoming.now.rules.now in
     let now = c.args.incoming.now.moment in

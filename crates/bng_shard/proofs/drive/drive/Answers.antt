@@ -8,19 +8,20 @@ use Rattle.bng_shard.specs.Fits.{IsPlaced}
 use Rattle.bng_shard.specs.Link.{PartsOn, SaysOn, asked_after, parted_way}
 use Rattle.bng_shard.specs.State.{beside_at}
 use Rattle.bng_shard.proofs.Driving.{driven_finished, driven_on, finished_link, going_link}
+use Rattle.bng_shard.proofs.drive.drive.Given.{Over}
 use Rattle.bng_shard.proofs.drive.drive.Goals as goal
 use Rattle.bng_shard.proofs.drive.drive.Goals.{After-send_frames, After-step-asked}
 
 -- the session stays on its way through a step of its link
-there : (c : After-step-asked) → IsPlaced c.args.incoming.now.rules.now c.step-asked.new.self.way
-there c =
+there : (g : Over) (c : After-step-asked g) → IsPlaced c.args.incoming.now.rules.now c.step-asked.new.self.way
+there g c =
     let (made, says, link, is, steps, next, count, outs, finished, ends_term) = c.step-asked.ensures.steps in
     subst (λ (y : Session). IsPlaced c.args.incoming.now.rules.now y.way) (sym next) c.requires.placed
 
 -- the frames of the session as it was
-framed : (c : After-send_frames) → (first : List OutRecord) × SaysOn c.args.session.now.way c.args.incoming.now.rules.now c.args.incoming.now.at c.args.session.now.number c.step-asked.ensures.steps.1.outs first
+framed : (g : Over) (c : After-send_frames g) → (first : List OutRecord) × SaysOn c.args.session.now.way c.args.incoming.now.rules.now c.args.incoming.now.at c.args.session.now.number c.step-asked.ensures.steps.1.outs first
     × (c.send_frames.new.outs.items ≡ c.args.outs.now.items ++ first)
-framed c =
+framed g c =
     let (made, says, link, is, steps, next, count, outs, finished, ends_term) = c.step-asked.ensures.steps in
     let (first, tells, are) = c.send_frames.ensures.told in
     let r = c.args.incoming.now.rules.now in
@@ -30,15 +31,15 @@ framed c =
     (first, subst (λ (os : List (List ℕ)). SaysOn x.way r c.args.incoming.now.at x.number os first) (ap payloads c.outs.ensures.frames ∙ sym outs) as_it_was, are)
 
 pub send_frames-requires-clause-placed : goal.send_frames-requires-clause-placed
-send_frames-requires-clause-placed c = there ((goal.at.send_frames-requires-clause-placed c).After-step-asked)
+send_frames-requires-clause-placed g c = there g ((goal.at.send_frames-requires-clause-placed g c).After-step-asked)
 
 pub part-requires-clause-placed : goal.part-requires-clause-placed
-part-requires-clause-placed c = there ((goal.at.part-requires-clause-placed c).After-step-asked)
+part-requires-clause-placed g c = there g ((goal.at.part-requires-clause-placed g c).After-step-asked)
 
 pub returns-then-steps-clause-driven : goal.returns-then-steps-clause-driven
-returns-then-steps-clause-driven c =
+returns-then-steps-clause-driven g c =
     let (made, says, link, is, steps, next, count, outs, finished, ends_term) = c.step-asked.ensures.steps in
-    let (first, tells, are) = framed ((goal.at.returns-then-steps-clause-driven c).After-send_frames) in
+    let (first, tells, are) = framed g ((goal.at.returns-then-steps-clause-driven g c).After-send_frames) in
     let (last, parts, sent, few) = c.part.ensures.told in
     let r = c.args.incoming.now.rules.now in
     let a = c.args.incoming.now.at in
@@ -60,9 +61,9 @@ returns-then-steps-clause-driven c =
     (driven_finished r a Steps b x made is says link steps items c.send_frames.new.outs.items first tells are all last u over on_its_way few sent)))
 
 pub returns-else-steps-clause-driven : goal.returns-else-steps-clause-driven
-returns-else-steps-clause-driven c =
+returns-else-steps-clause-driven g c =
     let (made, says, link, is, steps, next, count, outs, finished, ends_term) = c.step-asked.ensures.steps in
-    let (first, tells, are) = framed ((goal.at.returns-else-steps-clause-driven c).After-send_frames) in
+    let (first, tells, are) = framed g ((goal.at.returns-else-steps-clause-driven g c).After-send_frames) in
     let r = c.args.incoming.now.rules.now in
     let a = c.args.incoming.now.at in
     let now = c.args.incoming.now.moment in

@@ -14,40 +14,40 @@ use Rattle.bng_shard.proofs.Values.{same_some}
 use Rattle.bng_shard.proofs.frames.drive_at.Goals as goal
 
 pub take-session-requires : goal.take-session-requires
-take-session-requires c = live_stays (value_at c.args.served.now.sessions c.args.number.0) c.requires.lives
+take-session-requires g c = live_stays (value_at c.args.served.now.sessions c.args.number.0) c.requires.lives
 
 pub drive-asked-requires-clause-placed : goal.drive-asked-requires-clause-placed
-drive-asked-requires-clause-placed c = c.requires.placed c.args.number.0 c.take-session.result (sym c.take-session.ensures.value)
+drive-asked-requires-clause-placed g c = c.requires.placed c.args.number.0 c.take-session.result (sym c.take-session.ensures.value)
 
 pub drive-asked-requires-clause-made : goal.drive-asked-requires-clause-made
-drive-asked-requires-clause-made c =
+drive-asked-requires-clause-made g c =
     made_of_live c.take-session.result.service (live_there c.args.served.now c.args.number.0 c.take-session.result c.requires.lives c.take-session.ensures.value)
 
 pub put-requires-clause-number : goal.put-requires-clause-number
-put-requires-clause-number c =
+put-requires-clause-number g c =
     let same = number_of c.drive-asked.ensures.driven c.take-session.ensures.number in
     let u = c.drive-asked.new.served.tunnels in
     number_back (with_tunnels c.args.served.now u) c.drive-asked.new.served c.args.number.0 c.drive-asked.new.session.number.0
     (taken_still c.args.served.now c.take-session.new.self c.drive-asked.new.served c.args.number.0 u c.take-session.ensures.after c.drive-asked.ensures.others) same c.take-session.ensures.of_shard
 
 pub put-requires-clause-vacant : goal.put-requires-clause-vacant
-put-requires-clause-vacant c =
+put-requires-clause-vacant g c =
     let same = number_of c.drive-asked.ensures.driven c.take-session.ensures.number in
     let u = c.drive-asked.new.served.tunnels in
     vacant_back (with_tunnels c.args.served.now u) c.drive-asked.new.served c.args.number.0 c.drive-asked.new.session.number.0
     (taken_still c.args.served.now c.take-session.new.self c.drive-asked.new.served c.args.number.0 u c.take-session.ensures.after c.drive-asked.ensures.others) same
 
 pub put-requires-clause-apart : goal.put-requires-clause-apart
-put-requires-clause-apart c =
+put-requires-clause-apart g c unique =
     let d = c.drive-asked.ensures.driven.drives in
     subst (λ (t : State). NoneShares address_of t.sessions c.drive-asked.new.session) (sym c.drive-asked.ensures.others)
-    (shares_kept c.take-session.new.self.sessions c.take-session.result c.drive-asked.new.session d.says.term_ended (ap (λ (y : Session). y.lease) d.session) c.take-session.ensures.apart)
+    (shares_kept c.take-session.new.self.sessions c.take-session.result c.drive-asked.new.session d.says.term_ended (ap (λ (y : Session). y.lease) d.session) (c.take-session.ensures.apart unique))
 
 pub drive-asked-requires-clause-lasts : goal.drive-asked-requires-clause-lasts
-drive-asked-requires-clause-lasts c = c.requires.lasts c.take-session.result (sym c.take-session.ensures.value)
+drive-asked-requires-clause-lasts g c = c.requires.lasts c.take-session.result (sym c.take-session.ensures.value)
 
 pub returns-clause-driven : goal.returns-clause-driven
-returns-clause-driven c x is =
+returns-clause-driven g c x is =
     let r = c.args.incoming.now.rules.now in
     let now = c.args.incoming.now.moment in
     let s = c.args.served.now in
@@ -76,4 +76,4 @@ returns-clause-driven c x is =
     )
 
 pub returns-clause-sums : goal.returns-clause-sums
-returns-clause-sums c = closed_keeps c.args.terms.now c.close.new.self c.lease-lease.result c.drive-asked.result.1 c.close.ensures
+returns-clause-sums g c = closed_keeps c.args.terms.now c.close.new.self c.lease-lease.result c.drive-asked.result.1 c.close.ensures

@@ -13,7 +13,7 @@ use Rattle.bng_shard.proofs.Holding.{no_frame}
 use Rattle.bng_shard.proofs.hear.hear_access.Goals as goal
 
 pub returns-in-Some-clause-does : goal.returns-in-Some-clause-does
-returns-in-Some-clause-does c =
+returns-in-Some-clause-does g c =
     let r = c.args.incoming.now.rules.now in
     let s = (whole c.args.served.now c.args.terms.now) in
     let item = c.args.incoming.now.item.now in
@@ -26,7 +26,7 @@ returns-in-Some-clause-does c =
     (omega arith) (λ d says. inr (p, came, says)) c.hear_frame.ensures.does
 
 pub returns-in-None-clause-does : goal.returns-in-None-clause-does
-returns-in-None-clause-does c =
+returns-in-None-clause-does g c =
     let item = c.args.incoming.now.item.now in
     let taken : List ℕ → Arrival = λ octets. record { from = item.from; cut = item.cut; octets = octets } in
     let none = no_frame c.as_slice.result.now c.args.incoming.now.rules.now.access c.args.number (taken c.payload.result.now) (taken item.frame.payload) c.as_slice.ensures (ap taken c.payload.ensures.octets) c.in-None.ensures.none in

@@ -13,11 +13,11 @@ use Rattle.bng_shard.proofs.Tunnelling.{others_kept, payloads_length}
 use Rattle.bng_shard.proofs.in_turn.remind_one.Goals as goal
 
 pub send_datagrams-requires : goal.send_datagrams-requires
-send_datagrams-requires c =
+send_datagrams-requires g c =
     record { room = omega (arith, c.requires.room, c.in-Some.ensures.few, payloads_length c.in-Some.told.step.outs.items, ap length c.as_slice.ensures.value) }
 
 pub returns-in-Some-clause-reminded : goal.returns-in-Some-clause-reminded
-returns-in-Some-clause-reminded c =
+returns-in-Some-clause-reminded g c =
     let told = c.in-Some.told in
     let frames = payloads told.step.outs.items in
     let s = c.args.served.now in
@@ -39,17 +39,17 @@ returns-in-Some-clause-reminded c =
     }
 
 pub returns-in-Some-clause-shard : goal.returns-in-Some-clause-shard
-returns-in-Some-clause-shard c = c.cut_if.ensures.shard ∙ ap (λ (q : State). q.sessions.shard) c.remind_tunnel.ensures.after
+returns-in-Some-clause-shard g c = c.cut_if.ensures.shard ∙ ap (λ (q : State). q.sessions.shard) c.remind_tunnel.ensures.after
 
 pub returns-in-Some-clause-placed : goal.returns-in-Some-clause-placed
-returns-in-Some-clause-placed c r all = c.cut_if.ensures.placed r (subst (λ (q : State). ArePlaced r q.sessions) (sym c.remind_tunnel.ensures.after) all)
+returns-in-Some-clause-placed g c r all = c.cut_if.ensures.placed r (subst (λ (q : State). ArePlaced r q.sessions) (sym c.remind_tunnel.ensures.after) all)
 
 pub returns-in-Some-clause-few : goal.returns-in-Some-clause-few
-returns-in-Some-clause-few c =
+returns-in-Some-clause-few g c =
     omega (arith, c.send_datagrams.ensures.few, c.in-Some.ensures.few, payloads_length c.in-Some.told.step.outs.items, ap length c.as_slice.ensures.value)
 
 pub returns-in-None-clause-reminded : goal.returns-in-None-clause-reminded
-returns-in-None-clause-reminded c =
+returns-in-None-clause-reminded g c =
     let s = c.args.served.now in
     let t = c.args.terms.now in
     let u = c.remind_tunnel.new.self.tunnels in
@@ -68,10 +68,10 @@ returns-in-None-clause-reminded c =
     }
 
 pub returns-in-None-clause-sums : goal.returns-in-None-clause-sums
-returns-in-None-clause-sums c = keeps_same c.args.terms.now
+returns-in-None-clause-sums g c = keeps_same c.args.terms.now
 
 pub returns-in-None-clause-shard : goal.returns-in-None-clause-shard
-returns-in-None-clause-shard c = ap (λ (q : State). q.sessions.shard) c.remind_tunnel.ensures.after
+returns-in-None-clause-shard g c = ap (λ (q : State). q.sessions.shard) c.remind_tunnel.ensures.after
 
 pub returns-in-None-clause-placed : goal.returns-in-None-clause-placed
-returns-in-None-clause-placed c r all = subst (λ (q : State). ArePlaced r q.sessions) (sym c.remind_tunnel.ensures.after) all
+returns-in-None-clause-placed g c r all = subst (λ (q : State). ArePlaced r q.sessions) (sym c.remind_tunnel.ensures.after) all

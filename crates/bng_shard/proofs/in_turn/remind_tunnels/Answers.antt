@@ -5,7 +5,7 @@ use Rattle.bng_shard.proofs.SumsKept.{keeps_same, keeps_then}
 use Rattle.bng_shard.proofs.in_turn.remind_tunnels.Goals as goal
 
 pub loop-place-init : goal.loop-place-init
-loop-place-init c = record {
+loop-place-init g c = record {
   on = reminds_begin c.args.at c.args.now (whole c.args.served.now c.args.terms.now) c.args.outs.now.items;
   sums = keeps_same c.args.terms.now;
   shard = refl;
@@ -15,7 +15,7 @@ loop-place-init c = record {
 }
 
 pub loop-place-preserved : goal.loop-place-preserved
-loop-place-preserved c = record {
+loop-place-preserved g c = record {
   on = reminds_more c.args.at c.args.now (whole c.args.served.now c.args.terms.now) (whole c.loop-place.served c.loop-place.terms) c.args.outs.now.items c.loop-place.outs.items c.loop-place.place
       (whole c.remind_one.new.served c.remind_one.new.terms) c.remind_one.new.outs.items c.loop-place.invariant.on c.remind_one.ensures.reminded;
   sums = keeps_then c.args.terms.now c.loop-place.terms c.remind_one.new.terms c.loop-place.invariant.sums c.remind_one.ensures.sums;
@@ -26,9 +26,9 @@ loop-place-preserved c = record {
 }
 
 pub returns-clause-reminded : goal.returns-clause-reminded
-returns-clause-reminded c =
+returns-clause-reminded g c =
     let all : c.loop-place.place ≡ 16 = omega (arith, c.loop-place-test.false, c.loop-place.auto.place-end) in
     reminds_done c.args.at c.args.now (whole c.args.served.now c.args.terms.now) (whole c.loop-place.served c.loop-place.terms) c.args.outs.now.items c.loop-place.outs.items c.loop-place.place all c.loop-place.invariant.on
 
 pub returns-clause-few : goal.returns-clause-few
-returns-clause-few c = omega (arith, c.loop-place.invariant.few, c.loop-place.auto.place-end)
+returns-clause-few g c = omega (arith, c.loop-place.invariant.few, c.loop-place.auto.place-end)

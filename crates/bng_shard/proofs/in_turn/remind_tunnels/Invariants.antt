@@ -6,7 +6,7 @@ use Rattle.bng_shard.proofs.Reminding.{RemindsOn}
 use Rattle.bng_shard.proofs.in_turn.remind_tunnels.Given as goal
 
 abbrev pub invariant-loop-place : goal.invariant-loop-place
-invariant-loop-place l = record {
+invariant-loop-place g l = record {
   on : RemindsOn l.place l.at l.now (whole l.fn.served l.fn.terms) (whole l.served l.terms) l.fn.outs.items l.outs.items;
   sums : KeepSums l.fn.terms l.terms;
   shard : l.served.sessions.shard ≡ l.fn.served.sessions.shard;

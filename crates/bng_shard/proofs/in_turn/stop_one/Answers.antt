@@ -9,11 +9,11 @@ use Rattle.bng_shard.proofs.Tunnelling.{others_kept, payloads_length}
 use Rattle.bng_shard.proofs.in_turn.stop_one.Goals as goal
 
 pub send_datagrams-requires : goal.send_datagrams-requires
-send_datagrams-requires c =
+send_datagrams-requires g c =
     record { room = omega (arith, c.requires.room, c.in-Some.ensures.one, payloads_length c.in-Some.told.step.outs.items, ap length c.as_slice.ensures.value) }
 
 pub returns-in-Some-clause-told : goal.returns-in-Some-clause-told
-returns-in-Some-clause-told c =
+returns-in-Some-clause-told g c =
     let told = c.in-Some.told in
     let frames = payloads told.step.outs.items in
     record {
@@ -26,14 +26,14 @@ returns-in-Some-clause-told c =
     }
 
 pub returns-in-Some-clause-others : goal.returns-in-Some-clause-others
-returns-in-Some-clause-others c = others_kept c.args.served.now c.stop_tunnel.new.self (stopped c.args.now c.args.served.now.tunnels c.args.place).after c.stop_tunnel.ensures.after
+returns-in-Some-clause-others g c = others_kept c.args.served.now c.stop_tunnel.new.self (stopped c.args.now c.args.served.now.tunnels c.args.place).after c.stop_tunnel.ensures.after
 
 pub returns-in-Some-clause-few : goal.returns-in-Some-clause-few
-returns-in-Some-clause-few c =
+returns-in-Some-clause-few g c =
     omega (arith, c.send_datagrams.ensures.few, c.in-Some.ensures.one, payloads_length c.in-Some.told.step.outs.items, ap length c.as_slice.ensures.value)
 
 pub returns-in-None-clause-told : goal.returns-in-None-clause-told
-returns-in-None-clause-told c = record {
+returns-in-None-clause-told g c = record {
   more = [];
   tells = record {
     tells = subst (λ (o : Option Telling). TellsIts c.args.at o []) c.in-None.ensures.told refl;
@@ -43,4 +43,4 @@ returns-in-None-clause-told c = record {
 }
 
 pub returns-in-None-clause-others : goal.returns-in-None-clause-others
-returns-in-None-clause-others c = others_kept c.args.served.now c.stop_tunnel.new.self (stopped c.args.now c.args.served.now.tunnels c.args.place).after c.stop_tunnel.ensures.after
+returns-in-None-clause-others g c = others_kept c.args.served.now c.stop_tunnel.new.self (stopped c.args.now c.args.served.now.tunnels c.args.place).after c.stop_tunnel.ensures.after

@@ -12,34 +12,34 @@ use Rattle.bng_shard.proofs.Tunnelling.{message_passed, message_taken, message_u
 use Rattle.bng_shard.proofs.l2tp.hear_message.Goals as goal
 
 pub take_step-requires-clause-taken : goal.take_step-requires-clause-taken
-take_step-requires-clause-taken c = c.in-Step.ensures.taken
+take_step-requires-clause-taken g c = c.in-Step.ensures.taken
 
 pub take_step-requires-clause-placed : goal.take_step-requires-clause-placed
-take_step-requires-clause-placed c = subst (λ (s : State). ArePlaced c.args.incoming.now.rules.now s.sessions) (sym c.take_message.ensures.after) c.requires.placed
+take_step-requires-clause-placed g c = subst (λ (s : State). ArePlaced c.args.incoming.now.rules.now s.sessions) (sym c.take_message.ensures.after) c.requires.placed
 
 pub take_step-requires-clause-here : goal.take_step-requires-clause-here
-take_step-requires-clause-here c = c.requires.here ∙ sym (ap (λ (s : State). s.sessions.shard) c.take_message.ensures.after)
+take_step-requires-clause-here g c = c.requires.here ∙ sym (ap (λ (s : State). s.sessions.shard) c.take_message.ensures.after)
 
 pub returns-in-Unknown-clause-does : goal.returns-in-Unknown-clause-does
-returns-in-Unknown-clause-does c =
+returns-in-Unknown-clause-does g c =
     let t = c.args.terms.now in
     message_unknown c.args.incoming.now.rules.now (whole c.args.served.now t) (whole c.take_message.new.self t) c.args.outs.now.items c.args.outs.now.items c.args.incoming.now.at c.args.incoming.now.moment c.args.incoming.now.item.now (control_of c.args.message.now)
     c.in-Unknown.ensures.answer (ap (λ (s : State). whole s t) c.take_message.ensures.after) refl
 
 pub returns-in-Unknown-clause-sums : goal.returns-in-Unknown-clause-sums
-returns-in-Unknown-clause-sums c = keeps_same c.args.terms.now
+returns-in-Unknown-clause-sums g c = keeps_same c.args.terms.now
 
 pub returns-in-Passed-clause-does : goal.returns-in-Passed-clause-does
-returns-in-Passed-clause-does c =
+returns-in-Passed-clause-does g c =
     let t = c.args.terms.now in
     message_passed c.args.incoming.now.rules.now (whole c.args.served.now t) (whole c.take_message.new.self t) c.args.outs.now.items c.args.outs.now.items c.args.incoming.now.at c.args.incoming.now.moment c.args.incoming.now.item.now (control_of c.args.message.now)
     c.in-Passed.ensures.answer (ap (λ (s : State). whole s t) c.take_message.ensures.after) refl
 
 pub returns-in-Passed-clause-sums : goal.returns-in-Passed-clause-sums
-returns-in-Passed-clause-sums c = keeps_same c.args.terms.now
+returns-in-Passed-clause-sums g c = keeps_same c.args.terms.now
 
 pub returns-in-Step-clause-does : goal.returns-in-Step-clause-does
-returns-in-Step-clause-does c =
+returns-in-Step-clause-does g c =
     let r = c.args.incoming.now.rules.now in
     let s = whole c.args.served.now c.args.terms.now in
     let s' = whole c.take_step.new.served c.take_step.new.terms in

@@ -7,10 +7,10 @@ use Rattle.bng_shard.proofs.Arriving.{does_more}
 use Rattle.bng_shard.proofs.l2tp.hear_read.Goals as goal
 
 pub hear_tunnel_data-requires-clause-came : goal.hear_tunnel_data-requires-clause-came
-hear_tunnel_data-requires-clause-came c = subst (IsReadAs c.args.incoming.now.item.now.cut c.args.incoming.now.item.now.frame.payload) c.in-Data.is c.requires.read
+hear_tunnel_data-requires-clause-came g c = subst (IsReadAs c.args.incoming.now.item.now.cut c.args.incoming.now.item.now.frame.payload) c.in-Data.is c.requires.read
 
 pub returns-in-Control-clause-does : goal.returns-in-Control-clause-does
-returns-in-Control-clause-does c =
+returns-in-Control-clause-does g c =
     let r = c.args.incoming.now.rules.now in
     let s = whole c.args.served.now c.args.terms.now in
     let item = c.args.incoming.now.item.now in
@@ -20,7 +20,7 @@ returns-in-Control-clause-does c =
     (omega arith) (λ d says. inr (inl (m, read, says))) c.hear_message.ensures.does
 
 pub returns-in-Data-clause-does : goal.returns-in-Data-clause-does
-returns-in-Data-clause-does c =
+returns-in-Data-clause-does g c =
     let r = c.args.incoming.now.rules.now in
     let s = whole c.args.served.now c.args.terms.now in
     let item = c.args.incoming.now.item.now in

@@ -10,11 +10,11 @@ use Rattle.bng_shard.proofs.SumsKept.{keeps_same}
 use Rattle.bng_shard.proofs.l2tp.hear_tunnel_data.Goals as goal
 
 pub pass_over-requires-clause-short : goal.pass_over-requires-clause-short
-pass_over-requires-clause-short c =
+pass_over-requires-clause-short g c =
     omega (arith, c.requires.long, info_short c.args.incoming.now.item.now.frame.payload (data_of c.args.message.now) c.in-Some.info.now c.requires.came.message c.in-Some.ensures.found)
 
 pub returns-in-Some-clause-does : goal.returns-in-Some-clause-does
-returns-in-Some-clause-does c =
+returns-in-Some-clause-does g c =
     let r = c.args.incoming.now.rules.now in
     let s = whole c.args.served.now c.args.terms.now in
     let item = c.args.incoming.now.item.now in
@@ -23,10 +23,10 @@ returns-in-Some-clause-does c =
     (omega arith) (λ d says. inl (c.in-Some.info.now, c.in-Some.ensures.found, says)) c.pass_over.ensures.does
 
 pub returns-in-Some-clause-sums : goal.returns-in-Some-clause-sums
-returns-in-Some-clause-sums c = keeps_same c.args.terms.now
+returns-in-Some-clause-sums g c = keeps_same c.args.terms.now
 
 pub returns-in-None-clause-does : goal.returns-in-None-clause-does
-returns-in-None-clause-does c =
+returns-in-None-clause-does g c =
     let r = c.args.incoming.now.rules.now in
     let s = whole c.args.served.now c.args.terms.now in
     let item = c.args.incoming.now.item.now in

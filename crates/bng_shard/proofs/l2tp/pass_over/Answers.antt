@@ -8,7 +8,7 @@ use Rattle.bng_shard.specs.State.{call_of}
 use Rattle.bng_shard.proofs.l2tp.pass_over.Goals as goal
 
 pub returns-clause-does : goal.returns-clause-does
-returns-clause-does c =
+returns-clause-does g c =
     let r = c.args.incoming.now.rules.now in
     let s = whole c.args.served.now c.args.terms.now in
     let s' = whole c.pass_up.new.served c.args.terms.now in

@@ -15,16 +15,16 @@ use Rattle.bng_shard.proofs.Tunnelling.{payloads_length, tunnel_outs_length}
 use Rattle.bng_shard.proofs.l2tp.take_step.Goals as goal
 
 pub send_datagrams-requires : goal.send_datagrams-requires
-send_datagrams-requires c = record { room = omega (arith, c.requires.room, c.requires.taken.few, payloads_length c.args.heard.outs.items, ap length c.as_slice.ensures.value) }
+send_datagrams-requires g c = record { room = omega (arith, c.requires.room, c.requires.taken.few, payloads_length c.args.heard.outs.items, ap length c.as_slice.ensures.value) }
 
 pub returns-then-heard-clause-does : goal.returns-then-heard-clause-does
-returns-then-heard-clause-does c =
+returns-then-heard-clause-does g c =
     let s = whole c.args.served.now c.args.terms.now in
     subst (λ (b : Bool). DoesWith (λ e d. TakesStep b c.args.number.0 (said c.args.heard) (control_of c.args.message.now) c.args.incoming.now.rules.now s e c.args.served.now.tunnels d) 10 s (whole c.hear_call.new.served c.hear_call.new.terms)
     c.args.outs.now.items c.hear_call.new.outs.items c.args.incoming.now.at c.args.incoming.now.moment c.args.incoming.now.item.now Consumed) (sym c.if-heard.true) c.hear_call.ensures.does
 
 pub returns-else-heard-clause-does : goal.returns-else-heard-clause-does
-returns-else-heard-clause-does c =
+returns-else-heard-clause-does g c =
     let r = c.args.incoming.now.rules.now in
     let s = whole c.args.served.now c.args.terms.now in
     let a = c.args.incoming.now.at in

@@ -15,11 +15,11 @@ use Rattle.bng_shard.proofs.Tunnelling.{others_kept, payloads_length, tunnel_out
 use Rattle.bng_shard.proofs.parting.hang_up.Goals as goal
 
 pub send_datagrams-requires : goal.send_datagrams-requires
-send_datagrams-requires c =
+send_datagrams-requires g c =
     record { room = omega (arith, c.requires.room, c.in-Some.ensures.one, payloads_length c.in-Some.step.outs.items, ap length c.as_slice.ensures.value) }
 
 pub returns-in-Some-clause-told : goal.returns-in-Some-clause-told
-returns-in-Some-clause-told c =
+returns-in-Some-clause-told g c =
     let (t, stands, told, after) = c.in-Some.ensures.told in
     let a = c.args.incoming.now.at in
     let now = c.args.incoming.now.moment in
@@ -36,20 +36,20 @@ returns-in-Some-clause-told c =
     )
 
 pub returns-in-Some-clause-called : goal.returns-in-Some-clause-called
-returns-in-Some-clause-called c = ap (λ (k : CallState). let called : Called = record c.args.called.now { call = k } in called) c.hang_up.ensures.call
+returns-in-Some-clause-called g c = ap (λ (k : CallState). let called : Called = record c.args.called.now { call = k } in called) c.hang_up.ensures.call
 
 pub returns-in-Some-clause-others : goal.returns-in-Some-clause-others
-returns-in-Some-clause-others c =
+returns-in-Some-clause-others g c =
     let (t, stands, told, after) = c.in-Some.ensures.told in
     let now = c.args.incoming.now.moment in
     others_kept c.args.served.now c.hang_up.new.self (with_step now c.args.served.now.tunnels c.args.called.now.tunnel.0 (parted t c.args.called.now.call now).after) after
 
 pub returns-in-Some-clause-few : goal.returns-in-Some-clause-few
-returns-in-Some-clause-few c =
+returns-in-Some-clause-few g c =
     omega (arith, c.send_datagrams.ensures.few, c.in-Some.ensures.one, payloads_length c.in-Some.step.outs.items, ap length c.as_slice.ensures.value)
 
 pub returns-in-None-clause-told : goal.returns-in-None-clause-told
-returns-in-None-clause-told c =
+returns-in-None-clause-told g c =
     let (gone, same) = c.in-None.ensures.none in (
       [],
       subst (λ (o : Option TunnelState). HangsUp o c.args.called.now c.args.incoming.now.at c.args.incoming.now.moment c.args.served.now.tunnels [] c.hang_up.new.self.tunnels) (sym gone) (refl, ap (λ (u : State). u.tunnels) same),
@@ -58,9 +58,9 @@ returns-in-None-clause-told c =
     )
 
 pub returns-in-None-clause-called : goal.returns-in-None-clause-called
-returns-in-None-clause-called c = ap (λ (k : CallState). let called : Called = record c.args.called.now { call = k } in called) c.hang_up.ensures.call
+returns-in-None-clause-called g c = ap (λ (k : CallState). let called : Called = record c.args.called.now { call = k } in called) c.hang_up.ensures.call
 
 pub returns-in-None-clause-others : goal.returns-in-None-clause-others
-returns-in-None-clause-others c =
+returns-in-None-clause-others g c =
     let (gone, same) = c.in-None.ensures.none in
     others_kept c.args.served.now c.hang_up.new.self c.args.served.now.tunnels same

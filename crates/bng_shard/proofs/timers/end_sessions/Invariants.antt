@@ -5,7 +5,7 @@ use Rattle.bng_shard.proofs.Timing.{EndsOn}
 use Rattle.bng_shard.proofs.timers.end_sessions.Given as goal
 
 abbrev pub invariant-loop : goal.invariant-loop
-invariant-loop l = record {
+invariant-loop g l = record {
   on : EndsOn l.counter l.rules l.at (whole l.fn.served l.fn.terms) (whole l.served l.terms) l.fn.outs.items l.outs.items;
   sums : KeepSums l.fn.terms l.terms;
   placed : ArePlaced l.rules l.served.sessions;

@@ -13,7 +13,7 @@ over_leased at None now cause e = absurd (none_some cause e)
 over_leased at (Some l) now cause e = refl
 
 pub returns-clause-looked : goal.returns-clause-looked
-returns-clause-looked c =
+returns-clause-looked g c =
     let r = c.args.incoming.now.rules.now in
     let a = c.args.incoming.now.at in
     let now = c.args.incoming.now.moment in
@@ -25,6 +25,6 @@ returns-clause-looked c =
     (subst (λ (y : Session). LostTerm y.service c.in-Some.cause r a now random before y c.end_term.new.session after c.args.terms.now c.end_term.new.terms c.args.outs.now.items c.end_term.new.outs.items) c.in-Some.ensures.over c.end_term.ensures.lost)
 
 pub returns-clause-few : goal.returns-clause-few
-returns-clause-few c =
+returns-clause-few g c =
     let some = over_leased c.args.passed c.args.session.now.lease c.args.incoming.now.moment c.in-Some.cause (sym c.in-Some.ensures.cause) in
     c.end_term.ensures.fewer (subst (λ (y : Session). IsSome y.lease) (sym c.in-Some.ensures.over) some)

@@ -5,7 +5,7 @@ use Rattle.bng_shard.proofs.Timing.{TicksOn}
 use Rattle.bng_shard.proofs.timers.tick_sessions.Given as goal
 
 abbrev pub invariant-loop : goal.invariant-loop
-invariant-loop l = record {
+invariant-loop g l = record {
   on : TicksOn l.counter l.incoming.rules.now l.incoming.at l.incoming.moment l.incoming.item.now.random (whole l.fn.served l.fn.terms) (whole l.served l.terms) l.fn.outs.items l.outs.items;
   sums : KeepSums l.fn.terms l.terms;
   placed : ArePlaced l.incoming.rules.now l.served.sessions;

@@ -7,7 +7,7 @@ use Rattle.bng_shard.proofs.Wishing.{Answered}
 use Rattle.bng_shard.proofs.verdicts.hear_verdict.Goals as goal
 
 pub returns-then-ne-clause-does : goal.returns-then-ne-clause-does
-returns-then-ne-clause-does c =
+returns-then-ne-clause-does g c =
     let s = whole c.args.served.now c.args.terms.now in
     let other = other_ask c.open_ask.result c.args.incoming.now.item.now.ask (sym c.ne.ensures ∙ c.if-ne.true) in
     let not_asked : ¬ (open_ask_at c.args.served.now c.args.incoming.now.item.now.target ≡ Some c.args.incoming.now.item.now.ask) = λ e. other (c.open_ask.ensures ∙ e) in
@@ -15,13 +15,13 @@ returns-then-ne-clause-does c =
     (answered_other c.args.incoming.now.rules.now c.args.served.now c.args.incoming.now.item.now c.args.limited c.args.claim c.requires.kind c.requires.asked not_asked)
 
 pub told_for-requires-clause-answered : goal.told_for-requires-clause-answered
-told_for-requires-clause-answered c =
+told_for-requires-clause-answered g c =
     let asked = sym c.open_ask.ensures ∙ same_ask c.open_ask.result c.args.incoming.now.item.now.ask (sym c.ne.ensures ∙ c.if-ne.false) in
     subst (λ (octets : List ℕ). Answered c.args.incoming.now.rules.now c.args.limited octets c.args.claim) (sym c.payload.ensures.octets)
     (answered_open c.args.incoming.now.rules.now c.args.served.now c.args.incoming.now.item.now c.args.limited c.args.claim c.requires.kind c.requires.asked asked)
 
 pub returns-in_default-clause-does : goal.returns-in_default-clause-does
-returns-in_default-clause-does c =
+returns-in_default-clause-does g c =
     let rules = c.args.incoming.now.rules.now in
     let item = c.args.incoming.now.item.now in
     let asked = sym c.open_ask.ensures ∙ same_ask c.open_ask.result item.ask (sym c.ne.ensures ∙ c.if-ne.false) in
@@ -29,7 +29,7 @@ returns-in_default-clause-does c =
     no_verdict rules (whole c.args.served.now c.args.terms.now) c.args.limited c.args.incoming.now.at c.args.incoming.now.moment item c.args.claim c.args.outs.now.items asked decides
 
 pub settle_question-requires-clause-begins : goal.settle_question-requires-clause-begins
-settle_question-requires-clause-begins c a leased =
+settle_question-requires-clause-begins g c a leased =
     let rules = c.args.incoming.now.rules.now in
     let item = c.args.incoming.now.item.now in
     let decides = subst (λ (octets : List ℕ). Decides rules c.args.limited octets c.args.claim (Some c.in-Some.told)) c.payload.ensures.octets c.in-Some.ensures in
@@ -37,12 +37,12 @@ settle_question-requires-clause-begins c a leased =
     (claimed.0, c.requires.begins a claimed.1)
 
 pub settle_question-requires-clause-asks : goal.settle_question-requires-clause-asks
-settle_question-requires-clause-asks c =
+settle_question-requires-clause-asks g c =
     let asked = sym c.open_ask.ensures ∙ same_ask c.open_ask.result c.args.incoming.now.item.now.ask (sym c.ne.ensures ∙ c.if-ne.false) in
     asks_there c.args.served.now c.args.incoming.now.item.now.target c.args.incoming.now.item.now.ask asked
 
 pub returns-clause-does : goal.returns-clause-does
-returns-clause-does c =
+returns-clause-does g c =
     let rules = c.args.incoming.now.rules.now in
     let item = c.args.incoming.now.item.now in
     let asked = sym c.open_ask.ensures ∙ same_ask c.open_ask.result item.ask (sym c.ne.ensures ∙ c.if-ne.false) in

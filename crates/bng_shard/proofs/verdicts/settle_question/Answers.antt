@@ -20,14 +20,14 @@ use Rattle.bng_shard.proofs.TermBegins.{SettledFor, back, begun_keeps, driven_so
 use Rattle.bng_shard.proofs.verdicts.settle_question.Goals as goal
 
 pub put-requires-clause-vacant : goal.put-requires-clause-vacant
-put-requires-clause-vacant c =
+put-requires-clause-vacant g c =
     let number = c.drive-asked.ensures.number ∙ c.take-session.ensures.number in
     ap (λ (s : State). value_at s.sessions c.drive-asked.new.session.number.0) c.count_asked.ensures
     ∙ vacant_back (with_tunnels c.args.served.now c.drive-asked.new.served.tunnels) c.drive-asked.new.served c.args.number.0 c.drive-asked.new.session.number.0
     (taken_still c.args.served.now c.take-session.new.self c.drive-asked.new.served c.args.number.0 c.drive-asked.new.served.tunnels c.take-session.ensures.after c.drive-asked.ensures.others) (ap (λ n. n.0) number)
 
 pub returns-in_default-clause-settled : goal.returns-in_default-clause-settled
-returns-in_default-clause-settled c x q found asks =
+returns-in_default-clause-settled g c x q found asks =
     let r = c.args.incoming.now.rules.now in
     let s = c.args.served.now in
     let inside = c.told.inside in
@@ -62,7 +62,7 @@ returns-in_default-clause-settled c x q found asks =
     )
 
 pub put-requires-2-clause-vacant : goal.put-requires-2-clause-vacant
-put-requires-2-clause-vacant c =
+put-requires-2-clause-vacant g c =
     let x' = c.drive-asked.new.session in
     let number = c.drive-asked.ensures.number ∙ c.take-session.ensures.number in
     ap (λ (y : Session). value_at c.begin_term.new.served.sessions y.number.0) c.begin_term.ensures.session
@@ -72,15 +72,15 @@ put-requires-2-clause-vacant c =
     (taken_still c.args.served.now c.take-session.new.self c.drive-asked.new.served c.args.number.0 c.drive-asked.new.served.tunnels c.take-session.ensures.after c.drive-asked.ensures.others) (ap (λ n. n.0) number)
 
 pub put-requires-2-clause-apart : goal.put-requires-2-clause-apart
-put-requires-2-clause-apart c =
+put-requires-2-clause-apart g c unique =
     let s = c.args.served.now in
     let may = (c.requires.begins c.in-Some.address (ap (λ (t : Told). t.lease) (sym c.told.view_is) ∙ c.in-Some.is)).1 in
     let sessions = ap (λ (u : State). u.sessions) c.begin_term.ensures.served ∙ ap (λ (u : State). u.sessions) c.count_asked.ensures ∙ ap (λ (u : State). u.sessions) c.drive-asked.ensures.others ∙ ap (λ (u : State). u.sessions) c.take-session.ensures.after in
     shares_begun s.sessions c.begin_term.new.served.sessions c.args.number.0 c.in-Some.address c.args.terms.now.rows c.begin_term.new.session (next_lease c.count_asked.new.self c.told.inside.plan c.told.inside.limits c.args.incoming.now.moment c.in-Some.address) sessions
-    (ap (λ (y : Session). y.lease) c.begin_term.ensures.session) refl may.tied may.free
+    (ap (λ (y : Session). y.lease) c.begin_term.ensures.session) refl may.tied (may.free unique)
 
 pub put-requires-2-clause-leased : goal.put-requires-2-clause-leased
-put-requires-2-clause-leased c =
+put-requires-2-clause-leased g c =
     let r = c.args.incoming.now.rules.now in
     let inside = c.told.inside in
     let t : Told = record { yes = inside.yes; lease = inside.lease; text = inside.text.items; class = inside.class.items; limits = inside.limits; plan = inside.plan } in
@@ -102,7 +102,7 @@ put-requires-2-clause-leased c =
     (next_lease c.count_asked.new.self c.told.inside.plan c.told.inside.limits c.args.incoming.now.moment c.in-Some.address))
 
 pub returns-clause-settled : goal.returns-clause-settled
-returns-clause-settled c x q found asks =
+returns-clause-settled g c x q found asks =
     let r = c.args.incoming.now.rules.now in
     let s = c.args.served.now in
     let inside = c.told.inside in

@@ -8,13 +8,13 @@ use Rattle.bng_shard.specs.State.{State, with_tunnels}
 use Rattle.bng_shard.proofs.served.Served.answer_call.Goals as goal
 
 pub answer-requires-clause-stands : goal.answer-requires-clause-stands
-answer-requires-clause-stands c = subst (λ (s : State). IsSome (tunnel_at s.tunnels c.args.number.0)) (sym c.self.view_is) c.requires.stands
+answer-requires-clause-stands g c = subst (λ (s : State). IsSome (tunnel_at s.tunnels c.args.number.0)) (sym c.self.view_is) c.requires.stands
 
 pub returns-clause-said : goal.returns-clause-said
-returns-clause-said c = λ t e. c.answer.ensures.said t (ap (λ (s : State). tunnel_at s.tunnels c.args.number.0) c.self.view_is ∙ e)
+returns-clause-said g c = λ t e. c.answer.ensures.said t (ap (λ (s : State). tunnel_at s.tunnels c.args.number.0) c.self.view_is ∙ e)
 
 pub returns-clause-after : goal.returns-clause-after
-returns-clause-after c = λ t e.
+returns-clause-after g c = λ t e.
     let there : tunnel_at c.self.inside.tunnels c.args.number.0 ≡ Some t = ap (λ (s : State). tunnel_at s.tunnels c.args.number.0) c.self.view_is ∙ e in
     let step : TunnelState = (exchanged t (said c.args.heard) c.args.call.now (control_of c.args.message.now) c.args.now).after in
     let after : c.answer.new.self ≡ with_step c.args.now c.args.self.now.tunnels c.args.number.0 step =

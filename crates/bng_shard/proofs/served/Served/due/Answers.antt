@@ -6,7 +6,7 @@ use Rattle.bng_shard.specs.State.{State}
 use Rattle.bng_shard.proofs.served.Served.due.Goals as goal
 
 pub returns : goal.returns
-returns c =
+returns g c =
     c.earlier.ensures
     ∙ ap (λ (o : Option ℕ). earliest o c.due.result) c.sessions_due.ensures
     ∙ ap (λ (o : Option ℕ). earliest (sessions_due c.args.self.now) o) (c.due.ensures ∙ ap (λ (s : State). tunnels_due s.tunnels) c.self.view_is)

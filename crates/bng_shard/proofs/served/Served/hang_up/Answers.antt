@@ -6,11 +6,11 @@ use Rattle.bng_shard.proofs.Tunnelling.{standing}
 use Rattle.bng_shard.proofs.served.Served.hang_up.Goals as goal
 
 pub hang_up-requires : goal.hang_up-requires
-hang_up-requires c =
+hang_up-requires g c =
     record { stands = subst (λ (s : State). IsSome (tunnel_at s.tunnels c.args.number.0)) (sym c.self.view_is) (sym c.has_tunnel.ensures ∙ c.if-not-has_tunnel.false) }
 
 pub returns-clause-told : goal.returns-clause-told
-returns-clause-told c =
+returns-clause-told g c =
     let n = c.args.number.0 in
     let k = c.args.call.now in
     let (t, stands) = standing (tunnel_at c.args.self.now.tunnels n) (sym c.has_tunnel.ensures ∙ c.if-not-has_tunnel.false) in

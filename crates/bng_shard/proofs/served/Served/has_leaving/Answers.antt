@@ -6,14 +6,14 @@ use Rattle.bng_shard.proofs.Idle.{all_stay, is_nothing, is_something, none_liste
 use Rattle.bng_shard.proofs.served.Served.has_leaving.Goals as goal
 
 pub returns-clause-none : goal.returns-clause-none
-returns-clause-none c is =
-    let s = c.self.inside.sessions in
+returns-clause-none g c is =
+    let s = (g.S.Store.sessions c.self.inside.sessions) in
     let empty = sym c.as_slice.ensures.value ∙ is_nothing c.as_slice.result.now c.is_empty.result c.is_empty.ensures is in
     rw (← c.self.view_is) (all_stay s (subst (λ (ns : List SessionNo). AreLeaving s ns) empty c.self.invariant.leaving))
 
 pub returns-clause-some : goal.returns-clause-some
-returns-clause-some c is stay =
+returns-clause-some g c is stay =
     let numbers = c.as_slice.result.now in
     let counted = c.self.invariant.counted ∙ ap length (sym c.as_slice.ensures.value) in
     let same = subst (λ (v : State). (reaped v).sessions ≡ v.sessions) (sym c.self.view_is) stay in
-    is_something numbers c.is_empty.result c.is_empty.ensures is (none_listed c.self.inside.sessions numbers counted same)
+    is_something numbers c.is_empty.result c.is_empty.ensures is (none_listed (g.S.Store.sessions c.self.inside.sessions) numbers counted same)

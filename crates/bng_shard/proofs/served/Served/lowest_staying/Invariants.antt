@@ -5,4 +5,4 @@ use Rattle.bng_shard.specs.State.{leaves}
 use Rattle.bng_shard.proofs.served.Served.lowest_staying.Given as goal
 
 abbrev pub invariant-loop-n : goal.invariant-loop-n
-invariant-loop-n l = (m : ℕ) (x : Session) → l.first ≤ m → m < l.n → value_at l.self-inside.sessions m ≡ Some x → leaves x ≡ true
+invariant-loop-n g l = (m : ℕ) (x : Session) → l.first ≤ m → m < l.n → value_at (g.S.Store.sessions l.self-inside.sessions) m ≡ Some x → leaves x ≡ true

@@ -9,7 +9,7 @@ use Rattle.bng_shard.proofs.Values.{same_some}
 use Rattle.bng_shard.proofs.served.Served.new_call.Goals as goal
 
 pub returns : goal.returns
-returns c = λ t stands.
+returns g c = λ t stands.
     let k = c.args.session.0 in
     let same : c.in-Some.tunnel.now ≡ t = same_some c.in-Some.tunnel.now t (c.in-Some.ensures ∙ ap (λ (s : State). tunnel_at s.tunnels c.args.number.0) c.self.view_is ∙ stands) in
     let none : c.new-call.result ≡ fresh t.secret k = c.new-call.ensures.fresh ∙ ap (λ (o : Option (List ℕ)). fresh o k) (c.secret.ensures ∙ ap (λ (x : TunnelState). x.secret) same) in

@@ -11,10 +11,10 @@ use Rattle.bng_shard.proofs.Settling.{Settles, apart_left, leased_left, ended_no
 use Rattle.bng_shard.proofs.served.Served.settle.Goals as goal
 
 pub loop-number-init : goal.loop-number-init
-loop-number-init c =
+loop-number-init g c =
     let is = c.self.invariant in
     rw (← c.self.view_is) (record {
-      settles = settles_none c.self.inside.sessions c.self.inside.leaving.items is.leaving;
+      settles = settles_none (g.S.Store.sessions c.self.inside.sessions) c.self.inside.leaving.items is.leaving;
       own = is.own;
       of_shard = is.of_shard;
       apart = is.apart;
@@ -37,9 +37,9 @@ loop-number-init c =
     })
 
 pub loop-number-preserved : goal.loop-number-preserved
-loop-number-preserved c =
+loop-number-preserved g c =
     let s0 = c.args.self.now.sessions in
-    let s = c.loop-number.self-inside.sessions in
+    let s = (g.S.Store.sessions c.loop-number.self-inside.sessions) in
     let numbers = c.pop.new.self.items in
     let was = c.loop-number.invariant in
     let h : Settles s0 s (numbers ++ c.in-Some.number ∷ []) = subst (λ (ns : List SessionNo). Settles s0 s ns) c.in-Some.ensures.items was.settles in
@@ -69,9 +69,9 @@ loop-number-preserved c =
     }
 
 pub invariant_of-self : goal.invariant_of-self
-invariant_of-self c =
+invariant_of-self g c =
     let s0 = c.args.self.now.sessions in
-    let s = c.loop-number.self-inside.sessions in
+    let s = (g.S.Store.sessions c.loop-number.self-inside.sessions) in
     let was = c.loop-number.invariant in
     let zero_before = c.in_default.ensures.cases.0 in
     let before : length c.loop-number.self-inside.leaving.items ≡ 0 = omega (arith, zero_before) in
@@ -84,7 +84,7 @@ invariant_of-self c =
     record {
       own = own_left s0 s h was.own;
       of_shard = of_shard_left s0 s h was.of_shard;
-      apart = apart_left s0 s h was.apart;
+      apart = λ unique. apart_left s0 s h (was.apart unique);
       leased = leased_left s0 s h was.leased;
       leaving = subst (λ (ns : List SessionNo). AreLeaving s ns) (sym gone) (leaving_none s0 s h);
       counted = ended_none s0 s h ∙ sym after;
@@ -101,9 +101,9 @@ invariant_of-self c =
     }
 
 pub returns : goal.returns
-returns c =
+returns g c =
     let s0 = c.args.self.now.sessions in
-    let s = c.loop-number.self-inside.sessions in
+    let s = (g.S.Store.sessions c.loop-number.self-inside.sessions) in
     let was = c.loop-number.invariant in
     let zero_before = c.in_default.ensures.cases.0 in
     let before : length c.loop-number.self-inside.leaving.items ≡ 0 = omega (arith, zero_before) in

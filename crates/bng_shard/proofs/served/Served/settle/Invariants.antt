@@ -1,4 +1,4 @@
-use Rattle.std.proofs.Common.{◌≡◌, ◌<◌, ◌^◌, length, vec_capacity}
+use Rattle.std.proofs.Common.{◌≡◌, ◌<◌, ◌^◌, length, vec_capacity, true}
 use Rattle.std.specs.List.{All}
 use Rattle.bng_shard.specs.Listing.{passing_in}
 use Rattle.bng_shard.specs.Serving.{AreApart, AreLeased, AreAsking, AreOfShard, AreOwn, AreYoung, asks, is_young}
@@ -6,11 +6,11 @@ use Rattle.bng_shard.proofs.Settling.{Settles}
 use Rattle.bng_shard.proofs.served.Served.settle.Given as goal
 
 abbrev pub invariant-loop-number : goal.invariant-loop-number
-invariant-loop-number l = record {
-  settles : Settles l.fn.self.sessions l.self-inside.sessions l.self-inside.leaving.items;
+invariant-loop-number g l = record {
+  settles : Settles l.fn.self.sessions (g.S.Store.sessions l.self-inside.sessions) l.self-inside.leaving.items;
   own : AreOwn l.fn.self.sessions;
   of_shard : AreOfShard l.fn.self.sessions;
-  apart : AreApart l.fn.self.sessions;
+  apart : g.S.Store.unique ≡ true → AreApart l.fn.self.sessions;
   leased : AreLeased l.fn.self.sessions;
   begun : l.self-inside.begun ≡ l.fn.self.begun;
   asked : l.self-inside.asked ≡ l.fn.self.asked;
@@ -30,4 +30,4 @@ invariant-loop-number l = record {
 }
 
 abbrev pub decreases-loop-number : goal.decreases-loop-number
-decreases-loop-number l = length l.self-inside.leaving.items
+decreases-loop-number g l = length l.self-inside.leaving.items

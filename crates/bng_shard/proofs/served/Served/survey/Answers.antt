@@ -5,7 +5,7 @@ use Rattle.bng_shard.proofs.Owing.{first_is}
 use Rattle.bng_shard.proofs.served.Served.survey.Goals as goal
 
 pub returns-then-at-now : goal.returns-then-at-now
-returns-then-at-now c =
+returns-then-at-now g c =
     let number = c.shard.ensures.number in
     let same = ap (λ (s : State). s.sessions.shard) c.self.view_is in
     let own = subst (λ (s : State). AreOwn s.sessions) c.self.view_is c.self.invariant.own in

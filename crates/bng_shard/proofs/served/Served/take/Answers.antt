@@ -12,8 +12,8 @@ use Rattle.bng_shard.proofs.Values.{same_some}
 use Rattle.bng_shard.proofs.served.Served.take.Goals as goal
 
 pub invariant_of-self : goal.invariant_of-self
-invariant_of-self c =
-    let s = c.self.inside.sessions in
+invariant_of-self g c =
+    let s = (g.S.Store.sessions c.self.inside.sessions) in
     let n = c.args.number.0 in
     let is = c.self.invariant in
     let x = stay_there (value_at s n) (rw (← c.self.view_is) at c.requires) in
@@ -26,7 +26,7 @@ invariant_of-self c =
     let numbers = c.self.inside.asking.items in
     let ended = c.self.inside.leaving.items in
     let same : without_listed leaves y ended ≡ ended = taken_none leaves y ended stays in
-    let gone : c.remove.new.self ≡ without s y.number.0 = c.remove.ensures.after ∙ ap (without s) (sym own) in
+    let gone : (g.S.Store.sessions c.remove.new.self) ≡ without s y.number.0 = c.remove.ensures.after ∙ ap (without s) (sym own) in
     let wide = is.asking_room in
     let same_room = c.unlist.ensures.capacity in
     let youths = c.self.inside.young.items in
@@ -35,17 +35,17 @@ invariant_of-self c =
     record {
       own = subst AreOwn after (own_take s n is.own);
       of_shard = subst AreOfShard after (of_shard_take s n is.of_shard);
-      apart = subst AreApart after (apart_take s n is.apart);
+      apart = λ unique. subst AreApart after (apart_take s n (is.apart unique));
       leased = subst AreLeased after (leased_take s n is.leased);
-      leaving = subst (λ (ns : List SessionNo). AreLeaving c.remove.new.self ns) same
+      leaving = subst (λ (ns : List SessionNo). AreLeaving (g.S.Store.sessions c.remove.new.self) ns) same
           (subst (λ (t : Sessions Session). AreLeaving t (without_listed leaves y ended)) (sym gone) (listed_take leaves s y ended is.leaving there));
       counted = ap (passing_in leaves) gone ∙ counted_take leaves s y ended is.leaving there is.counted ∙ ap (λ (ns : List SessionNo). length ns) same;
       room = is.room;
-      asking = subst (λ (ns : List SessionNo). AreAsking c.remove.new.self ns) (sym c.unlist.ensures.items)
+      asking = subst (λ (ns : List SessionNo). AreAsking (g.S.Store.sessions c.remove.new.self) ns) (sym c.unlist.ensures.items)
           (subst (λ (t : Sessions Session). AreAsking t (without_listed asks y numbers)) (sym gone) (listed_take asks s y numbers is.asking there));
       asking_counted = ap (passing_in asks) gone ∙ counted_take asks s y numbers is.asking there is.asking_counted ∙ ap (λ (ns : List SessionNo). length ns) (sym c.unlist.ensures.items);
       asking_room = omega (arith, wide, same_room);
-      young = subst (λ (ns : List SessionNo). AreYoung c.remove.new.self ns) (sym c.unlist_young.ensures.items)
+      young = subst (λ (ns : List SessionNo). AreYoung (g.S.Store.sessions c.remove.new.self) ns) (sym c.unlist_young.ensures.items)
           (subst (λ (t : Sessions Session). AreYoung t (without_listed is_young y youths)) (sym gone) (listed_take is_young s y youths is.young there));
       young_counted = ap (passing_in is_young) gone ∙ counted_take is_young s y youths is.young there is.young_counted ∙ ap (λ (ns : List SessionNo). length ns) (sym c.unlist_young.ensures.items);
       young_room = omega (arith, young_wide, young_same);
@@ -55,10 +55,10 @@ invariant_of-self c =
     }
 
 pub returns-clause-apart : goal.returns-clause-apart
-returns-clause-apart c =
-    let s = c.self.inside.sessions in
+returns-clause-apart g c unique =
+    let s = (g.S.Store.sessions c.self.inside.sessions) in
     subst (λ (t : Sessions Session). NoneShares address_of t c.in-Some.session) (sym c.remove.ensures.after)
-    (alone_take s c.args.number.0 c.in-Some.session c.self.invariant.apart (sym c.in-Some.ensures.value))
+    (alone_take s c.args.number.0 c.in-Some.session (c.self.invariant.apart unique) (sym c.in-Some.ensures.value))
 
 pub returns-clause-leased : goal.returns-clause-leased
-returns-clause-leased c = c.self.invariant.leased c.args.number.0 c.in-Some.session (sym c.in-Some.ensures.value)
+returns-clause-leased g c = c.self.invariant.leased c.args.number.0 c.in-Some.session (sym c.in-Some.ensures.value)

@@ -6,7 +6,7 @@ use Rattle.bng_shard.specs.State.{State, with_tunnels}
 use Rattle.bng_shard.proofs.served.Served.take_message.Goals as goal
 
 pub returns-clause-answer : goal.returns-clause-answer
-returns-clause-answer c =
+returns-clause-answer g c =
     let name = c.args.rules.now.link.name.items in
     let came = c.args.came.now in
     let m = control_of c.args.message.now in
@@ -15,7 +15,7 @@ returns-clause-answer c =
     ∙ ap (λ (s : State). (hear name c.args.rules.now.lacs s.tunnels came m).answer) c.self.view_is
 
 pub returns-clause-after : goal.returns-clause-after
-returns-clause-after c =
+returns-clause-after g c =
     let name = c.args.rules.now.link.name.items in
     let came = c.args.came.now in
     let m = control_of c.args.message.now in

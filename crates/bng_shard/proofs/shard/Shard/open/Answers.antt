@@ -15,16 +15,16 @@ use Rattle.bng_shard.proofs.shard.Shard.open.Goals as goal
 pub invariant_of-result : goal.invariant_of-result
 invariant_of-result c =
     let cs = c.args.circuits.now in
-    let rows = c.in-Ok-open.terms.rows in
-    let served = c.in-Ok.served in
-    let sessions : served.sessions ≡ (opened_slots c.args.number [] cs c.args.now).sessions = ap (λ (s : State). s.sessions) c.in-Ok.ensures.opened in
-    let begun : served.begun ≡ length cs = ap (λ (s : State). s.begun) c.in-Ok.ensures.opened in
+    let rows = c.in-Ok-open-2.terms.rows in
+    let served = c.in-Ok-open.served in
+    let sessions : served.sessions ≡ (opened_slots c.args.number [] cs c.args.now).sessions = ap (λ (s : State). s.sessions) c.in-Ok-open.ensures.opened in
+    let begun : served.begun ≡ length cs = ap (λ (s : State). s.begun) c.in-Ok-open.ensures.opened in
     let none : begun_in c.new.result.items ≡ 0 = ap (λ (es : List Entry). begun_in es) c.new.ensures in
     record {
-      numbered = opened_numbered c.args.number c.args.now served.begun cs rows c.requires.own begun c.in-Ok-open.ensures.terms;
-      numbered_news = subst (All (λ (r : Running). r.term.serial ≤ served.begun)) (sym c.in-Ok-open.ensures.none.0) (λ i d lt. absurd (omega (arith, lt)));
-      apart = opened_rows_apart c.args.number c.args.now cs rows c.requires.sessions c.requires.addresses c.in-Ok-open.ensures.terms;
-      tied = opened_tied c.args.now c.args.number cs served.sessions sessions c.requires.sessions _ c.in-Ok-open.ensures.terms;
+      numbered = opened_numbered c.args.number c.args.now served.begun cs rows c.requires.own begun c.in-Ok-open-2.ensures.terms;
+      numbered_news = subst (All (λ (r : Running). r.term.serial ≤ served.begun)) (sym c.in-Ok-open-2.ensures.none.0) (λ i d lt. absurd (omega (arith, lt)));
+      apart = opened_rows_apart c.args.number c.args.now cs rows c.requires.sessions c.requires.addresses c.in-Ok-open-2.ensures.terms;
+      tied = opened_tied c.args.now c.args.number cs served.sessions sessions c.requires.sessions _ c.in-Ok-open-2.ensures.terms;
       left = λ some. omega (arith, none);
       numbers = λ some. absurd (omega (arith, some));
       placed = opened_placed c.args.now c.args.number cs served.sessions sessions c.requires.sessions c.args.rules c.requires.ports;
@@ -45,7 +45,7 @@ returns-clause-opened c =
     let cs = c.args.circuits.now in
     let profiles = c.as_slice.result.now in
     let opened =
-    opened_whole c.args.number c.args.now profiles cs c.in-Ok.served c.in-Ok-open.terms c.in-Ok.ensures.opened c.in-Ok-open.ensures.terms c.in-Ok-open.ensures.none.0
+    opened_whole c.args.number c.args.now profiles cs c.in-Ok-open.served c.in-Ok-open-2.terms c.in-Ok-open.ensures.opened c.in-Ok-open-2.ensures.terms c.in-Ok-open-2.ensures.none.0
     ∙ ap (λ (ps : List Profile). opened_slots c.args.number ps cs c.args.now) c.as_slice.ensures in
-    opened_view c.args.rules c.args.number cs c.args.now (whole c.in-Ok.served c.in-Ok-open.terms) c.new-3.result.items (rows_in c.in-Ok-open.terms.rows) c.in_ok-profiles.profiles.books c.new.result.items c.new-2.result.items opened c.new-3.ensures.items c.in-Ok-open.ensures.rows
+    opened_view c.args.rules c.args.number cs c.args.now (whole c.in-Ok-open.served c.in-Ok-open-2.terms) c.new-3.result.items (rows_in c.in-Ok-open-2.terms.rows) c.in_ok-profiles.profiles.books c.new.result.items c.new-2.result.items opened c.new-3.ensures.items c.in-Ok-open-2.ensures.rows
     c.in_ok-profiles.ensures.books c.new.ensures c.new-2.ensures

@@ -53,7 +53,7 @@ hear-fate-requires-clause-begins c x is =
       few = omega (arith, some, numbers);
       numbered = was.numbered;
       numbered_news = was.numbered_news;
-      free = rows_free c.args.pool.now.table a.served.sessions.shard x a.terms.rows puts.free held;
+      free = λ unique. rows_free c.args.pool.now.table a.served.sessions.shard x a.terms.rows puts.free held;
       tied = was.tied;
     }
 
