@@ -19,8 +19,8 @@ use Rattle.bng_engine.specs.Views.{ShardView}
 use Rattle.bng_engine.proofs.Everywhere.{all_weaker}
 use Rattle.bng_pool.specs.Plain.{PlainView}
 use Rattle.bng_pool.specs.Tables.{Table}
-use Rattle.bng_slots.specs.Listed.{values}
-use Rattle.bng_slots.specs.Sessions.{value_at, with_value}
+use Rattle.bng_sessions.specs.Listed.{values}
+use Rattle.bng_sessions.specs.Sessions.{value_at, with_value}
 use Rattle.bng_shard.specs.declared.rules.Rules.{Rules}
 use Rattle.bng_shard.specs.declared.whose.Whose.{Whose}
 use Rattle.bng_shard.specs.declared.whose.Whose.TheVariants.{Stands}

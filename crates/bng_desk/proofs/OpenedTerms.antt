@@ -31,7 +31,7 @@ use Rattle.bng_shard.proofs.Numbered.{tenures_opened}
 use Rattle.bng_shard.proofs.OpenedKeys.{rows_apart, rows_of_shard}
 use Rattle.bng_shard.proofs.RowLaws.{new_keys}
 use Rattle.bng_shard.proofs.SoundOpening.{opened_sound}
-use Rattle.bng_slots.specs.Sessions.{IsNumberOf}
+use Rattle.bng_sessions.specs.Sessions.{IsNumberOf}
 use Rattle.bng_desk.specs.Accounting.{KnowsBegun}
 use Rattle.bng_desk.specs.Model.{begun_in, keys_in, live_terms}
 use Rattle.bng_desk.specs.Opening.{AreServed, shard_of}

@@ -17,7 +17,7 @@ use Rattle.bng_discovery.specs.declared.port.PortRules.{PortRules}
 use Rattle.bng_profile.specs.Books.{AreDifferent, names_of}
 use Rattle.bng_shard.specs.declared.rules.Rules.{Rules}
 use Rattle.bng_shard.specs.Protocol.{HasPools}
-use Rattle.bng_slots.specs.Sessions.{IsNumberOf}
+use Rattle.bng_sessions.specs.Sessions.{IsNumberOf}
 use Rattle.bng_desk.specs.Opening.{AreOffersOf, AreServed, IsOfferOf, shard_of}
 
 -- Offers ----------------------------------------------------------------------------------------------------------------

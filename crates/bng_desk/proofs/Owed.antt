@@ -6,7 +6,7 @@ use Rattle.bng_engine.specs.Lists.{Zip3}
 use Rattle.bng_engine.specs.Views.{Row}
 use Rattle.bng_shard.specs.Interims.{Reports, owed, owes, row_in}
 use Rattle.bng_shard.specs.Protocol.{ShardState}
-use Rattle.bng_slots.specs.Listed.{values}
+use Rattle.bng_sessions.specs.Listed.{values}
 use Rattle.bng_desk.specs.Interims.{FormsInterims, TakesInterims, last_after, owed_by}
 use Rattle.bng_desk.specs.Round.{terms_in}
 use Rattle.bng_desk.specs.Taking.{Accounts, IsLeftBy, ReportsAll, Shown, Sight, states_of}

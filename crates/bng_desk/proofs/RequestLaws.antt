@@ -21,7 +21,7 @@ use Rattle.bng_rad_client.specs.declared.pending.Pending.{Pending}
 use Rattle.bng_rad_client.specs.Table.{request_of, taken}
 use Rattle.bng_shard.specs.Questions.{Asking, asking_from, handed_after, waiting}
 use Rattle.bng_shard.specs.State.{State}
-use Rattle.bng_slots.specs.Sessions.{IsNumberOf}
+use Rattle.bng_sessions.specs.Sessions.{IsNumberOf}
 use Rattle.bng_verdict.specs.declared.question.QuestionNo.{QuestionNo}
 use Rattle.bng_desk.specs.Intake.{SendsAgain, AsksSome, AsksAll, SendsRequests}
 use Rattle.bng_desk.specs.Logins.{hand_out, handed_over, lane_stretch, waiting_in}

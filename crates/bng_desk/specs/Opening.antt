@@ -28,7 +28,7 @@ use Rattle.bng_shard.specs.declared.rules.Rules.{Rules}
 use Rattle.bng_shard.specs.Interims.{Reports, no_reports}
 use Rattle.bng_shard.specs.Protocol.{ShardState, opened}
 use Rattle.bng_shard.specs.Questions.{none_handed}
-use Rattle.bng_slots.specs.Sessions.{IsNumberOf}
+use Rattle.bng_sessions.specs.Sessions.{IsNumberOf}
 use Rattle.bng_desk.specs.declared.line.Line.{Line}
 use Rattle.bng_desk.specs.Accounting.{AreBilled, FormedRecord, Forms, IsStartOf}
 use Rattle.bng_desk.specs.Counting.{no_drops}

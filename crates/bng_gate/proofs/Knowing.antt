@@ -7,8 +7,8 @@ use Rattle.bng_base.specs.declared.item.Entry.{Entry}
 use Rattle.bng_engine.specs.Lists.{AnyOf}
 use Rattle.bng_engine.specs.Views.{ShardView}
 use Rattle.bng_ppp.specs.PppState.{is_open}
-use Rattle.bng_slots.specs.Listed.{values}
-use Rattle.bng_slots.specs.Sessions.{IsNumberOf, value_at}
+use Rattle.bng_sessions.specs.Listed.{values}
+use Rattle.bng_sessions.specs.Sessions.{IsNumberOf, value_at}
 use Rattle.bng_verdict.specs.declared.question.QuestionNo.{QuestionNo}
 use Rattle.bng_shard.specs.Made.{Question}
 use Rattle.bng_shard.specs.declared.session.Service.{Service}

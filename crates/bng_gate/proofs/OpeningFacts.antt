@@ -26,8 +26,8 @@ use Rattle.bng_shard.specs.State.{State}
 use Rattle.bng_shard.proofs.InOrder as ordered
 use Rattle.bng_shard.proofs.SoundOpening.{opened_sound}
 use Rattle.bng_shard.proofs.Values.{stands}
-use Rattle.bng_slots.specs.Listed.{values}
-use Rattle.bng_slots.specs.Sessions.{IsNumberOf, value_at}
+use Rattle.bng_sessions.specs.Listed.{values}
+use Rattle.bng_sessions.specs.Sessions.{IsNumberOf, value_at}
 use Rattle.bng_desk.specs.Model.{Desk, HasOneRule}
 use Rattle.bng_desk.specs.Opening.{IsOpened, lane_rules, opened_shards, shard_of, statics_of}
 use Rattle.bng_desk.specs.Taking.{AreInOrder}

@@ -30,7 +30,7 @@ use Rattle.bng_engine.proofs.Everywhere.{all_filter}
 use Rattle.bng_pool.specs.Plain.{PlainView}
 use Rattle.bng_pool.specs.Tables.{Table, entry}
 use Rattle.bng_shard.specs.declared.rules.Rules.{Rules}
-use Rattle.bng_slots.specs.Sessions.{IsNumberOf}
+use Rattle.bng_sessions.specs.Sessions.{IsNumberOf}
 use Rattle.bng_shard.specs.Opening.{in_order, opened_slots, tenure_from, tenures_after}
 use Rattle.bng_shard.specs.Protocol.{ShardState, Handled, key_in, pppoe, opened, term_in, terms_of}
 use Rattle.bng_shard.proofs.InOrder as ordered

@@ -31,7 +31,7 @@ use Rattle.bng_shard.specs.Interims.{Reports, owed, owes, row_in}
 use Rattle.bng_shard.specs.Protocol.{Handled, ShardState, pppoe, terms_of}
 use Rattle.bng_shard.specs.Tenures.{Tenure}
 use Rattle.bng_shard.proofs.StepLaws.{pppoe_laws}
-use Rattle.bng_slots.specs.Listed.{values}
+use Rattle.bng_sessions.specs.Listed.{values}
 use Rattle.bng_desk.specs.Accounting.{FormedRecord}
 use Rattle.bng_desk.specs.Interims.{FormsInterim, FormsInterims, IsInterimOf, owed_by}
 use Rattle.bng_desk.specs.Round.{Round, terms_in}

@@ -25,7 +25,7 @@ use Rattle.bng_engine.proofs.Adding.{sum_map}
 use Rattle.bng_engine.proofs.Deciding.{key_itself, key_same}
 use Rattle.bng_engine.proofs.Everywhere.{all_append, all_weaker, any_all}
 use Rattle.bng_engine.proofs.Rounds.{in_shards}
-use Rattle.bng_slots.specs.Sessions.{IsNumberOf}
+use Rattle.bng_sessions.specs.Sessions.{IsNumberOf}
 use Rattle.bng_shard.specs.declared.rules.Rules.{Rules}
 use Rattle.bng_shard.specs.Lasting.{AreHoused, IsCause, IsCircuitCause}
 use Rattle.bng_shard.specs.Opening.{in_order, tenures_after}

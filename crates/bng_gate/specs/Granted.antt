@@ -44,7 +44,7 @@ use Rattle.bng_shard.specs.Tenures.{Tenure}
 use Rattle.bng_shard.specs.declared.session.Session.{Session}
 use Rattle.bng_shard.specs.declared.way.Called.{Called}
 use Rattle.bng_shard.specs.declared.way.Way.TheVariants.{Call}
-use Rattle.bng_slots.specs.Sessions.{value_at}
+use Rattle.bng_sessions.specs.Sessions.{value_at}
 use Rattle.bng_verdict.specs.declared.question.AuthAsk.{AuthAsk}
 use Rattle.bng_verdict.specs.Verdicts.{Saying, IsVerdict}
 use Rattle.bng_desk.specs.Accounting.{record_datagram, record_sends}

@@ -2,7 +2,8 @@ ghost use Rattle.std.specs.Prelude.{◌≡◌, Some, None};
 
 use crate::asserts::assert_holds;
 use bng_base::{Circuit, Ip4, Mac, Peer, SessionNo, TermId, TunnelNo};
-use bng_slots::{SlotError, Slots, Slotted};
+use bng_sessions::Slotted;
+use bng_slots::{SlotError, Slots};
 use std::alloc::Global;
 use std::process::Abort;
 use std::test::Fail;

@@ -18,7 +18,7 @@ use Rattle.bng_l2tp_tunnel.specs.View.{Said}
 use Rattle.bng_l2tp_wire.specs.Messages.{ControlMessage}
 use Rattle.bng_lns.specs.Tunnels.{TunnelsState, tunnel_at}
 use Rattle.bng_ppp.specs.declared.whole_input.WholeInput.TheVariants.{Start}
-use Rattle.bng_slots.specs.Sessions.{NoneShares, Sessions, value_at, without}
+use Rattle.bng_sessions.specs.Sessions.{NoneShares, Sessions, value_at, without}
 use Rattle.bng_shard.specs.declared.rules.Rules.{Rules}
 use Rattle.bng_shard.specs.declared.session.Lease.{Lease}
 use Rattle.bng_shard.specs.declared.session.Session.{Session}

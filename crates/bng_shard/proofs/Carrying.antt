@@ -19,7 +19,7 @@ use Rattle.bng_forward.specs.declared.view.TermView.{TermView}
 use Rattle.bng_forward.specs.Fates.{UpFate, DownFate}
 use Rattle.bng_forward.specs.Meters.{with_input, with_output}
 use Rattle.bng_forward.specs.Packets.{IsPassedOn, MayPassUp}
-use Rattle.bng_slots.specs.Listed.{values}
+use Rattle.bng_sessions.specs.Listed.{values}
 use Rattle.bng_shard.specs.declared.rules.Rules.{Rules}
 use Rattle.bng_base.specs.declared.item.At.{At}
 use Rattle.bng_shard.specs.declared.meters.Meters.{Meters}

@@ -9,7 +9,7 @@ use Rattle.bng_coa.specs.Wants.{is_called, place_in, wanted}
 use Rattle.bng_engine.specs.Protocol.{HaveProfiles}
 use Rattle.bng_radius_wire.specs.Attributes.{Field}
 use Rattle.bng_radius_wire.specs.Grammar.{Packet}
-use Rattle.bng_slots.specs.Sessions.{value_at}
+use Rattle.bng_sessions.specs.Sessions.{value_at}
 use Rattle.bng_shard.specs.declared.changes.Meant.{Meant}
 use Rattle.bng_shard.specs.declared.rules.Rules.{Rules}
 use Rattle.bng_shard.specs.declared.session.Lease.{Lease}

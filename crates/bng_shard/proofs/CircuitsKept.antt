@@ -12,9 +12,9 @@ use Rattle.bng_base.specs.declared.settings.Static.{Static}
 use Rattle.bng_ppp.specs.declared.whole_input.WholeInput.TheVariants.{Close, Start, Timer}
 use Rattle.bng_coa.specs.Wants.{wanted}
 use Rattle.bng_radius_wire.specs.Grammar.{Packet}
-use Rattle.bng_slots.specs.Listed.{values}
-use Rattle.bng_slots.specs.Sessions.{value_at, with_value}
-use Rattle.bng_slots.proofs.SessionLaws.{value_at-with_value, value_at-with_other}
+use Rattle.bng_sessions.specs.Listed.{values}
+use Rattle.bng_sessions.specs.Sessions.{value_at, with_value}
+use Rattle.bng_sessions.proofs.SessionLaws.{value_at-with_value, value_at-with_other}
 use Rattle.bng_shard.specs.declared.meters.Meters.{Meters}
 use Rattle.bng_shard.specs.declared.rules.Rules.{Rules}
 use Rattle.bng_base.specs.declared.item.At.{At}

@@ -26,8 +26,8 @@ use Rattle.bng_ppp.specs.Phases.{is_begun}
 use Rattle.bng_ppp.specs.PppRelation.{PppSaid}
 use Rattle.bng_ppp.proofs.Claimed.{octets_say}
 use Rattle.bng_ppp.proofs.WholeQuestions.{only_frames_ask}
-use Rattle.bng_slots.specs.Sessions.{value_at}
-use Rattle.bng_slots.proofs.SessionLaws.{value_at-with_value}
+use Rattle.bng_sessions.specs.Sessions.{value_at}
+use Rattle.bng_sessions.proofs.SessionLaws.{value_at-with_value}
 use Rattle.bng_shard.specs.Claiming.{IsAskedBy, CarriesOn}
 use Rattle.bng_l2tp_call.specs.CallState.{CallState}
 use Rattle.bng_lns.specs.Places.{same_peer}

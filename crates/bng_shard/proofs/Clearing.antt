@@ -18,9 +18,9 @@ use Rattle.bng_l2tp_wire.proofs.Exact.{one_control}
 use Rattle.bng_lns.specs.Datagrams.{IsControlIn}
 use Rattle.bng_lns.specs.Timed.{Telling, reminded}
 use Rattle.bng_lns.specs.Tunnels.{Answer, Steps, TunnelsState}
-use Rattle.bng_slots.specs.Listed.{values}
-use Rattle.bng_slots.specs.Sessions.{value_at, IsNumberOf}
-use Rattle.bng_slots.proofs.SessionLaws.{value_at-with_value, value_at-with_other}
+use Rattle.bng_sessions.specs.Listed.{values}
+use Rattle.bng_sessions.specs.Sessions.{value_at, IsNumberOf}
+use Rattle.bng_sessions.proofs.SessionLaws.{value_at-with_value, value_at-with_other}
 use Rattle.bng_shard.specs.declared.rules.Rules.{Rules}
 use Rattle.bng_shard.specs.declared.session.Lease.{Lease}
 use Rattle.bng_shard.specs.declared.session.Service.{Service}

@@ -11,7 +11,7 @@ use Rattle.bng_base.specs.declared.item.OutRecord.{OutRecord}
 use Rattle.bng_base.specs.PppoeGrammar.{PppoeFrame}
 use Rattle.bng_ppp.specs.PppRelation.{PppSaid}
 use Rattle.bng_ppp.specs.PppState.{PppState}
-use Rattle.bng_slots.specs.Sessions.{value_at}
+use Rattle.bng_sessions.specs.Sessions.{value_at}
 use Rattle.bng_l2tp_wire.specs.Messages.{DataMessage}
 use Rattle.bng_base.specs.declared.address.Peer.{Peer}
 use Rattle.std.proofs.lemmas.Bool.{and_parts}

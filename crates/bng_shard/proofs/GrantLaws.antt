@@ -46,8 +46,8 @@ use Rattle.bng_ppp.specs.PppState.{PppState, is_accepted, is_open}
 use Rattle.bng_ppp.proofs.WholeOuts.{ppp_steps_grant}
 use Rattle.bng_ppp.proofs.WholePhases.{accepted_begun, open_unsettled}
 use Rattle.bng_ppp.proofs.WholeQuestions.{accepted_by_verdict, asked_is_open, only_frames_ask, open_was_asked}
-use Rattle.bng_slots.specs.Sessions.{IsNumberOf, value_at, with_value}
-use Rattle.bng_slots.proofs.SessionLaws.{value_at-with_value, value_at-with_other}
+use Rattle.bng_sessions.specs.Sessions.{IsNumberOf, value_at, with_value}
+use Rattle.bng_sessions.proofs.SessionLaws.{value_at-with_value, value_at-with_other}
 use Rattle.bng_verdict.specs.Verdicts.{Saying, IsVerdict}
 use Rattle.bng_shard.specs.Made.{Made, Question}
 use Rattle.bng_shard.specs.declared.meters.Meters.{Meters}

@@ -23,8 +23,8 @@ use Rattle.bng_ppp.specs.Phases.{KeepsPhases, is_begun}
 use Rattle.bng_ppp.specs.PppRelation.{PppSaid, PppSteps}
 use Rattle.bng_ppp.specs.PppState.{PppState, is_open}
 use Rattle.bng_ppp.specs.Verdict.{Settles}
-use Rattle.bng_slots.specs.Sessions.{value_at, with_value}
-use Rattle.bng_slots.proofs.SessionLaws.{value_at-with_value, value_at-with_other}
+use Rattle.bng_sessions.specs.Sessions.{value_at, with_value}
+use Rattle.bng_sessions.proofs.SessionLaws.{value_at-with_value, value_at-with_other}
 use Rattle.bng_shard.specs.Calls.{called_session, linked_anew, turned}
 use Rattle.bng_shard.specs.declared.meters.Plan.{Plan}
 use Rattle.bng_shard.specs.declared.rules.Rules.{Rules}

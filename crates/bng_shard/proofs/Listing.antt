@@ -6,9 +6,9 @@ use Rattle.std.proofs.lemmas.List.Filters.{length-filter_both, sum_by-filter_bot
 use Rattle.std.proofs.lemmas.List.Sums.{length-filter, sum_by-cons, sum_by_push}
 use Rattle.bng_base.specs.declared.address.SessionNo.{SessionNo}
 use Rattle.bng_ppp.specs.PppState.{is_open}
-use Rattle.bng_slots.specs.Sessions.{Sessions, value_at, with_value, without}
-use Rattle.bng_slots.specs.Listed.{values}
-use Rattle.bng_slots.proofs.SessionLaws.{value_at-with_value, value_at-with_other, value_at-without, value_at-without_other, sum-with_value, sum-without}
+use Rattle.bng_sessions.specs.Sessions.{Sessions, value_at, with_value, without}
+use Rattle.bng_sessions.specs.Listed.{values}
+use Rattle.bng_sessions.proofs.SessionLaws.{value_at-with_value, value_at-with_other, value_at-without, value_at-without_other, sum-with_value, sum-without}
 use Rattle.bng_shard.specs.declared.session.Service.{Service}
 use Rattle.bng_shard.specs.declared.session.Service.TheVariants.{Provisioned, Discovered}
 use Rattle.bng_shard.specs.declared.session.Session.{Session}

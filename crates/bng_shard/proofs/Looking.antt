@@ -8,8 +8,8 @@ use Rattle.bng_base.specs.declared.item.OutRecord.{OutRecord}
 use Rattle.bng_ppp.specs.declared.whole_input.WholeInput.{WholeInput}
 use Rattle.bng_ppp.specs.declared.whole_input.WholeInput.TheVariants.{Timer, Close}
 use Rattle.bng_ppp.specs.PppRelation.{PppSteps}
-use Rattle.bng_slots.specs.Sessions.{NoneShares, Sessions, value_at, with_value}
-use Rattle.bng_slots.proofs.SessionLaws.{value_at-with_value, value_at-with_other}
+use Rattle.bng_sessions.specs.Sessions.{NoneShares, Sessions, value_at, with_value}
+use Rattle.bng_sessions.proofs.SessionLaws.{value_at-with_value, value_at-with_other}
 use Rattle.bng_lns.specs.Tunnels.{TunnelsState}
 use Rattle.bng_shard.specs.Fits.{IsPlaced}
 use Rattle.bng_shard.specs.declared.rules.Rules.{Rules}

@@ -16,7 +16,7 @@ use Rattle.bng_grant.specs.Classes.{AreClasses}
 use Rattle.bng_grant.specs.Grants.{Gift, IsGrant, NoReply, Replied}
 use Rattle.bng_grant.proofs.Fronts.{kept_are_classes}
 use Rattle.bng_radius_wire.specs.Attributes.{Field}
-use Rattle.bng_slots.specs.Sessions.{IsNumberOf}
+use Rattle.bng_sessions.specs.Sessions.{IsNumberOf}
 use Rattle.bng_shard.specs.declared.meters.Plan.{Plan}
 use Rattle.bng_shard.specs.declared.rules.Rules.{Rules}
 use Rattle.bng_shard.specs.declared.session.Session.{Session}

@@ -12,7 +12,7 @@ use Rattle.bng_coa.specs.declared.wanted.Wanted.{Wanted}
 use Rattle.bng_coa.specs.Admission.{IsRequestIn}
 use Rattle.bng_coa.specs.Wants.{wanted}
 use Rattle.bng_radius_wire.specs.Grammar.{Packet}
-use Rattle.bng_slots.specs.Sessions.{value_at}
+use Rattle.bng_sessions.specs.Sessions.{value_at}
 use Rattle.bng_shard.specs.declared.changes.Answer.{Answer}
 use Rattle.bng_shard.specs.declared.changes.Meant.{Meant}
 use Rattle.bng_shard.specs.declared.rules.Rules.{Rules}

@@ -53,7 +53,7 @@ use Rattle.bng_ppp.proofs.WholeOutcome.{ppp_steps_one}
 use Rattle.bng_pppoe_wire.proofs.TagLaws.{one_tags}
 use Rattle.bng_radius_wire.specs.Grammar.{Packet}
 use Rattle.bng_radius_wire.proofs.Exact.{one_packet}
-use Rattle.bng_slots.specs.Sessions.{value_at, IsLowestVacant}
+use Rattle.bng_sessions.specs.Sessions.{value_at, IsLowestVacant}
 use Rattle.bng_verdict.specs.Verdicts.{Saying, IsVerdict}
 use Rattle.bng_verdict.proofs.One.{one_verdict}
 use Rattle.bng_shard.specs.Made.{Made, Question}

@@ -19,8 +19,8 @@ use Rattle.bng_engine.specs.Quantities.{empty_book}
 use Rattle.bng_engine.specs.Terms.{keys}
 use Rattle.bng_engine.specs.Views.{Row, ShardView, new_row}
 use Rattle.bng_engine.proofs.Everywhere.{all_mapped}
-use Rattle.bng_slots.specs.Sessions.{IsNumberOf, Sessions}
-use Rattle.bng_slots.specs.Listed.{values}
+use Rattle.bng_sessions.specs.Sessions.{IsNumberOf, Sessions}
+use Rattle.bng_sessions.specs.Listed.{values}
 use Rattle.bng_shard.specs.declared.changes.Answer.{Answer}
 use Rattle.bng_shard.specs.declared.rules.Rules.{Rules}
 use Rattle.bng_shard.specs.declared.session.Lease.{Lease}

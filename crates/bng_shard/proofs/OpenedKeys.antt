@@ -6,7 +6,7 @@ use Rattle.bng_base.specs.declared.address.SessionNo.{SessionNo}
 use Rattle.bng_base.specs.declared.settings.Static.{Static}
 use Rattle.bng_engine.specs.Terms.{Key, keys}
 use Rattle.bng_engine.specs.Views.{row_keys}
-use Rattle.bng_slots.specs.Sessions.{IsNumberOf}
+use Rattle.bng_sessions.specs.Sessions.{IsNumberOf}
 use Rattle.bng_shard.specs.declared.rules.Rules.{Rules}
 use Rattle.bng_shard.specs.Opening.{in_order, tenures_after}
 use Rattle.bng_shard.specs.Protocol.{opened, term_in}

@@ -12,8 +12,8 @@ use Rattle.std.proofs.lemmas.List.{get_or-set_other}
 use Rattle.std.proofs.lemmas.Nat.{mod-mul-add}
 use Rattle.bng_base.specs.declared.address.SessionNo.{SessionNo}
 use Rattle.bng_engine.specs.Views.{Row}
-use Rattle.bng_slots.specs.Sessions.{Sessions, IsNumberOf, value_at}
-use Rattle.bng_slots.specs.Listed.{values}
+use Rattle.bng_sessions.specs.Sessions.{Sessions, IsNumberOf, value_at}
+use Rattle.bng_sessions.specs.Listed.{values}
 use Rattle.bng_shard.specs.declared.session.Session.{Session}
 use Rattle.bng_shard.specs.Interims.{are_none, interim_at, interim_in, owes, reported_at, row_in, with_report}
 use Rattle.bng_shard.specs.Passing.{place_in}

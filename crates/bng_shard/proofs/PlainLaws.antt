@@ -6,9 +6,9 @@ use Rattle.std.specs.Cmp.{nat_cmp_total}
 use Rattle.std.specs.FinMap as fin
 use Rattle.std.specs.FinMap.{from_sorted, is_sorted, get-from_sorted, get-insert, get-remove, same_map, nat_cmp-IsAntisymmetric, entries-from_sorted}
 use Rattle.std.specs.FinMap.{len-entries}
-use Rattle.bng_slots.specs.Sessions.{Sessions, used, value_at, with_value, without}
-use Rattle.bng_slots.specs.Listed.{values}
-use Rattle.bng_slots.proofs.Entries.{Inserted, Removed}
+use Rattle.bng_sessions.specs.Sessions.{Sessions, used, value_at, with_value, without}
+use Rattle.bng_sessions.specs.Listed.{values}
+use Rattle.bng_sessions.proofs.Entries.{Inserted, Removed}
 use Rattle.bng_shard.specs.declared.session.Session.{Session}
 use Rattle.bng_shard.specs.Plain.{seen}
 use Rattle.bng_shard.specs.Serving.{AreOfShard}

@@ -26,9 +26,9 @@ use Rattle.bng_ppp.specs.LinkRelation.{earliest}
 use Rattle.bng_ppp.specs.Phases.{is_begun}
 use Rattle.bng_ppp.specs.PppRelation.{PppSaid}
 use Rattle.bng_ppp.specs.PppState.{PppState, is_open}
-use Rattle.bng_slots.specs.Sessions.{Sessions, value_at, with_value}
-use Rattle.bng_slots.specs.Listed.{values}
-use Rattle.bng_slots.proofs.SessionLaws.{value_at-with_value, value_at-with_other}
+use Rattle.bng_sessions.specs.Sessions.{Sessions, value_at, with_value}
+use Rattle.bng_sessions.specs.Listed.{values}
+use Rattle.bng_sessions.proofs.SessionLaws.{value_at-with_value, value_at-with_other}
 use Rattle.bng_l2tp_call.specs.CallState.{CallState}
 use Rattle.bng_lns.specs.Timed.{Telling, reminded}
 use Rattle.bng_shard.specs.declared.way.Called.{Called}

@@ -12,7 +12,7 @@ use Rattle.bng_base.specs.declared.item.OutRecord.{OutRecord}
 use Rattle.bng_engine.specs.Terms.{ComesBefore, Key, Stop, Term}
 use Rattle.bng_engine.specs.Views.{ShardView, row_keys}
 use Rattle.bng_pool.specs.Tables.{Table, TableFrees, entry}
-use Rattle.bng_slots.specs.Sessions.{Sessions}
+use Rattle.bng_sessions.specs.Sessions.{Sessions}
 use Rattle.bng_shard.specs.declared.changes.Answer.{Answer}
 use Rattle.bng_shard.specs.declared.rules.Rules.{Rules}
 use Rattle.bng_shard.specs.declared.session.Session.{Session}

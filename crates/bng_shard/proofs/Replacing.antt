@@ -1,8 +1,8 @@
 -- A session that is taken out and put back under its number.
 use Rattle.std.proofs.Common.{◌≡◌, ℕ, Bool, true, false, List, Option, Some, None, option_map, inl, inr, refl, sym, ap, subst, ◌∙◌}
 use Rattle.std.proofs.lemmas.Bool.{cases_eq, false≢true}
-use Rattle.bng_slots.specs.Sessions.{Sessions, IsNumberOf, NoneShares, value_at, with_value, without}
-use Rattle.bng_slots.proofs.SessionLaws.{value_at-with_value, value_at-with_other, value_at-without, with_value-without}
+use Rattle.bng_sessions.specs.Sessions.{Sessions, IsNumberOf, NoneShares, value_at, with_value, without}
+use Rattle.bng_sessions.proofs.SessionLaws.{value_at-with_value, value_at-with_other, value_at-without, with_value-without}
 use Rattle.bng_lns.specs.Tunnels.{TunnelsState}
 use Rattle.bng_shard.specs.declared.way.Way.TheVariants.{Port, Call}
 use Rattle.bng_shard.specs.declared.way.Way.{Way}

@@ -4,9 +4,9 @@ use Rattle.std.proofs.lemmas.Bool.{cases_eq, false≢true}
 use Rattle.std.proofs.lemmas.List.Elements.{Contains-push, Contains-push_cases, Contains-append_left}
 use Rattle.bng_base.specs.declared.address.Ip4.{Ip4}
 use Rattle.bng_base.specs.declared.address.SessionNo.{SessionNo}
-use Rattle.bng_slots.specs.Sessions.{Sessions, read_at, value_at, without}
-use Rattle.bng_slots.specs.Listed.{values}
-use Rattle.bng_slots.proofs.SessionLaws.{value_at-without, value_at-without_other}
+use Rattle.bng_sessions.specs.Sessions.{Sessions, read_at, value_at, without}
+use Rattle.bng_sessions.specs.Listed.{values}
+use Rattle.bng_sessions.proofs.SessionLaws.{value_at-without, value_at-without_other}
 use Rattle.bng_shard.specs.declared.session.Session.{Session}
 use Rattle.bng_shard.specs.Indexed.{address_of}
 use Rattle.bng_shard.specs.Listing.{does_pass, passing_in}

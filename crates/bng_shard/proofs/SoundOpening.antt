@@ -4,7 +4,7 @@ use Rattle.std.specs.Prelude.{◌==◌}
 use Rattle.std.specs.FinMap.{empty}
 use Rattle.bng_base.specs.declared.book.Profile.{Profile}
 use Rattle.bng_base.specs.declared.settings.Static.{Static}
-use Rattle.bng_slots.specs.Sessions.{Sessions, IsNumberOf, with_value}
+use Rattle.bng_sessions.specs.Sessions.{Sessions, IsNumberOf, with_value}
 use Rattle.bng_shard.specs.declared.session.Session.{Session}
 use Rattle.bng_shard.specs.Granting.{HasQuestion, IsSound}
 use Rattle.bng_shard.specs.Opening.{in_order, no_tunnels, none_passed, opened_meters, opened_slots, provisioned, tenures_after}

@@ -15,8 +15,8 @@ use Rattle.bng_ppp.specs.PppState.{PppState, is_open}
 use Rattle.bng_ppp.specs.Verdict.{Settles}
 use Rattle.bng_ppp.proofs.TermLaws.{settled_live}
 use Rattle.bng_ppp.proofs.WholePhases.{open_unsettled}
-use Rattle.bng_slots.specs.Sessions.{Sessions, NoneShares, value_at, without, read_at}
-use Rattle.bng_slots.proofs.SessionLaws.{value_at-without, value_at-without_other, with_value-without}
+use Rattle.bng_sessions.specs.Sessions.{Sessions, NoneShares, value_at, without, read_at}
+use Rattle.bng_sessions.proofs.SessionLaws.{value_at-without, value_at-without_other, with_value-without}
 use Rattle.bng_base.specs.declared.circuit.Circuit.{Circuit}
 use Rattle.bng_shard.proofs.Naming.{way_stays}
 use Rattle.bng_shard.specs.Made.{Made, Question}

@@ -34,7 +34,7 @@ use Rattle.bng_lns.specs.Timed.{Telling, Timed}
 use Rattle.bng_lns.specs.Tunnels.{Answer, NoTunnel, NoRequest, Steps, Outcome, TunnelsState, begun_with, free_place, hear, heard_by as taken_by, lac_of, made_by, outcome, requested, requested_by, secret_of, vacant, with_step}
 use Rattle.bng_ppp.specs.declared.whole_input.WholeInput.TheVariants.{Start}
 use Rattle.bng_ppp.specs.PppState.{PppState}
-use Rattle.bng_slots.specs.Sessions.{IsLowestVacant, value_at}
+use Rattle.bng_sessions.specs.Sessions.{IsLowestVacant, value_at}
 use Rattle.bng_shard.specs.declared.rules.Rules.{Rules}
 use Rattle.bng_shard.specs.declared.whose.Whose.{Whose}
 use Rattle.bng_shard.specs.Made.{Made}

@@ -10,8 +10,8 @@ use Rattle.bng_base.specs.declared.item.OutRecord.{OutRecord}
 use Rattle.bng_coa.specs.Wants.{wanted}
 use Rattle.bng_engine.specs.Lists.{AnyOf}
 use Rattle.bng_radius_wire.specs.Grammar.{Packet}
-use Rattle.bng_slots.specs.Sessions.{value_at, with_value}
-use Rattle.bng_slots.proofs.SessionLaws.{value_at-with_value, value_at-with_other}
+use Rattle.bng_sessions.specs.Sessions.{value_at, with_value}
+use Rattle.bng_sessions.proofs.SessionLaws.{value_at-with_value, value_at-with_other}
 use Rattle.bng_term.specs.declared.limits.Limits.{Limits}
 use Rattle.bng_shard.specs.Calls.{called_session, turned}
 use Rattle.bng_shard.specs.Made.{Question}

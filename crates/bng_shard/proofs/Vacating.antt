@@ -2,7 +2,7 @@
 use Rattle.std.proofs.Common.{◌≡◌, ℕ, zero, suc, ◌+◌, ◌*◌, ◌<◌, ◌≤◌, ◌⊎◌, Option, Some, None, inl, inr, is_some, refl, sym, ap, subst, arith}
 use Rattle.std.specs.Prelude.{IsSome}
 use Rattle.std.proofs.lemmas.Bool.{cases_eq}
-use Rattle.bng_slots.specs.Sessions.{Sessions, value_at}
+use Rattle.bng_sessions.specs.Sessions.{Sessions, value_at}
 use Rattle.bng_shard.specs.declared.session.Session.{Session}
 use Rattle.bng_shard.specs.State.{State}
 use Rattle.bng_shard.specs.Discovery.{IsVacancy}

@@ -9,9 +9,9 @@ use Rattle.std.specs.FinMap.Entries.{below_all, by_order}
 use Rattle.std.proofs.lemmas.Bool.{cases_lt, cases_eq, false≢true}
 use Rattle.std.proofs.lemmas.Bool.Decides.{nat_tests}
 use Rattle.std.proofs.lemmas.List.Sums.{sum_by-cons, sum_by-append}
-use Rattle.bng_slots.specs.Sessions.{Sessions, IsNumberOf, value_at, used, with_value}
-use Rattle.bng_slots.specs.Listed.{values}
-use Rattle.bng_slots.proofs.Numbered.{same_number, other_number}
+use Rattle.bng_sessions.specs.Sessions.{Sessions, IsNumberOf, value_at, used, with_value}
+use Rattle.bng_sessions.specs.Listed.{values}
+use Rattle.bng_sessions.proofs.Numbers.{same_number, other_number}
 
 pub same_some : {A : Type 0} (a b : A) → Some a ≡ Some b → a ≡ b
 same_some a b e = cc

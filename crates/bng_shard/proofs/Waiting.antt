@@ -8,8 +8,8 @@ use Rattle.std.proofs.lemmas.Bool.{eq-eqb, false≢true}
 use Rattle.std.proofs.lemmas.List.{get_or-set_other, get_or-set_same}
 use Rattle.std.proofs.lemmas.Nat.{mod-mul-add}
 use Rattle.bng_base.specs.declared.address.SessionNo.{SessionNo}
-use Rattle.bng_slots.specs.Sessions.{Sessions, IsNumberOf, value_at}
-use Rattle.bng_slots.specs.Listed.{values}
+use Rattle.bng_sessions.specs.Sessions.{Sessions, IsNumberOf, value_at}
+use Rattle.bng_sessions.specs.Listed.{values}
 use Rattle.bng_shard.specs.Made.{Question}
 use Rattle.bng_shard.specs.declared.session.Session.{Session}
 use Rattle.bng_shard.specs.Questions.{Asking, IsLowestWaiting, asked_in, asking_of, does_wait, handed_after, is_handed, is_waiting, open_of, place_of}

@@ -23,8 +23,8 @@ use Rattle.bng_lns.specs.Tunnels.{TunnelsState}
 use Rattle.bng_ppp.specs.declared.whole_input.WholeInput.TheVariants.{Start, Timer, Close}
 use Rattle.bng_ppp.specs.PppState.{PppState}
 use Rattle.bng_radius_wire.specs.Grammar.{Packet}
-use Rattle.bng_slots.specs.Sessions.{IsLowestVacant, value_at}
-use Rattle.bng_slots.proofs.SessionLaws.{value_at-with_value}
+use Rattle.bng_sessions.specs.Sessions.{IsLowestVacant, value_at}
+use Rattle.bng_sessions.proofs.SessionLaws.{value_at-with_value}
 use Rattle.bng_shard.specs.Made.{Made}
 use Rattle.bng_shard.specs.declared.meters.Meters.{Meters}
 use Rattle.bng_shard.specs.declared.rules.Rules.{Rules}

@@ -15,7 +15,7 @@ use Rattle.bng_coa.specs.Refusals.{first_cause, names_of, table}
 use Rattle.bng_coa.specs.Wants.{wanted}
 use Rattle.bng_radius_wire.specs.Attributes.{Field}
 use Rattle.bng_radius_wire.specs.Grammar.{Packet}
-use Rattle.bng_slots.specs.Sessions.{value_at}
+use Rattle.bng_sessions.specs.Sessions.{value_at}
 use Rattle.bng_term.specs.declared.limits.Limits.{Limits}
 use Rattle.bng_term.specs.Lifetimes.{changed}
 use Rattle.bng_shard.specs.declared.changes.Answer.{Answer}

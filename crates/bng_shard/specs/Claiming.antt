@@ -15,7 +15,7 @@ use Rattle.bng_lns.specs.Datagrams.{IsDataIn}
 use Rattle.bng_ppp.specs.Claims.{Claim}
 use Rattle.bng_ppp.specs.Saying.{Says}
 use Rattle.bng_ppp.specs.declared.authentication.Authentication.{Authentication}
-use Rattle.bng_slots.specs.Sessions.{value_at}
+use Rattle.bng_sessions.specs.Sessions.{value_at}
 use Rattle.bng_shard.specs.Made.{Made}
 use Rattle.bng_shard.specs.declared.rules.Rules.{Rules}
 use Rattle.bng_shard.specs.declared.session.Service.TheVariants.{Discovered}

@@ -9,7 +9,7 @@ use Rattle.bng_base.specs.declared.circuit.Circuit.{Circuit}
 use Rattle.bng_base.specs.declared.circuit.TermId.{TermId}
 use Rattle.bng_lns.specs.contracts.tunnels.Tunnels.{the_row as tunnels_row}
 use Rattle.bng_lns.specs.Tunnels.{TunnelsState}
-use Rattle.bng_slots.specs.Sessions.{Sessions, sessions_code}
+use Rattle.bng_sessions.specs.Sessions.{Sessions, sessions_code}
 use Rattle.bng_shard.specs.contracts.meters.Meters.{the_row as meters_row}
 use Rattle.bng_shard.specs.contracts.session.Session.{the_row}
 use Rattle.bng_shard.specs.declared.meters.Meters.{Meters}

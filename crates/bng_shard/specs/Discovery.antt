@@ -19,8 +19,8 @@ use Rattle.bng_ppp.specs.declared.whole_input.WholeInput.TheVariants.{Start}
 use Rattle.bng_ppp.specs.IpcpState.{ipcp_unused}
 use Rattle.bng_ppp.specs.LinkState.{IsFirstAsk, unused, kept_first}
 use Rattle.bng_ppp.specs.PppState.{PppState}
-use Rattle.bng_slots.specs.Sessions.{IsLowestVacant, IsNumberOf, value_at}
-use Rattle.bng_slots.specs.Listed.{values}
+use Rattle.bng_sessions.specs.Sessions.{IsLowestVacant, IsNumberOf, value_at}
+use Rattle.bng_sessions.specs.Listed.{values}
 use Rattle.bng_shard.specs.declared.rules.Rules.{Rules}
 use Rattle.bng_shard.specs.declared.session.Service.{Service}
 use Rattle.bng_shard.specs.declared.session.Service.TheVariants.{Provisioned, Discovered}

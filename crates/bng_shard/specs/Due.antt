@@ -2,7 +2,7 @@
 use Rattle.std.specs.Prelude.{ℕ, None, fold, Option}
 use Rattle.bng_lns.specs.Timed.{due_of as tunnels_due}
 use Rattle.bng_ppp.specs.LinkRelation.{earliest}
-use Rattle.bng_slots.specs.Listed.{values}
+use Rattle.bng_sessions.specs.Listed.{values}
 use Rattle.bng_shard.specs.State.{State}
 use Rattle.bng_shard.specs.Timers.{deadline_of}
 

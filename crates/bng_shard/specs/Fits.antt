@@ -14,7 +14,7 @@ use Rattle.bng_shard.specs.Protocol.{claimed_by}
 use Rattle.bng_shard.specs.Room.{has_tick, has_end}
 use Rattle.bng_shard.specs.Running.{AreTied, tenures_in}
 use Rattle.bng_shard.specs.State.{port_at}
-use Rattle.bng_slots.specs.Sessions.{Sessions, value_at}
+use Rattle.bng_sessions.specs.Sessions.{Sessions, value_at}
 
 -- how many outs a Tick and an End may still have that the round has not had
 abbrev pub owed : List Entry → ℕ

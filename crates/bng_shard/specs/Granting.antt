@@ -14,7 +14,7 @@ use Rattle.bng_base.specs.PppoeGrammar.{PppoeFrame, IsPppoe}
 use Rattle.bng_l2tp_wire.specs.Messages.{DataMessage, IsData}
 use Rattle.bng_ppp.specs.Granting.{IsYes}
 use Rattle.bng_ppp.specs.PppState.{is_open, is_accepted}
-use Rattle.bng_slots.specs.Sessions.{value_at}
+use Rattle.bng_sessions.specs.Sessions.{value_at}
 use Rattle.bng_verdict.specs.Verdicts.{Saying, IsVerdict}
 use Rattle.bng_shard.specs.Made.{Question}
 use Rattle.bng_shard.specs.declared.session.Service.{Service}

@@ -13,7 +13,7 @@ use Rattle.bng_shard.specs.Link.{admin_reset, nas_request, user_request}
 use Rattle.bng_shard.specs.Protocol.{claimed_by, key_in}
 use Rattle.bng_shard.specs.State.{State, made_one}
 use Rattle.bng_shard.specs.Tenures.{Tenure}
-use Rattle.bng_slots.specs.Sessions.{value_at}
+use Rattle.bng_sessions.specs.Sessions.{value_at}
 
 -- A term begins with each address that the entry claimed, and no other does: it takes the next number, and stands behind the terms that are
 -- there, and behind those of whose beginning no Start was formed yet. Of the others none came or went, whether it ended or not.

@@ -2,8 +2,8 @@
 use Rattle.std.specs.Prelude.{◌≡◌, ◌≤◌, ◌==◌, not, ℕ, Bool, true, false, List, [], ◌∷◌, ◌++◌, Option, Some, None, filter, sum_by, count_by, cond}
 use Rattle.std.specs.List.{All}
 use Rattle.bng_base.specs.declared.address.SessionNo.{SessionNo}
-use Rattle.bng_slots.specs.Sessions.{Sessions, value_at}
-use Rattle.bng_slots.specs.Listed.{values}
+use Rattle.bng_sessions.specs.Sessions.{Sessions, value_at}
+use Rattle.bng_sessions.specs.Listed.{values}
 use Rattle.bng_shard.specs.declared.session.Session.{Session}
 
 -- there is a session, and it passes

@@ -3,7 +3,7 @@ use Rattle.std.specs.Prelude.{◌≡◌, ◌⊎◌, ℕ, ◌<◌, ◌≤◌, Lis
 use Rattle.std.specs.FinMap.{from_sorted, is_sorted}
 use Rattle.std.specs.Ordering.{nat_cmp}
 use Rattle.bng_base.specs.declared.address.SessionNo.{SessionNo}
-use Rattle.bng_slots.specs.Sessions.{Sessions, read_at}
+use Rattle.bng_sessions.specs.Sessions.{Sessions, read_at}
 use Rattle.bng_shard.specs.Timers.{deadline_of}
 use Rattle.bng_shard.specs.declared.session.Session.{Session}
 use Rattle.bng_shard.specs.Serving.{AreOfShard}

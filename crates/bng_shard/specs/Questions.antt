@@ -6,8 +6,8 @@ use Rattle.bng_base.specs.declared.address.SessionNo.{SessionNo}
 use Rattle.bng_base.specs.declared.circuit.Circuit.{Circuit}
 use Rattle.bng_ppp.specs.Claims.{Claim, claim_of}
 use Rattle.bng_ppp.specs.PppState.{is_open}
-use Rattle.bng_slots.specs.Sessions.{Sessions, value_at}
-use Rattle.bng_slots.specs.Listed.{values}
+use Rattle.bng_sessions.specs.Sessions.{Sessions, value_at}
+use Rattle.bng_sessions.specs.Listed.{values}
 use Rattle.bng_verdict.specs.declared.question.AuthAsk.{AuthAsk}
 use Rattle.bng_verdict.specs.declared.question.QuestionNo.{QuestionNo}
 use Rattle.bng_shard.specs.Made.{Question}

@@ -6,7 +6,7 @@ use Rattle.bng_engine.specs.Calls.{SayTheSame}
 use Rattle.bng_engine.specs.Lists.{AnyOf}
 use Rattle.bng_engine.specs.Terms.{Key, ComesBefore}
 use Rattle.bng_engine.specs.Views.{Row}
-use Rattle.bng_slots.specs.Sessions.{Sessions, value_at}
+use Rattle.bng_sessions.specs.Sessions.{Sessions, value_at}
 use Rattle.bng_shard.specs.declared.terms.Running.{Running}
 use Rattle.bng_shard.specs.declared.session.Lease.{Lease}
 use Rattle.bng_shard.specs.declared.session.Session.{Session}

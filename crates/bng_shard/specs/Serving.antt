@@ -3,7 +3,7 @@ use Rattle.std.specs.Prelude.{◌≡◌, is_some, not, ℕ, ◌<◌, ◌^◌, �
 use Rattle.std.specs.List.{All}
 use Rattle.bng_base.specs.declared.address.Ip4.{Ip4}
 use Rattle.bng_base.specs.declared.address.SessionNo.{SessionNo}
-use Rattle.bng_slots.specs.Sessions.{Sessions, IsNumberOf, read_at, value_at}
+use Rattle.bng_sessions.specs.Sessions.{Sessions, IsNumberOf, read_at, value_at}
 use Rattle.bng_ppp.specs.Phases.{KeepsPhases}
 use Rattle.bng_shard.specs.declared.meters.Meters.{Meters}
 use Rattle.bng_shard.specs.declared.session.Lease.{Lease}

@@ -16,8 +16,8 @@ use Rattle.bng_l2tp_call.specs.CallState.{is_established}
 use Rattle.bng_lns.specs.Places.{same_peer}
 use Rattle.bng_lns.specs.Tunnels.{TunnelsState}
 use Rattle.bng_ppp.specs.PppState.{passes}
-use Rattle.bng_slots.specs.Sessions.{Sessions, value_at, with_value}
-use Rattle.bng_slots.specs.Listed.{values}
+use Rattle.bng_sessions.specs.Sessions.{Sessions, value_at, with_value}
+use Rattle.bng_sessions.specs.Listed.{values}
 use Rattle.bng_shard.specs.declared.meters.Meters.{Meters}
 use Rattle.bng_shard.specs.declared.session.Lease.{Lease}
 use Rattle.bng_shard.specs.declared.session.Service.{Service}

@@ -1,7 +1,7 @@
 -- What a look for Interims that are due finds.
 use Rattle.std.specs.Prelude.{ℕ, ◌≡◌, ◌≢◌, ◌+◌, ◌<◌, ◌≤◌, true, false, List, Option, Some, IfSome}
 use Rattle.bng_base.specs.declared.address.SessionNo.{SessionNo}
-use Rattle.bng_slots.specs.Sessions.{value_at}
+use Rattle.bng_sessions.specs.Sessions.{value_at}
 use Rattle.bng_shard.specs.declared.served.Survey.{Survey}
 use Rattle.bng_shard.specs.declared.served.Survey.TheVariants.{Owes, None as Nothing}
 use Rattle.bng_shard.specs.declared.session.Lease.{Lease}

@@ -7,7 +7,7 @@ use Rattle.bng_lns.specs.Timed.{Timed}
 use Rattle.bng_lns.specs.Tunnels.{TunnelsState}
 use Rattle.bng_ppp.specs.PppRelation.{PppSteps}
 use Rattle.bng_ppp.specs.PppState.{PppState}
-use Rattle.bng_slots.specs.Sessions.{value_at}
+use Rattle.bng_sessions.specs.Sessions.{value_at}
 use Rattle.bng_shard.specs.declared.rules.Rules.{Rules}
 use Rattle.bng_base.specs.declared.item.At.{At}
 use Rattle.bng_shard.specs.declared.session.Service.{Service}

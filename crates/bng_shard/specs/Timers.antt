@@ -7,7 +7,7 @@ use Rattle.bng_ppp.specs.LinkRelation.{earliest}
 use Rattle.bng_lns.specs.Timed.{reminded, stopped}
 use Rattle.bng_lns.specs.Tunnels.{TunnelsState}
 use Rattle.bng_ppp.specs.PppState.{PppState}
-use Rattle.bng_slots.specs.Sessions.{value_at, read_at}
+use Rattle.bng_sessions.specs.Sessions.{value_at, read_at}
 use Rattle.bng_term.specs.Lifetimes.{deadline_of as term_deadline}
 use Rattle.bng_shard.specs.Made.{Made}
 use Rattle.bng_shard.specs.declared.rules.Rules.{Rules}

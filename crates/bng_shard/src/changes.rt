@@ -3,7 +3,7 @@ ghost use Rattle.std.specs.Prelude.{◌≡◌, ◌<◌, ◌≤◌, ◌+◌, ◌^
 ghost use Rattle.std.specs.Option.{ForSome};
 ghost use Rattle.bng_base.specs.declared.item.Entry.{Entry as EntryOf};
 ghost use Rattle.bng_radius_wire.specs.Grammar.{whole as packet_of};
-ghost use Rattle.bng_slots.specs.Sessions.{value_at};
+ghost use Rattle.bng_sessions.specs.Sessions.{value_at};
 ghost use Rattle.bng_term.specs.Lifetimes.{HasAllowedInterval};
 ghost use Rattle.bng_shard.specs.Changes.{AnswersRequest, Applies, Found, HearsChange, Obeys, found_by, lease_after, lease_for, limits_after, meant as meant_of, meters_after, place_of, refusal_of, verdict_by, with_change};
 ghost use Rattle.bng_shard.specs.Doing.{DoesWith};

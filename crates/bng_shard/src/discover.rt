@@ -13,7 +13,7 @@ ghost use Rattle.std.specs.Prelude.{ℕ, None as Nothing, Option as Maybe};
 ghost use Rattle.bng_shard.specs.Running.{TermsView, whole};
 ghost use Rattle.bng_shard.specs.Serving.{KeepsLease};
 ghost use Rattle.bng_shard.specs.State.{beside_at, port_at, with_driven, Beside};
-ghost use Rattle.bng_slots.specs.Sessions.{IsLowestVacant};
+ghost use Rattle.bng_sessions.specs.Sessions.{IsLowestVacant};
 
 use crate::store::Store;
 use crate::answering::{Reply, reply_to};

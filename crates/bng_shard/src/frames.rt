@@ -13,7 +13,7 @@ ghost use Rattle.std.specs.Prelude.{ℕ, Option as Maybe};
 ghost use Rattle.bng_shard.specs.Running.{whole, KeepSums};
 ghost use Rattle.bng_shard.specs.State.{beside_at, session_of, with_driven, with_ended, Beside};
 ghost use Rattle.bng_shard.specs.Timers.{lives_at};
-ghost use Rattle.bng_slots.specs.Sessions.{value_at};
+ghost use Rattle.bng_sessions.specs.Sessions.{value_at};
 
 use crate::store::Store;
 use crate::drive::drive;

@@ -15,7 +15,7 @@ ghost use Rattle.bng_l2tp_wire.specs.Messages.{ControlMessage};
 ghost use Rattle.bng_lns.specs.Datagrams.{IsControlIn};
 ghost use Rattle.bng_lns.specs.Timed.{Telling, reminded};
 ghost use Rattle.bng_lns.specs.Tunnels.{Steps};
-ghost use Rattle.bng_slots.specs.Sessions.{IsNumberOf};
+ghost use Rattle.bng_sessions.specs.Sessions.{IsNumberOf};
 ghost use Rattle.bng_shard.specs.declared.rules.Rules.{Rules};
 ghost use Rattle.bng_shard.specs.Cutting.{Clears};
 ghost use Rattle.bng_shard.specs.Datagrams.{heard_by};

@@ -7,13 +7,13 @@ ghost use Rattle.std.specs.declared.cmp.Ordering.TheVariants.{Less, Equal, Great
 ghost use Rattle.bng_shard.specs.State.{leases};
 ghost use Rattle.bng_shard.specs.Timers.{deadline_of};
 ghost use Rattle.bng_shard.specs.declared.session.Session.{Session as Seen};
-ghost use Rattle.bng_slots.specs.Sessions.{Sessions, read_at};
+ghost use Rattle.bng_sessions.specs.Sessions.{Sessions, read_at};
 ghost use Rattle.bng_shard.specs.Plain.{IsBest};
 
 use crate::session::Session;
 use crate::store::Store;
 use bng_base::{Ip4, SessionNo};
-use bng_slots::Slotted;
+use bng_sessions::Slotted;
 use std::cmp::Ordering;
 use std::marker::Model;
 
@@ -26,7 +26,7 @@ pub struct Plain {
 
 impl Model for Plain {
     ghost use Rattle.std.specs.Prelude.{vec_capacity};
-    ghost use Rattle.bng_slots.specs.Sessions.{Sessions, sessions_code};
+    ghost use Rattle.bng_sessions.specs.Sessions.{Sessions, sessions_code};
     ghost use Rattle.bng_shard.specs.contracts.session.Session.{the_row};
     ghost use Rattle.bng_shard.specs.declared.session.Session.{Session as Seen};
 

@@ -17,7 +17,7 @@ ghost use Rattle.bng_shard.specs.Step.{Step};
 ghost use Rattle.bng_shard.specs.Wished.{IsAnswered};
 ghost use Rattle.std.specs.Prelude.{false, None as Nothing};
 ghost use Rattle.bng_shard.specs.Frames.{HearsCore};
-ghost use Rattle.bng_slots.specs.Sessions.{IsNumberOf, value_at};
+ghost use Rattle.bng_sessions.specs.Sessions.{IsNumberOf, value_at};
 ghost use Rattle.bng_shard.specs.Serving.{KeepsLease};
 ghost use Rattle.bng_shard.specs.State.{with_session};
 

@@ -1,7 +1,7 @@
 //! What is found among the sessions of a shard, by number, circuit, address, question or deadline.
 ghost use Rattle.std.specs.Prelude.{◌≡◌, ◌<◌, ◌^◌, [], ℕ, List, IsSome, Some, true, false, IfSome, IfNone, drop, option_map, slice_get};
 ghost use Rattle.std.specs.Option.{option_and_then, option_copied};
-ghost use Rattle.bng_slots.specs.Sessions.{value_at, IsNumberOf};
+ghost use Rattle.bng_sessions.specs.Sessions.{value_at, IsNumberOf};
 ghost use Rattle.bng_shard.specs.Discovery.{IsVacancy, repeated};
 ghost use Rattle.bng_shard.specs.Due.{sessions_due};
 ghost use Rattle.bng_shard.specs.Interims.{interim_at};

@@ -2,12 +2,12 @@
 ghost use Rattle.std.specs.Prelude.{◌≡◌, ◌≢◌, ◌+◌, ◌<◌, ◌≤◌, ◌^◌, ◌∷◌, [], ℕ, IsSome, Some, None as Nothing, true, false, IfOk, IfSome, IfNone, slice_set};
 ghost use Rattle.std.specs.List.{AllPairs, All};
 ghost use Rattle.std.specs.FinMap.{empty};
-ghost use Rattle.bng_slots.specs.Sessions.{value_at, without, IsNumberOf};
+ghost use Rattle.bng_sessions.specs.Sessions.{value_at, without, IsNumberOf};
 ghost use Rattle.bng_shard.specs.Metered.{meters_at};
 ghost use Rattle.bng_shard.specs.Opening.{circuit_at, opened_slots, provisioned as provisioned_at};
 ghost use Rattle.bng_shard.specs.Indexed.{address_of};
 ghost use Rattle.bng_shard.specs.Passing.{passed_at, place_in, with_passed};
-ghost use Rattle.bng_slots.specs.Sessions.{NoneShares};
+ghost use Rattle.bng_sessions.specs.Sessions.{NoneShares};
 ghost use Rattle.bng_shard.specs.Serving.{AreOwn, KeepsLease};
 ghost use Rattle.bng_shard.specs.State.{count_in, reaped, with_session};
 ghost use Rattle.bng_shard.specs.Timers.{stays_at};

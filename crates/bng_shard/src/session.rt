@@ -26,7 +26,7 @@ use bng_auth::Credentials;
 use bng_base::{Circuit, Ip4, Mac, SessionNo, TermId};
 use bng_forward::TermView;
 use bng_ppp::{LinkKind, LinkRules, WholeInput, WholeLink, WholeSteps};
-use bng_slots::Slotted;
+use bng_sessions::Slotted;
 use bng_term::Lifetime;
 use std::marker::Model;
 use std::mem;

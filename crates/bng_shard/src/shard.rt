@@ -11,7 +11,7 @@ ghost use Rattle.bng_shard.specs.Protocol.{AreHeld, Handles, HasPools, Leaves, S
 ghost use Rattle.bng_shard.specs.Room.{Admits};
 ghost use Rattle.bng_shard.specs.declared.session.Session.{Session as Seen};
 ghost use Rattle.bng_shard.specs.Interims.{AwaitsInterims, owed, row_in, row_told, with_report};
-ghost use Rattle.bng_slots.specs.Sessions.{IsNumberOf, value_at};
+ghost use Rattle.bng_sessions.specs.Sessions.{IsNumberOf, value_at};
 ghost use Rattle.std.specs.List.{All, AllPairs};
 ghost use Rattle.bng_engine.specs.Lists.{AnyOf};
 ghost use Rattle.bng_pool.specs.Tables.{TableFrees};

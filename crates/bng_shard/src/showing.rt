@@ -10,7 +10,7 @@ ghost use Rattle.bng_shard.specs.Protocol.{SaysOf, deadline_of, ended_terms, key
 ghost use Rattle.bng_shard.specs.Questions.{asking_from, handed_after, open_ask_at, waiting};
 ghost use Rattle.bng_shard.specs.State.{reaped};
 ghost use Rattle.bng_shard.specs.Sums.{traffic_in};
-ghost use Rattle.bng_slots.specs.Sessions.{IsNumberOf};
+ghost use Rattle.bng_sessions.specs.Sessions.{IsNumberOf};
 
 use crate::interims::Reports;
 use crate::questions::Handed;

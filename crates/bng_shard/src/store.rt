@@ -1,8 +1,8 @@
 //! Where a shard keeps its sessions.
 ghost use Rattle.std.specs.Prelude.{◌≡◌, ◌<◌, ◌≤◌, ℕ, Bool, Option as Maybe, Some, None as Nothing, IsSome, IfSome, IfNone, find, true};
 ghost use Rattle.std.specs.Option.{option_copied};
-ghost use Rattle.bng_slots.specs.Sessions.{IsEarliest, IsLowestVacant, IsNumberOf, NoneShares, Sessions, read_at, used, value_at, with_value, without};
-ghost use Rattle.bng_slots.specs.Listed.{values};
+ghost use Rattle.bng_sessions.specs.Sessions.{IsEarliest, IsLowestVacant, IsNumberOf, NoneShares, Sessions, read_at, used, value_at, with_value, without};
+ghost use Rattle.bng_sessions.specs.Listed.{values};
 ghost use Rattle.bng_shard.specs.Indexed.{address_of, term_of};
 ghost use Rattle.bng_shard.specs.State.{circuit_of, leases};
 ghost use Rattle.bng_shard.specs.Timers.{deadline_of};

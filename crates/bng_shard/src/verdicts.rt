@@ -21,7 +21,7 @@ ghost use Rattle.bng_shard.specs.Wished.{IsAnswered};
 ghost use Rattle.bng_shard.specs.Wishes.{refused_with, told_by, told_in, told_of, Decides, IsAnswerTo, Wishes};
 ghost use Rattle.bng_shard.specs.declared.session.Session.{Session as Seen};
 ghost use Rattle.bng_shard.specs.declared.wish.Wish.{Wish as Asks};
-ghost use Rattle.bng_slots.specs.Sessions.{value_at};
+ghost use Rattle.bng_sessions.specs.Sessions.{value_at};
 ghost use Rattle.bng_term.specs.Lifetimes.{HasAllowedInterval};
 
 use crate::store::Store;

@@ -1,7 +1,7 @@
 //! The sessions of a shard for which a request may come again (RFC 2516 section 5.4): discovery made them, they have not ended, and
 //! their LCP was never Opened.
 ghost use Rattle.std.specs.Prelude.{◌≡◌, ◌<◌, length, option_map, vec_capacity};
-ghost use Rattle.bng_slots.specs.Sessions.{value_at};
+ghost use Rattle.bng_sessions.specs.Sessions.{value_at};
 ghost use Rattle.bng_shard.specs.Discovery.{is_repeated};
 ghost use Rattle.bng_shard.specs.Listing.{IsLowestPassing, does_pass, with_listed, without_listed};
 ghost use Rattle.bng_shard.specs.Serving.{is_young};

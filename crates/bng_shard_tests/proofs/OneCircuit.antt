@@ -12,7 +12,7 @@ use Rattle.bng_engine.specs.Quantities.{Quantity, Octets, Packets}
 use Rattle.bng_engine.specs.Sums.{is_any}
 use Rattle.bng_engine.specs.Terms.{Term, keys}
 use Rattle.bng_engine.specs.Views.{Row, new_row, row_keys, rows_where}
-use Rattle.bng_slots.specs.Sessions.{IsNumberOf}
+use Rattle.bng_sessions.specs.Sessions.{IsNumberOf}
 use Rattle.bng_shard.specs.declared.rules.Rules.{Rules}
 use Rattle.bng_shard.specs.Frames.{charge_of}
 use Rattle.bng_shard.specs.Opening.{circuit_at, in_order, lease_from, provisioned, tenure_from, tenures_after}

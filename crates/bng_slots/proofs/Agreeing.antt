@@ -12,8 +12,8 @@ use Rattle.std.specs.FinMap.{FinMap, IsAntisymmetric, nat_cmp-IsAntisymmetric, g
 use Rattle.bng_base.specs.declared.address.SessionNo.{SessionNo}
 use Rattle.bng_slots.specs.Listing.{Listing}
 use Rattle.bng_slots.specs.Inside.{Agrees, noted, forgotten}
-use Rattle.bng_slots.proofs.Numbered.{same_number, other_number}
-use Rattle.bng_slots.proofs.MapSums.{sum-insert, sum-remove}
+use Rattle.bng_sessions.proofs.Numbers.{same_number, other_number}
+use Rattle.bng_sessions.proofs.MapSums.{sum-insert, sum-remove}
 
 same_session : (p q : SessionNo) → p.0 ≡ q.0 → p ≡ q
 same_session p q e = λ i. record { 0 = e i }

@@ -8,17 +8,12 @@ use Rattle.std.proofs.lemmas.List.{get_or-set_same, get_or-set_other, get_or_pas
 use Rattle.std.proofs.lemmas.List.Sums.{sum_by-cons}
 use Rattle.std.specs.FinMap.{FinMap, get, find, insert, remove, empty, len, is_sorted, from_sorted, same_map, nat_cmp-IsAntisymmetric, get-from_sorted, get-insert, get-remove, get-empty, len-entries, entries-from_sorted}
 use Rattle.std.specs.FinMap.Entries.{below_all}
+use Rattle.bng_sessions.proofs.Numbers.{same_number, other_number}
 use Rattle.bng_slots.specs.Inside.{numbered}
 
 both : (a b : Bool) → T a → T b → T (a && b)
 both true b p q = q
 both false b p q = p
-
-pub same_number : (q k : ℕ) → q ≡ k → eq_by_cmp nat_cmp q k ≡ true
-same_number q k e = grind (arith, nat_tests)
-
-pub other_number : (q k : ℕ) → q ≢ k → eq_by_cmp nat_cmp q k ≡ false
-other_number q k e = grind (arith, nat_tests)
 
 lower_number : (x n : ℕ) → x < n → T (is_lt (nat_cmp x n))
 lower_number x n l = let e : is_lt (nat_cmp x n) ≡ true = grind (arith, nat_tests) in subst T (sym e) tt

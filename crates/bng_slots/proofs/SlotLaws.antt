@@ -18,14 +18,14 @@ use Rattle.bng_slots.specs.OrderLaws.{circuit_order-total, address_order-total, 
 use Rattle.bng_slots.specs.Listing.{Listing}
 use Rattle.bng_slots.specs.Bits.{free_bit}
 use Rattle.bng_slots.specs.Inside.{Agrees, IsSlots, by_number, due_of}
-use Rattle.bng_slots.specs.Sessions.{Sessions, IsNumberOf, IsLowestVacant, IsEarliest}
+use Rattle.bng_sessions.specs.Sessions.{Sessions, IsNumberOf, IsLowestVacant, IsEarliest}
 use Rattle.bng_slots.proofs.Numbered.{get_lower, get_place, get_past, places_put, places_take, places_none, len_places}
 use Rattle.bng_slots.proofs.ShelfLaws.{counts_more}
 use Rattle.std.specs.FinMap.{same_map, nat_cmp-IsAntisymmetric, get-remove}
 use Rattle.std.specs.Cmp.{IsTotalOrder, nat_cmp_total}
 use Rattle.std.specs.FinMap.{IsAntisymmetric}
 use Rattle.bng_slots.specs.Inside.{noted, forgotten}
-use Rattle.bng_slots.proofs.Numbered.{same_number, other_number}
+use Rattle.bng_sessions.proofs.Numbers.{same_number, other_number}
 use Rattle.bng_slots.proofs.Agreeing.{none_some, some_same, absent, fits, agrees_empty, agrees_came, agrees_left}
 
 bit_free : {A : Type 0} (o : Option A) (bit : ℕ) → bit ≡ cond (is_some o) 0 1 → bit ≡ 1 → o ≡ None

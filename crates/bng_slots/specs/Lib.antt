@@ -3,6 +3,4 @@ pub mod OrderLaws
 pub mod Listing
 pub mod Bits
 pub mod Shelves
-pub mod Sessions
 pub mod Inside
-pub mod Listed

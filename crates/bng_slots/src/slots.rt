@@ -3,13 +3,13 @@ ghost use Rattle.std.specs.Option.{option_copied};
 ghost use Rattle.std.specs.FinMap.{empty};
 ghost use Rattle.bng_base.specs.declared.address.SessionNo.{SessionNo as Number};
 ghost use Rattle.bng_slots.specs.Inside.{due_of};
-ghost use Rattle.bng_slots.specs.Sessions.{IsNumberOf, IsLowestVacant, IsEarliest, NoneShares, value_at, read_at, used, with_value, without};
+ghost use Rattle.bng_sessions.specs.Sessions.{IsNumberOf, IsLowestVacant, IsEarliest, NoneShares, value_at, read_at, used, with_value, without};
 
 use crate::full::{Full, SlotError};
 use crate::index::Index;
 use crate::key::Due;
 use crate::shelf::Shelf;
-use crate::slotted::Slotted;
+use bng_sessions::Slotted;
 use crate::vacancy::{PLACES, Vacancy};
 use bng_base::{Circuit, Ip4, SessionNo, TermId};
 use std::alloc::Global;
@@ -29,7 +29,7 @@ pub struct Slots<V: Slotted> {
 }
 
 impl<V: Slotted> Model for Slots<V> {
-    ghost use Rattle.bng_slots.specs.Sessions.{Sessions, sessions_code};
+    ghost use Rattle.bng_sessions.specs.Sessions.{Sessions, sessions_code};
 
     ghost Value = { Sessions V };
 

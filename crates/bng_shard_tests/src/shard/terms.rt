@@ -5,7 +5,7 @@ ghost use Rattle.bng_shard.specs.Opening.{lease_from, provisioned};
 ghost use Rattle.bng_shard.specs.Protocol.{opened};
 ghost use Rattle.bng_pool.specs.Tables.{entry};
 ghost use Rattle.std.specs.List.{All};
-ghost use Rattle.bng_slots.specs.Sessions.{IsNumberOf};
+ghost use Rattle.bng_sessions.specs.Sessions.{IsNumberOf};
 
 use super::settings::{TWO, peer, rules};
 use super::{Bench, NOTHING, TO_IT, assert_sessions, item, request, span};

@@ -1,7 +1,7 @@
 use Rattle.std.proofs.Common.{◌≡◌, ◌∙◌, ℕ, Bool, Option, Some, ap, refl, subst, sym}
 use Rattle.std.specs.Prelude.{option_map}
 use Rattle.bng_base.specs.declared.address.SessionNo.{SessionNo}
-use Rattle.bng_slots.specs.Sessions.{IsLowestVacant, IsNumberOf, value_at}
+use Rattle.bng_sessions.specs.Sessions.{IsLowestVacant, IsNumberOf, value_at}
 use Rattle.bng_shard.specs.declared.session.Session.{Session}
 use Rattle.bng_shard.specs.Calls.{MakesSession}
 use Rattle.bng_shard.specs.Discovery.{IsVacancy}

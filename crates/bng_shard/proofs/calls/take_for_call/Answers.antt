@@ -5,7 +5,7 @@ use Rattle.bng_l2tp_tunnel.specs.View.{payloads, said}
 use Rattle.bng_l2tp_wire.specs.View.{control_of}
 use Rattle.bng_lns.specs.Tunnels.{TunnelsState, tunnel_at, with_step}
 use Rattle.std.specs.Prelude.{option_map}
-use Rattle.bng_slots.specs.Sessions.{NoneShares, value_at, without}
+use Rattle.bng_sessions.specs.Sessions.{NoneShares, value_at, without}
 use Rattle.bng_shard.specs.declared.rules.Rules.{Rules}
 use Rattle.bng_shard.specs.declared.session.Lease.{Lease}
 use Rattle.bng_shard.specs.declared.session.Service.{Service}

@@ -1,7 +1,7 @@
 use Rattle.std.proofs.Common.{◌≡◌, ◌∙◌, ℕ, ap, subst, sym}
 use Rattle.bng_base.specs.declared.address.SessionNo.{SessionNo}
 use Rattle.bng_lns.specs.Tunnels.{TunnelsState}
-use Rattle.bng_slots.specs.Sessions.{NoneShares, without}
+use Rattle.bng_sessions.specs.Sessions.{NoneShares, without}
 use Rattle.bng_shard.specs.declared.session.Session.{Session}
 use Rattle.bng_shard.specs.Indexed.{address_of}
 use Rattle.bng_shard.specs.Link.{admin_reset}

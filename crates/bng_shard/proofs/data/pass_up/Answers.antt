@@ -12,7 +12,7 @@ use Rattle.bng_shard.specs.Frames.{HearsData, found_up}
 use Rattle.bng_shard.specs.Metered.{meters_found, view_in}
 use Rattle.bng_shard.specs.Passing.{with_passed}
 use Rattle.bng_shard.specs.Running.{whole}
-use Rattle.bng_slots.specs.Sessions.{value_at}
+use Rattle.bng_sessions.specs.Sessions.{value_at}
 use Rattle.bng_shard.specs.State.{State, session_at}
 use Rattle.bng_shard.proofs.Carrying.{drops_up, goes_up}
 use Rattle.bng_shard.proofs.Values.{none_some}

@@ -1,7 +1,7 @@
 use Rattle.std.proofs.Common.{ℕ, List, Option, ap, subst, sym, ◌∙◌}
 use Rattle.bng_shard.specs.Fits.{IsPlaced}
 use Rattle.bng_shard.specs.declared.session.Session.{Session}
-use Rattle.bng_slots.specs.Sessions.{IsNumberOf, value_at}
+use Rattle.bng_sessions.specs.Sessions.{IsNumberOf, value_at}
 use Rattle.bng_ppp.specs.declared.whole_input.WholeInput.TheVariants.{Start}
 use Rattle.bng_ppp.specs.PppRelation.{PppSteps}
 use Rattle.bng_shard.specs.Driven.{Driven}

@@ -4,7 +4,7 @@ use Rattle.bng_shard.specs.Indexed.{address_of}
 use Rattle.bng_shard.specs.declared.session.Session.{Session}
 use Rattle.bng_ppp.specs.PppRelation.{PppSteps}
 use Rattle.bng_shard.specs.Driven.{Driven}
-use Rattle.bng_slots.specs.Sessions.{value_at, NoneShares}
+use Rattle.bng_sessions.specs.Sessions.{value_at, NoneShares}
 use Rattle.bng_shard.specs.State.{State, beside_at, with_tunnels}
 use Rattle.bng_shard.proofs.Serves.{live_stays}
 use Rattle.bng_shard.proofs.Driving.{number_of}

@@ -2,7 +2,7 @@ use Rattle.std.proofs.Common.{◌≡◌, ◌∙◌, Some, ap, subst, sym}
 use Rattle.bng_base.specs.declared.address.SessionNo.{SessionNo}
 use Rattle.bng_shard.specs.declared.session.Session.{Session}
 use Rattle.bng_shard.specs.Link.{ended}
-use Rattle.bng_slots.specs.Sessions.{value_at}
+use Rattle.bng_sessions.specs.Sessions.{value_at}
 use Rattle.bng_shard.specs.Serving.{KeepsLease}
 use Rattle.bng_shard.specs.Indexed.{address_of}
 use Rattle.bng_shard.specs.State.{with_session}

@@ -1,7 +1,7 @@
 use Rattle.std.proofs.Common.{◌≡◌, ◌∙◌, ℕ, ap, length, refl, subst, sym}
 use Rattle.bng_base.specs.declared.address.SessionNo.{SessionNo}
 use Rattle.bng_lns.specs.Tunnels.{TunnelsState}
-use Rattle.bng_slots.specs.Sessions.{NoneShares, without}
+use Rattle.bng_sessions.specs.Sessions.{NoneShares, without}
 use Rattle.bng_shard.specs.Fits.{ArePlaced, IsPlaced}
 use Rattle.bng_shard.specs.Indexed.{address_of}
 use Rattle.bng_shard.specs.Passing.{cause_at, passed_at}

@@ -2,7 +2,7 @@ use Rattle.std.proofs.Common.{◌≡◌, ◌+◌, ◌++◌, ◌∷◌, [], ◌�
 use Rattle.std.specs.Prelude.{slice_set}
 use Rattle.bng_ppp.specs.declared.whole_input.WholeInput.TheVariants.{Verdict}
 use Rattle.bng_ppp.specs.PppRelation.{PppSteps}
-use Rattle.bng_slots.specs.Sessions.{value_at}
+use Rattle.bng_sessions.specs.Sessions.{value_at}
 use Rattle.bng_lns.specs.Tunnels.{TunnelsState}
 use Rattle.bng_shard.specs.declared.session.Session.{Session}
 use Rattle.bng_shard.specs.Driven.{Driven}

@@ -3,8 +3,8 @@ use Rattle.std.specs.Cmp.{nat_cmp_total}
 use Rattle.std.specs.FinMap.{get-from_sorted}
 use Rattle.std.specs.Ordering.{nat_cmp}
 use Rattle.bng_shard.specs.declared.session.Session.{Session}
-use Rattle.bng_slots.specs.Sessions.{Sessions}
-use Rattle.bng_slots.proofs.Entries.{Inserted, found_some, insert_leaves}
+use Rattle.bng_sessions.specs.Sessions.{Sessions}
+use Rattle.bng_sessions.proofs.Entries.{Inserted, found_some, insert_leaves}
 use Rattle.bng_shard.specs.Serving.{AreOfShard}
 use Rattle.bng_shard.proofs.PlainLaws.{few, put_seen}
 use Rattle.bng_shard.proofs.Serves.{of_shard_put}

@@ -3,7 +3,7 @@ use Rattle.std.specs.Cmp.{nat_cmp_total}
 use Rattle.std.specs.FinMap.{get-from_sorted}
 use Rattle.std.specs.Ordering.{nat_cmp}
 use Rattle.bng_shard.specs.declared.session.Session.{Session}
-use Rattle.bng_slots.proofs.Entries.{Removed, found_here, not_here, nothing_leaves, remove_leaves}
+use Rattle.bng_sessions.proofs.Entries.{Removed, found_here, not_here, nothing_leaves, remove_leaves}
 use Rattle.bng_shard.specs.Serving.{AreOfShard}
 use Rattle.bng_shard.proofs.PlainLaws.{take_seen}
 use Rattle.bng_shard.proofs.Serves.{of_shard_take}

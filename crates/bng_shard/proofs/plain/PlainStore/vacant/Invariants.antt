@@ -1,5 +1,5 @@
 use Rattle.std.proofs.Common.{ℕ, ◌≤◌, ◌<◌, IsSome}
-use Rattle.bng_slots.specs.Sessions.{value_at}
+use Rattle.bng_sessions.specs.Sessions.{value_at}
 use Rattle.bng_shard.proofs.plain.PlainStore.vacant.Given as goal
 
 abbrev pub invariant-loop-n : goal.invariant-loop-n

@@ -1,6 +1,6 @@
 use Rattle.std.proofs.Common.{◌≡◌, ◌∙◌, Some, false, sym, ap, subst, arith, List, length}
 use Rattle.bng_base.specs.declared.address.SessionNo.{SessionNo}
-use Rattle.bng_slots.specs.Sessions.{NoneShares, Sessions, value_at, without}
+use Rattle.bng_sessions.specs.Sessions.{NoneShares, Sessions, value_at, without}
 use Rattle.bng_shard.specs.declared.session.Session.{Session}
 use Rattle.bng_shard.specs.Indexed.{address_of}
 use Rattle.bng_shard.specs.Listing.{passing_in, without_listed}

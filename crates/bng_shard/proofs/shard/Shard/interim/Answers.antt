@@ -2,7 +2,7 @@ use Rattle.std.proofs.Common.{List, ap, refl, sym, ◌∙◌}
 use Rattle.std.specs.Prelude.{drop, slice_get}
 use Rattle.bng_base.specs.declared.item.Entry.{Entry}
 use Rattle.bng_engine.specs.Views.{Row, ShardView}
-use Rattle.bng_slots.specs.Sessions.{value_at}
+use Rattle.bng_sessions.specs.Sessions.{value_at}
 use Rattle.bng_shard.specs.Interims.{Reports, owed, reported_at, row_in, row_told}
 use Rattle.bng_shard.specs.Protocol.{ShardState}
 use Rattle.bng_shard.specs.Running.{rows_in}

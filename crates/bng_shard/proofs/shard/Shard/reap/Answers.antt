@@ -2,7 +2,7 @@ use Rattle.std.proofs.Common.{◌≡◌, ◌≢◌, ◌≤◌, refl, sym, ap, su
 use Rattle.std.specs.List.{All, AllPairs}
 use Rattle.bng_base.specs.declared.item.Entry.{Entry}
 use Rattle.bng_engine.specs.Views.{ShardView}
-use Rattle.bng_slots.specs.Sessions.{Sessions}
+use Rattle.bng_sessions.specs.Sessions.{Sessions}
 use Rattle.bng_shard.specs.declared.session.Session.{Session}
 use Rattle.bng_shard.specs.declared.terms.Running.{Running}
 use Rattle.bng_shard.specs.Fits.{ArePlaced}

@@ -1,5 +1,5 @@
 use Rattle.std.proofs.Common.{sym, ap, ◌∙◌, Some}
-use Rattle.bng_slots.proofs.Entries.{found_here, not_here}
+use Rattle.bng_sessions.proofs.Entries.{found_here, not_here}
 use Rattle.bng_slots.proofs.index.Index.find.Goals as goal
 
 pub returns-in-Ok : goal.returns-in-Ok

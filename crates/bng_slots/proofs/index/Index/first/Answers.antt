@@ -1,4 +1,4 @@
-use Rattle.bng_slots.proofs.Entries.{first_of_all}
+use Rattle.bng_sessions.proofs.Entries.{first_of_all}
 use Rattle.bng_slots.proofs.index.Index.first.Goals as goal
 
 pub returns-clause-least : goal.returns-clause-least

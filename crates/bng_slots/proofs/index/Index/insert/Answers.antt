@@ -1,5 +1,5 @@
 use Rattle.std.proofs.Common.{rules}
-use Rattle.bng_slots.proofs.Entries.{found_some, insert_leaves, Inserted}
+use Rattle.bng_sessions.proofs.Entries.{found_some, insert_leaves, Inserted}
 use Rattle.bng_slots.proofs.index.Index.insert.Given as given
 use Rattle.bng_slots.proofs.index.Index.insert.Goals as goal
 

@@ -1,4 +1,4 @@
-use Rattle.bng_slots.proofs.Entries.{not_here, remove_leaves, nothing_leaves, Removed}
+use Rattle.bng_sessions.proofs.Entries.{not_here, remove_leaves, nothing_leaves, Removed}
 use Rattle.bng_slots.proofs.index.Index.remove.Given as given
 use Rattle.bng_slots.proofs.index.Index.remove.Goals as goal
 

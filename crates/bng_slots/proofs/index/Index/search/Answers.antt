@@ -1,6 +1,6 @@
 use Rattle.std.proofs.Common.{rules, of_calls}
 use Rattle.std.proofs.lemmas.Fn.{always_returns_same}
-use Rattle.bng_slots.proofs.Entries.{searched}
+use Rattle.bng_sessions.proofs.Entries.{searched}
 use Rattle.bng_slots.proofs.index.Index.search.Goals as goal
 
 -- the closure compares an entry's key with the one that is sought

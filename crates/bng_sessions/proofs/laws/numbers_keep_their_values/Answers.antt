@@ -1,5 +1,5 @@
-use Rattle.bng_slots.proofs.SessionLaws.{value_at-with_value, value_at-with_other, value_at-without, value_at-without_other, with_value-without}
-use Rattle.bng_slots.proofs.laws.numbers_keep_their_values.Goals as goal
+use Rattle.bng_sessions.proofs.SessionLaws.{value_at-with_value, value_at-with_other, value_at-without, value_at-without_other, with_value-without}
+use Rattle.bng_sessions.proofs.laws.numbers_keep_their_values.Goals as goal
 
 pub returns-clause-put : goal.returns-clause-put
 returns-clause-put g c = λ s n v. value_at-with_value s n v

@@ -1,7 +1,7 @@
 -- The sessions of a shard as a list, for sums and counts over them.
 use Rattle.std.specs.Prelude.{ℕ, List}
 use Rattle.std.specs.FinMap as map
-use Rattle.bng_slots.specs.Sessions.{Sessions}
+use Rattle.bng_sessions.specs.Sessions.{Sessions}
 
 module _ {V : Type 0} where
   -- the used session numbers with their values, by rising number

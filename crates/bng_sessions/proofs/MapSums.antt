@@ -8,7 +8,7 @@ use Rattle.std.specs.Cmp.{IsTotalOrder}
 use Rattle.std.proofs.lemmas.List.Sums.{sum_by-cons}
 use Rattle.std.specs.FinMap.{FinMap, IsAntisymmetric, get, find, put, insert, remove, entries, entries_sorted, is_sorted, entries-insert, get-entries, get-remove}
 use Rattle.std.specs.FinMap.Entries.{by_order, where_key, find-where_key, is_sorted-where_key, same_entries}
-use Rattle.bng_slots.proofs.Entries.{keeps_above, turn, turned, alike, swap}
+use Rattle.bng_sessions.proofs.Entries.{keeps_above, turn, turned, alike, swap}
 
 first : (a b : Bool) → T (a && b) → T a
 first true b p = tt

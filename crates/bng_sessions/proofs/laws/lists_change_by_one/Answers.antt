@@ -1,5 +1,5 @@
-use Rattle.bng_slots.proofs.SessionLaws.{same-with_value, same-without, sum-with_value, sum-without, used-with_value, used-without}
-use Rattle.bng_slots.proofs.laws.lists_change_by_one.Goals as goal
+use Rattle.bng_sessions.proofs.SessionLaws.{same-with_value, same-without, sum-with_value, sum-without, used-with_value, used-without}
+use Rattle.bng_sessions.proofs.laws.lists_change_by_one.Goals as goal
 
 pub returns-clause-put : goal.returns-clause-put
 returns-clause-put g c = λ s n v none. same-with_value s n v none

@@ -5,11 +5,11 @@ use Rattle.std.specs.Ordering.{nat_cmp, eq_by_cmp}
 use Rattle.std.specs.Cmp.{nat_cmp_total}
 use Rattle.std.proofs.lemmas.List.Sums.{sum_by-cons}
 use Rattle.std.specs.FinMap.{nat_cmp-IsAntisymmetric, same_map, get, entries, len, get-insert, get-remove, len-insert, len-entries}
-use Rattle.bng_slots.specs.Sessions.{Sessions, value_at, used, with_value, without}
+use Rattle.bng_sessions.specs.Sessions.{Sessions, value_at, used, with_value, without}
 use Rattle.bng_base.specs.Listed.{Same}
-use Rattle.bng_slots.specs.Listed.{values}
-use Rattle.bng_slots.proofs.Numbered.{same_number, other_number}
-use Rattle.bng_slots.proofs.MapSums.{sum-insert, sum-remove}
+use Rattle.bng_sessions.specs.Listed.{values}
+use Rattle.bng_sessions.proofs.Numbers.{same_number, other_number}
+use Rattle.bng_sessions.proofs.MapSums.{sum-insert, sum-remove}
 
 sum-values : {V : Type 0} (f : V → ℕ) (es : List (ℕ × V)) → sum_by f (map (λ e. e.1) es) ≡ sum_by (λ e. f e.1) es
 sum-values f [] = refl

@@ -1,9 +1,9 @@
 // What holds of a shard's sessions, whoever changes them.
 ghost use Rattle.std.specs.Prelude.{◌≡◌, ◌≢◌, ◌+◌, ◌∷◌, ℕ, Some, None};
 ghost use Rattle.std.specs.List.{sum_by};
-ghost use Rattle.bng_slots.specs.Sessions.{Sessions, value_at, used, with_value, without};
+ghost use Rattle.bng_sessions.specs.Sessions.{Sessions, value_at, used, with_value, without};
 ghost use Rattle.bng_base.specs.Listed.{Same};
-ghost use Rattle.bng_slots.specs.Listed.{values};
+ghost use Rattle.bng_sessions.specs.Listed.{values};
 
 use crate::slotted::Slotted;
 
