@@ -14,8 +14,8 @@ use Rattle.bng_schema.specs.declared.keys.Key.TheVariants.{Of}
 use Rattle.bng_schema.specs.declared.rule.Rule.TheVariants.{C11}
 use Rattle.bng_schema.specs.Keys.{entries}
 use Rattle.bng_schema.specs.Forms.{StandsAt, EachPlace, IsAddress}
-use Rattle.bng_base.specs.Ranges.{InRange}
-use Rattle.bng_schema.specs.Ranges.{HasAddress, size_of, address_count, IsRangeAt, IsUnfit}
+use Rattle.bng_base.specs.Ranges.{InRange, size_of}
+use Rattle.bng_schema.specs.Ranges.{HasAddress, address_count, IsRangeAt, IsUnfit}
 use Rattle.bng_schema.specs.Circuits.{IsPooledBelow}
 use Rattle.bng_schema.specs.Checks.{IsSound}
 use Rattle.bng_schema.proofs.Places.{each_none}

@@ -17,8 +17,7 @@ use Rattle.bng_engine.specs.Pool.{Asks, ClaimsSoFar}
 use Rattle.bng_engine.specs.Turns.{journals_in}
 use Rattle.bng_engine.specs.Views.{ShardView}
 use Rattle.bng_pool.specs.Plain.{PlainView}
-use Rattle.bng_base.specs.Ranges.{InRange}
-use Rattle.bng_pool.specs.Ranges.{size_of}
+use Rattle.bng_base.specs.Ranges.{InRange, size_of}
 use Rattle.bng_pool.specs.Tables.{Table, IsTaken, Puts, entry}
 use Rattle.bng_shard.specs.Protocol.{ShardState, Handled, AnswersClaim, HasPools, addresses_in, claimed_by, refused_by, pppoe, terms_of}
 use Rattle.bng_shard.proofs.Values.{none_some}

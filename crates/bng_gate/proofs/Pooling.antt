@@ -5,7 +5,8 @@ use Rattle.bng_base.specs.declared.book.Range.{Range}
 use Rattle.bng_base.specs.declared.settings.NamedRange.{NamedRange}
 use Rattle.bng_config.specs.declared.config.Config.{Config}
 use Rattle.bng_config.specs.Pools.{ranges_of}
-use Rattle.bng_schema.specs.Ranges.{address_count as configured, size_of}
+use Rattle.bng_base.specs.Ranges.{size_of}
+use Rattle.bng_schema.specs.Ranges.{address_count as configured}
 use Rattle.bng_config.specs.Rules.{KeepsRules}
 use Rattle.bng_pool.specs.Ranges.{ArePoolRanges, HasAddress, address_count}
 

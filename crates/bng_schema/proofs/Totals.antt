@@ -5,7 +5,8 @@ use Rattle.std.proofs.lemmas.Bool.Decides.{nat_tests}
 use Rattle.toml.specs.Data.{Data}
 use Rattle.bng_base.specs.declared.book.Range.{Range}
 use Rattle.bng_schema.specs.Forms.{IsAddress}
-use Rattle.bng_schema.specs.Ranges.{size_of, address_count, IsRangeAt, AreRangesOf, AreTooMany}
+use Rattle.bng_base.specs.Ranges.{size_of}
+use Rattle.bng_schema.specs.Ranges.{address_count, IsRangeAt, AreRangesOf, AreTooMany}
 use Rattle.bng_schema.proofs.Once.{address_at_once, one_at, one_list}
 use Rattle.bng_schema.proofs.Places.{each_none, each_push}
 

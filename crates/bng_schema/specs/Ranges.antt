@@ -3,7 +3,7 @@ use Rattle.std.specs.Prelude.{◌≡◌, ◌<◌, ◌≤◌, ◌+◌, ◌-◌, �
 use Rattle.toml.specs.Data.{Data}
 use Rattle.bng_base.specs.declared.address.Ip4.{Ip4}
 use Rattle.bng_base.specs.declared.book.Range.{Range}
-use Rattle.bng_base.specs.Ranges.{InRange}
+use Rattle.bng_base.specs.Ranges.{InRange, size_of}
 use Rattle.bng_schema.specs.declared.keys.Field.TheVariants.{GatewayAddress, PoolFirst, PoolLast}
 use Rattle.bng_schema.specs.declared.keys.Key.{Key}
 use Rattle.bng_schema.specs.declared.keys.Key.TheVariants.{Whole, Of}
@@ -16,10 +16,6 @@ HasAddress ranges a = (k : ℕ) × (r : Range) × (slice_get ranges k ≡ Some r
 -- some address is in both
 abbrev pub Meets : Range → Range → Type 0
 Meets r q = (a : ℕ) × InRange r a × InRange q a
-
--- how many addresses a range has
-abbrev pub size_of : Range → ℕ
-size_of r = r.last.0 + 1 - r.first.0
 
 -- how many addresses the ranges have
 abbrev pub address_count : List Range → ℕ

@@ -3,8 +3,8 @@ ghost use Rattle.std.specs.Prelude.{◌≡◌, ◌≤◌, ◌<◌, ◌+◌, ◌�
 ghost use Rattle.toml.specs.View.{view};
 ghost use Rattle.bng_base.specs.declared.book.Range.{Range as Addresses};
 ghost use Rattle.bng_schema.specs.Forms.{StandsAt, IsAddress};
-ghost use Rattle.bng_base.specs.Ranges.{InRange};
-ghost use Rattle.bng_schema.specs.Ranges.{Meets, size_of as size, IsRangeAt, AreRangesOf, HasOwn, MeetsEarlier, AreTooMany, IsUnfit, HasBadRange};
+ghost use Rattle.bng_base.specs.Ranges.{InRange, size_of as size};
+ghost use Rattle.bng_schema.specs.Ranges.{Meets, IsRangeAt, AreRangesOf, HasOwn, MeetsEarlier, AreTooMany, IsUnfit, HasBadRange};
 
 use crate::keys::{Field, Key};
 use crate::values::address_at;

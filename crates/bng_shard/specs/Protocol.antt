@@ -19,8 +19,7 @@ use Rattle.bng_engine.specs.Sums.{passed_sum, stopped_where}
 use Rattle.bng_engine.specs.Terms.{Key, Stop, Term, ComesBefore, is_ended, keys}
 use Rattle.bng_engine.specs.Views.{ShardView, Row, new_row, row_keys, rows_where}
 use Rattle.bng_pool.specs.Plain.{PlainView}
-use Rattle.bng_base.specs.Ranges.{InRange}
-use Rattle.bng_pool.specs.Ranges.{size_of}
+use Rattle.bng_base.specs.Ranges.{InRange, size_of}
 use Rattle.bng_pool.specs.Tables.{Table, IsTaken, Puts, entry}
 use Rattle.bng_shard.specs.declared.changes.Answer.{Answer}
 use Rattle.bng_shard.specs.declared.rules.Rules.{Rules}
