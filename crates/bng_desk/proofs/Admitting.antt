@@ -1,5 +1,5 @@
 -- A round has at most one Tick and one End for a shard.
-use Rattle.std.proofs.Common.{◌≡◌, ℕ, ◌+◌, ◌<◌, Bool, true, false, ◌||◌, cond, List, [], ◌∷◌, ◌++◌, map, length, get_or, if◌then◌else◌, ⊎_elim, refl, sym, ap, subst, ◌∙◌, arith, eqb}
+use Rattle.std.proofs.Common.{◌≡◌, ℕ, ◌+◌, ◌<◌, Bool, true, false, ◌||◌, cond, List, [], ◌∷◌, ◌++◌, map, length, get_or, Option, if◌then◌else◌, ⊎_elim, refl, sym, ap, subst, ◌∙◌, arith, eqb}
 use Rattle.std.specs.List.{AllByRecursion, AllPairs, AllZip, filter}
 use Rattle.std.proofs.lemmas.Bool.{false≢true}
 use Rattle.std.proofs.lemmas.Bool.Decides.{nat_tests}
@@ -12,14 +12,17 @@ use Rattle.bng_base.specs.declared.item.ItemKind.{ItemKind}
 use Rattle.bng_base.specs.declared.item.ItemKind.TheVariants.{Access, Core, Tunnel, Verdict, Change, Tick, End}
 use Rattle.bng_engine.specs.Views.{ShardView}
 use Rattle.bng_engine.proofs.Everywhere.{all_append, all_mapped, all_weaker}
-use Rattle.bng_pool.specs.Tables.{Table}
+use Rattle.bng_base.specs.declared.fate.Fate.TheVariants.{Consumed}
+use Rattle.bng_pool.specs.Tables.{Table, entry}
 use Rattle.bng_shard.specs.declared.rules.Rules.{Rules}
 use Rattle.bng_shard.specs.declared.whose.Whose.{Whose}
 use Rattle.bng_shard.specs.declared.whose.Whose.TheVariants.{Loose as IsLoose, Stands}
 use Rattle.bng_shard.specs.Protocol.{entry_of}
 use Rattle.bng_shard.specs.Room.{Admits, is_tick, is_end}
 use Rattle.bng_shard.specs.Protocol.{ShardState}
-use Rattle.bng_shard.specs.Whose.{IsWhose, IsForKind, IsForTarget}
+use Rattle.bng_shard.specs.declared.destination.Destination.{Destination}
+use Rattle.bng_shard.specs.Destinations.{IsForKind, IsForTarget}
+use Rattle.bng_shard.specs.Whose.{IsFound, IsWhose}
 use Rattle.bng_desk.specs.Items.{entries_in, stands_in, without_claim}
 use Rattle.bng_desk.specs.Taking.{is_once, AreOnce}
 
@@ -54,18 +57,22 @@ once_before done item left once is =
 
 -- Entries ---------------------------------------------------------------------------------------------------------------
 
-target_is : (r : Rules) (target n : ℕ) → IsForTarget r target (Stands n) → target ≡ n
-target_is r target n h = ⊎_elim (λ h. let e = h.1 in cc) (λ h. let e = h.1 in absurd (cc)) h
+target_is : (r : Rules) (holder : ℕ → Option ℕ) (target n : ℕ) (d : Destination) → IsForTarget r target d → IsFound holder d (Stands n) → target ≡ n
+target_is r holder target n d h found =
+    ⊎_elim
+    (λ h. let e : Stands n ≡ Stands target = subst (λ (x : Destination). IsFound holder x (Stands n)) h.1 found in cc)
+    (λ h. let e : Stands n ≡ IsLoose Consumed = subst (λ (x : Destination). IsFound holder x (Stands n)) h.1 found in absurd (cc))
+    h
 
 -- a Tick or an End stands in the shard that it is for
-once_target : (kind : ItemKind) (r : Rules) (table : Table) (item : Item) (n : ℕ) → IsForKind kind r table item (Stands n) → is_once kind ≡ true → item.target ≡ n
-once_target (Access number) r table item n h e = absurd (false≢true e)
-once_target Core r table item n h e = absurd (false≢true e)
-once_target Tunnel r table item n h e = absurd (false≢true e)
-once_target Verdict r table item n h e = absurd (false≢true e)
-once_target Change r table item n h e = absurd (false≢true e)
-once_target Tick r table item n h e = target_is r item.target n h
-once_target End r table item n h e = target_is r item.target n h
+once_target : (kind : ItemKind) (r : Rules) (holder : ℕ → Option ℕ) (item : Item) (n : ℕ) (d : Destination) → IsForKind kind r item d → IsFound holder d (Stands n) → is_once kind ≡ true → item.target ≡ n
+once_target (Access number) r holder item n d h found e = absurd (false≢true e)
+once_target Core r holder item n d h found e = absurd (false≢true e)
+once_target Tunnel r holder item n d h found e = absurd (false≢true e)
+once_target Verdict r holder item n d h found e = absurd (false≢true e)
+once_target Change r holder item n d h found e = absurd (false≢true e)
+once_target Tick r holder item n d h found e = target_is r holder item.target n d h found
+once_target End r holder item n d h found e = target_is r holder item.target n d h found
 
 abbrev NotOnce : Entry → Type 0
 NotOnce e = is_once e.item.kind ≡ false
@@ -86,8 +93,8 @@ none_in false n place moment i h = tt
 abbrev pub StandsOnce : Item → Whose → Type 0
 StandsOnce i w = (n : ℕ) → w ≡ Stands n → is_once i.kind ≡ true → i.target ≡ n
 
-pub stands_once : (r : Rules) (table : Table) (i : Item) (w : Whose) → IsWhose r table i w → StandsOnce i w
-stands_once r table i w is n at once = once_target i.kind r table i n (subst (IsWhose r table i) at is) once
+pub stands_once : (r : Rules) (table : Table) (i : Item) (w : Whose) → IsWhose r (entry table) i w → StandsOnce i w
+stands_once r table i w is n at once = once_target i.kind r (entry table) i n is.destination is.leads (subst (IsFound (entry table) is.destination) at is.found) once
 
 not_here : (n : ℕ) (i : Item) (w : Whose) → StandsOnce i w → IsLower n i → stands_in n w ≡ true → is_once i.kind ≡ false
 not_here n i (IsLoose fate) is low e = absurd (false≢true e)
@@ -127,7 +134,7 @@ none_admits v kind h = record {
 
 -- the shard of the next item admits it
 pub admits_next : (r : Rules) (table : Table) (moment : ℕ) (done : List Item) (whose : List Whose) (item : Item) (left : List Item) (n : ℕ) (v : ShardView ShardState Entry)
-    → AreOnce (done ++ item ∷ left) → AllZip StandsOnce done whose → IsWhose r table item (Stands n) → map without_claim v.journal ≡ entries_in 0 n 0 moment done whose → Admits v item.kind
+    → AreOnce (done ++ item ∷ left) → AllZip StandsOnce done whose → IsWhose r (entry table) item (Stands n) → map without_claim v.journal ≡ entries_in 0 n 0 moment done whose → Admits v item.kind
 admits_next r table moment done whose item left n v once are is journal = none_admits v item.kind (λ yes.
     let target : item.target ≡ n = once_target item.kind r table item n is yes in
     let low : AllByRecursion (IsLower n) done = subst (λ (m : ℕ). AllByRecursion (IsLower m) done) target (once_before done item left once yes) in

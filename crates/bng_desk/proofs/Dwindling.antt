@@ -18,7 +18,7 @@ use Rattle.bng_engine.specs.Journals.{after, AreSteps}
 use Rattle.bng_engine.specs.Views.{ShardView}
 use Rattle.bng_engine.proofs.Everywhere.{all_weaker}
 use Rattle.bng_pool.specs.Plain.{PlainView}
-use Rattle.bng_pool.specs.Tables.{Table}
+use Rattle.bng_pool.specs.Tables.{Table, entry}
 use Rattle.bng_sessions.specs.Listed.{values}
 use Rattle.bng_sessions.specs.Sessions.{value_at, with_value}
 use Rattle.bng_shard.specs.declared.rules.Rules.{Rules}
@@ -38,7 +38,9 @@ use Rattle.bng_shard.specs.State.{Beside, State, count_in}
 use Rattle.bng_shard.specs.Step.{Hears}
 use Rattle.bng_shard.specs.Timers.{LosesTerm}
 use Rattle.bng_shard.specs.Verdicts.{HearsVerdict, Judges, next_lease, settled_by}
-use Rattle.bng_shard.specs.Whose.{IsForKind, IsForTarget}
+use Rattle.bng_shard.specs.declared.destination.Destination.{Destination}
+use Rattle.bng_shard.specs.Destinations.{IsForKind, IsForTarget}
+use Rattle.bng_shard.specs.Whose.{IsFound}
 use Rattle.bng_shard.proofs.Changing.{Comes, change_comes}
 use Rattle.bng_shard.proofs.Fewer.{end_leaves_fewer}
 use Rattle.bng_shard.proofs.Values.{sum_by-replaced}
@@ -85,8 +87,9 @@ not_same a n e = grind (arith, nat_tests)
 -- an End stands in the shard that it is for
 end_whose : (r : Rules) (opening last : Table) (i : Item) (w : Whose) → IsWhoseIn r opening last i w → i.kind ≡ End → i.target < r.shards → w ≡ Stands i.target
 end_whose r opening last i w is kind lt =
-    let h : IsForTarget r i.target w = subst (λ (k : ItemKind). IsForKind k r is.table i w) kind is.is in
-    ⊎_elim (λ h. h.1) (λ h. absurd (omega (arith, h.0, lt))) h
+    let holder = entry is.table in
+    let h : IsForTarget r i.target is.is.destination = subst (λ (k : ItemKind). IsForKind k r i is.is.destination) kind is.is.leads in
+    ⊎_elim (λ h. subst (λ (d : Destination). IsFound holder d w) h.1 is.is.found) (λ h. absurd (omega (arith, h.0, lt))) h
 
 -- one entry, of an End
 record OneEnd (es : List Entry) : Type 0 where

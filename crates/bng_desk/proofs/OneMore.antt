@@ -31,7 +31,7 @@ use Rattle.bng_engine.proofs.SameLists.{same_equal}
 use Rattle.bng_engine.proofs.Showing.{shows_begin, shows_handles, shows_more}
 use Rattle.bng_engine.proofs.Walks.{zip_same, zip_set}
 use Rattle.bng_pool.specs.Plain.{PlainView}
-use Rattle.bng_pool.specs.Tables.{Table}
+use Rattle.bng_pool.specs.Tables.{Table, entry}
 use Rattle.bng_shard.specs.declared.rules.Rules.{Rules}
 use Rattle.bng_shard.specs.declared.whose.Whose.{Whose}
 use Rattle.bng_shard.specs.declared.whose.Whose.TheVariants.{Loose as IsLoose, Stands}
@@ -152,13 +152,13 @@ module _ (r : Rules) (pool mid pool' : PlainView) (moment : ℕ) (has_pools : Ha
   DealsAll = Deals r pool pool' moment all olds shards' loose' first drops' start tally'
 
   -- it is for this now
-  whose_here : HasAll mid.table pool'.table → (w : Whose) → IsWhose r mid.table item w → AllZip (IsWhoseIn r pool.table pool'.table) all (so_far.whose ++ w ∷ [])
+  whose_here : HasAll mid.table pool'.table → (w : Whose) → IsWhose r (entry mid.table) item w → AllZip (IsWhoseIn r pool.table pool'.table) all (so_far.whose ++ w ∷ [])
   whose_here keeps w is =
       zip_push (IsWhoseIn r pool.table pool'.table) done so_far.whose item w (whose_still r pool.table mid.table pool'.table done so_far.whose keeps so_far.is_whose)
       (record { table = mid.table; since = so_far.claimed.keeps; until = keeps; is = is })
 
   -- a loose item
-  more_loose : (cause : Fate) → IsWhose r mid.table item (IsLoose cause) → DealsTo mid pool' (IsLoose cause) (length done) moment item shards shards' loose loose' tally tally' fate → DealsAll
+  more_loose : (cause : Fate) → IsWhose r (entry mid.table) item (IsLoose cause) → DealsTo mid pool' (IsLoose cause) (length done) moment item shards shards' loose loose' tally tally' fate → DealsAll
   more_loose cause is deals =
       let w : Whose = IsLoose cause in
       let l : Loose = record { seat = 0; place = length done; item = item; fate = cause } in
@@ -187,7 +187,7 @@ module _ (r : Rules) (pool mid pool' : PlainView) (moment : ℕ) (has_pools : Ha
       }
 
   -- an item that stands in a shard
-  more_standing : (n : ℕ) → IsWhose r mid.table item (Stands n) → DealsTo mid pool' (Stands n) (length done) moment item shards shards' loose loose' tally tally' fate → DealsAll
+  more_standing : (n : ℕ) → IsWhose r (entry mid.table) item (Stands n) → DealsTo mid pool' (Stands n) (length done) moment item shards shards' loose loose' tally tally' fate → DealsAll
   more_standing n is deals =
       let h = deals.0 in
       let e = entry_of 0 (length done) moment item in
@@ -251,7 +251,7 @@ module _ (r : Rules) (pool mid pool' : PlainView) (moment : ℕ) (has_pools : Ha
         few = omega (arith, ap (λ (vs : Shards). sum_by outs_in vs) h.others, whole, number, length-append was.outs effect.deed.outs, so_far.few, hs.few, sum_by_push outs_for done item);
       }
 
-  more_by : (w : Whose) → IsWhose r mid.table item w → DealsTo mid pool' w (length done) moment item shards shards' loose loose' tally tally' fate → DealsAll
+  more_by : (w : Whose) → IsWhose r (entry mid.table) item w → DealsTo mid pool' w (length done) moment item shards shards' loose loose' tally tally' fate → DealsAll
   more_by (IsLoose cause) is deals = more_loose cause is deals
   more_by (Stands n) is deals = more_standing n is deals
 

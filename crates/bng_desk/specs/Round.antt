@@ -82,7 +82,7 @@ pub record IsWhoseIn (r : Rules) (opening last : Table) (item : Item) (whose : W
   pub table : Table
   pub since : HasAll opening table
   pub until : HasAll table last
-  pub is : IsWhose r table item whose
+  pub is : IsWhose r (entry table) item whose
 
 -- The entries of a round claimed addresses that were free, each once: each is held by the shard of its entry from then on, and no other
 -- address changed hands.

@@ -42,6 +42,7 @@ use Rattle.bng_shard.specs.Room.{is_tick, is_end}
 use Rattle.bng_shard.specs.State.{reaped}
 use Rattle.bng_shard.specs.Sums.{AreLow, RowsAreLow}
 use Rattle.bng_shard.specs.Tenures.{Tenure}
+use Rattle.bng_pool.specs.Tables.{entry}
 use Rattle.bng_shard.specs.Whose.{IsWhose}
 use Rattle.bng_billing.specs.State.{BillingState}
 use Rattle.bng_desk.specs.declared.accounts.Stopped.{Stopped}
@@ -160,7 +161,7 @@ DealsTo pool pool' (Stands n) place moment item shards shards' loose loose' tall
 
 pub record DealsOne (r : Rules) (pool pool' : PlainView) (place moment : ℕ) (item : Item) (shards shards' : List Shown) (loose loose' : List Loose) (tally tally' : Book) (fate : Fate) : Type 0 where
   pub whose : Whose
-  pub is_whose : IsWhose r pool.table item whose
+  pub is_whose : IsWhose r (entry pool.table) item whose
   pub deals : DealsTo pool pool' whose place moment item shards shards' loose loose' tally tally' fate
 
 -- the shards, from this one on, have the entries of the items that stand in them, which are taken without their claims

@@ -5,6 +5,7 @@ ghost use Rattle.bng_engine.specs.Calls.{Kept, IsReady};
 ghost use Rattle.bng_engine.specs.Lists.{one_if};
 ghost use Rattle.bng_engine.specs.Quantities.{Quantity, in_book};
 ghost use Rattle.bng_engine.specs.Sums.{charge_if, is_directed, passed_sum};
+ghost use Rattle.bng_pool.specs.Tables.{entry};
 ghost use Rattle.bng_shard.specs.Protocol.{AreHeld, HasPools, terms_of};
 ghost use Rattle.bng_shard.specs.Room.{Admits};
 ghost use Rattle.bng_shard.specs.Sums.{Has, IsMore, IsLow, AreLow, RowsAreLow};
@@ -131,7 +132,7 @@ fn deal(
     requires moment { dealt.now.moment < 2 ^ 60 }
     requires whole { dealt.now.item.now.frame.headroom ≡ 64 }
     requires room { All (λ v. 0 < v.room) shards.old }
-    requires once { (n : ℕ) (d : Shown) → n < length shards.old → IsWhose rules.now pool.old.table dealt.now.item.now (Whose.Stands n) → Admits (slice_index_or shards.old n d) dealt.now.item.now.kind }
+    requires once { (n : ℕ) (d : Shown) → n < length shards.old → IsWhose rules.now (entry pool.old.table) dealt.now.item.now (Whose.Stands n) → Admits (slice_index_or shards.old n d) dealt.now.item.now.kind }
     requires low_books { All (λ v. AreLow (2 ^ 63) v.books) shards.old }
     requires low_tally { IsLow (2 ^ 63) tally.old }
     requires loose_room { length loose.old.items < vec_capacity loose.old }

@@ -1,12 +1,8 @@
 -- The shard that holds an address is one of those of the pool.
-use Rattle.std.proofs.Common.{◌≡◌, ℕ, ◌==◌, ◌<◌, Bool, true, false, List, [], ◌∷◌, arith, sym, subst}
+use Rattle.std.proofs.Common.{◌≡◌, ℕ, ◌==◌, ◌<◌, Bool, true, false, List, [], ◌∷◌, arith}
 use Rattle.std.specs.Prelude.{Option, Some, if◌then◌else◌}
 use Rattle.std.specs.List.{All, AllByRecursion}
 use Rattle.std.proofs.lemmas.List.Elements.{recursion_from_All}
-use Rattle.bng_base.specs.declared.settings.AccessPort.{AccessPort}
-use Rattle.bng_base.specs.FateOf.{Arrival}
-use Rattle.bng_base.specs.PppoeGrammar.{PppoeFrame}
-use Rattle.bng_forward.specs.Fates.{IsFrame}
 use Rattle.bng_pool.specs.Tables.{Table, entry}
 
 pick : (b : Bool) (x : ℕ × ℕ) (rest : Option ℕ) (m n : ℕ) → x.1 < m → (rest ≡ Some n → n < m) → (if b then Some x.1 else rest) ≡ Some n → n < m
@@ -19,7 +15,3 @@ held_by (x ∷ rest) a m n all e = pick (x.0 == a) x (entry rest a) m n all.0 (h
 
 pub held_inside : (table : Table) (a m n : ℕ) → All (λ (e : ℕ × ℕ). e.1 < m) table → entry table a ≡ Some n → n < m
 held_inside table a m n all e = held_by table a m n (recursion_from_All (λ (x : ℕ × ℕ). x.1 < m) table all) e
-
--- what is no frame of the one is none of the other, where they are the same
-pub no_frame : (ports ports' : List AccessPort) (number : ℕ) (a a' : Arrival) → ports ≡ ports' → a ≡ a' → ((p : PppoeFrame) → ¬ (IsFrame ports number a p)) → (p : PppoeFrame) → ¬ (IsFrame ports' number a' p)
-no_frame ports ports' number a a' e f none p h = none p (subst (λ (x : Arrival). IsFrame ports number x p) (sym f) (subst (λ (qs : List AccessPort). IsFrame qs number a' p) (sym e) h))

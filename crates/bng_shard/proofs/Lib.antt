@@ -87,3 +87,4 @@ pub mod ClaimedTerms
 pub mod Numbered
 pub mod TermYeses
 pub mod PlainLaws
+pub mod NoFrames

@@ -36,7 +36,7 @@ use Rattle.bng_ppp.specs.declared.whole_input.WholeInput.TheVariants.{Start}
 use Rattle.bng_ppp.specs.PppState.{PppState}
 use Rattle.bng_sessions.specs.Sessions.{IsLowestVacant, value_at}
 use Rattle.bng_shard.specs.declared.rules.Rules.{Rules}
-use Rattle.bng_shard.specs.declared.whose.Whose.{Whose}
+use Rattle.bng_shard.specs.declared.destination.Destination.{Destination}
 use Rattle.bng_shard.specs.Made.{Made}
 use Rattle.bng_shard.specs.declared.session.Service.{Service}
 use Rattle.bng_shard.specs.declared.session.Service.TheVariants.{Provisioned, Discovered}
@@ -55,7 +55,7 @@ use Rattle.bng_shard.specs.L2tp.{TellInTurn, TellsIts}
 use Rattle.bng_shard.specs.Link.{Drives, ended, lost_carrier, told}
 use Rattle.bng_shard.specs.Protocol.{entry_of}
 use Rattle.bng_shard.specs.Timed.{ToldInTurn, ToldOnce}
-use Rattle.bng_shard.specs.Whose.{IsForDatagram, IsForRead}
+use Rattle.bng_shard.specs.Destinations.{IsForDatagram, IsForRead}
 use Rattle.bng_shard.proofs.Naming.{call_number, living}
 use Rattle.bng_shard.proofs.Timing.{more_sent}
 
@@ -75,7 +75,7 @@ others_kept s s' t e = e ∙ ap (λ (u : State). with_tunnels s u.tunnels) (sym 
 
 -- Which shard ------------------------------------------------------------------------------------------------------------
 
-pub for_datagram : (r : Rules) (item : Item) (d : TunnelDatagram) (whose : Whose) → IsReadAs item.cut item.frame.payload d → IsForRead r item.from d whose → IsForDatagram r item whose
+pub for_datagram : (r : Rules) (item : Item) (d : TunnelDatagram) (whose : Destination) → IsReadAs item.cut item.frame.payload d → IsForRead r item.from d whose → IsForDatagram r item whose
 for_datagram r item (Control m) whose read is = inr (inl (control_of m, read, is))
 for_datagram r item (Data m) whose read is = inr (inr (data_of m, read, is))
 

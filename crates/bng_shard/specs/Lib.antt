@@ -46,3 +46,4 @@ pub mod Live
 pub mod Interims
 pub mod Surveying
 pub mod Plain
+pub mod Destinations

@@ -6,6 +6,7 @@ use Rattle.bng_engine.specs.Views.{ShardView}
 use Rattle.bng_shard.specs.declared.rules.Rules.{Rules}
 use Rattle.bng_shard.specs.declared.whose.Whose.TheVariants.{Stands}
 use Rattle.bng_shard.specs.Protocol.{ShardState, HasPools, Handles, entry_of}
+use Rattle.bng_pool.specs.Tables.{entry}
 use Rattle.bng_shard.specs.Whose.{IsWhose}
 use Rattle.bng_desk.proofs.Asking.{grows, held_on}
 use Rattle.bng_desk.proofs.Returning.{HoldsOwn}
@@ -15,7 +16,7 @@ pub returns-in-Stands-clause-deals : goal.returns-in-Stands-clause-deals
 returns-in-Stands-clause-deals c =
     let n = c.from.result in
     let e = entry_of 0 c.args.dealt.now.place c.args.dealt.now.moment c.args.dealt.now.item.now in
-    let whose : IsWhose c.args.rules.now c.args.pool.now.table c.args.dealt.now.item.now (Stands n) = search rules in
+    let whose : IsWhose c.args.rules.now (entry c.args.pool.now.table) c.args.dealt.now.item.now (Stands n) = search rules in
     let within : n < length c.args.shards.now = search rules in
     let v = c.index-shards-from.result in
     let w = c.step.new.self in

@@ -9,7 +9,7 @@ use Rattle.bng_shard.specs.Frames.{HearsAccess, HearsFrame}
 use Rattle.bng_shard.specs.Running.{whole}
 use Rattle.bng_shard.proofs.Arriving.{does_more}
 use Rattle.bng_shard.proofs.Carrying.{nothing_done}
-use Rattle.bng_shard.proofs.Holding.{no_frame}
+use Rattle.bng_shard.proofs.NoFrames.{no_frame}
 use Rattle.bng_shard.proofs.hear.hear_access.Goals as goal
 
 pub returns-in-Some-clause-does : goal.returns-in-Some-clause-does

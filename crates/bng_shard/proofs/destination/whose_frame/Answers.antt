@@ -1,7 +1,7 @@
 use Rattle.std.proofs.Common.{ℕ, List, refl, inl, ap}
 use Rattle.bng_base.specs.FateOf.{Arrival}
-use Rattle.bng_shard.proofs.Holding.{no_frame}
-use Rattle.bng_shard.proofs.whose.whose_frame.Goals as goal
+use Rattle.bng_shard.proofs.NoFrames.{no_frame}
+use Rattle.bng_shard.proofs.destination.whose_frame.Goals as goal
 
 pub returns-in-None-clause-is : goal.returns-in-None-clause-is
 returns-in-None-clause-is c =

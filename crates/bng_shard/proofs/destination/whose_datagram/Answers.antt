@@ -1,7 +1,7 @@
 use Rattle.std.proofs.Common.{ℕ, List, inl, refl, subst}
 use Rattle.bng_lns.specs.Datagrams.{IsNeither, IsReadAs}
 use Rattle.bng_shard.proofs.Tunnelling.{for_datagram}
-use Rattle.bng_shard.proofs.whose.whose_datagram.Goals as goal
+use Rattle.bng_shard.proofs.destination.whose_datagram.Goals as goal
 
 pub returns-in-Some-clause-is : goal.returns-in-Some-clause-is
 returns-in-Some-clause-is c =

@@ -1,7 +1,7 @@
 use Rattle.std.proofs.Common.{sym, subst}
 use Rattle.bng_lns.specs.declared.datagram.TunnelDatagram.{TunnelDatagram}
-use Rattle.bng_shard.specs.Whose.{IsForRead}
-use Rattle.bng_shard.proofs.whose.whose_sent.Goals as goal
+use Rattle.bng_shard.specs.Destinations.{IsForRead}
+use Rattle.bng_shard.proofs.destination.whose_sent.Goals as goal
 
 pub returns-in-Control-clause-is : goal.returns-in-Control-clause-is
 returns-in-Control-clause-is c = subst (λ (d : TunnelDatagram). IsForRead c.args.rules.now c.args.from d c.whose_message.result) (sym c.in-Control.is) c.whose_message.ensures.is

@@ -1,12 +1,11 @@
 use Rattle.std.proofs.Common.{ℕ, Option, arith, refl, subst, sym}
-use Rattle.bng_base.specs.declared.fate.Fate.TheVariants.{Consumed}
 use Rattle.bng_shard.specs.declared.whose.Whose.TheVariants.{Loose, Stands}
-use Rattle.bng_shard.specs.Whose.{IsForAddress}
+use Rattle.bng_shard.specs.Whose.{IsHeldOr}
 use Rattle.bng_shard.proofs.Holding.{held_inside}
-use Rattle.bng_shard.proofs.whose.whose_held.Goals as goal
+use Rattle.bng_shard.proofs.holder.held_or.Goals as goal
 
 pub returns-in-Some-clause-is : goal.returns-in-Some-clause-is
-returns-in-Some-clause-is c = subst (λ (o : Option ℕ). IsForAddress o (Stands c.in-Some.shard)) c.in-Some.ensures refl
+returns-in-Some-clause-is c = subst (λ (o : Option ℕ). IsHeldOr c.args.fate o (Stands c.in-Some.shard)) c.in-Some.ensures refl
 
 pub returns-in-Some-clause-inside : goal.returns-in-Some-clause-inside
 returns-in-Some-clause-inside c n e =
@@ -14,4 +13,4 @@ returns-in-Some-clause-inside c n e =
     grind (arith, at, e)
 
 pub returns-in-None-clause-is : goal.returns-in-None-clause-is
-returns-in-None-clause-is c = subst (λ (o : Option ℕ). IsForAddress o (Loose Consumed)) c.in-None.ensures refl
+returns-in-None-clause-is c = subst (λ (o : Option ℕ). IsHeldOr c.args.fate o (Loose c.args.fate)) c.in-None.ensures refl
