@@ -4,7 +4,7 @@ ghost use Rattle.bng_shard.specs.Interims.{interim_at, interim_in, no_reports, r
 ghost use Rattle.bng_shard.specs.Surveying.{AreSpaced};
 
 use crate::session::{Lease, Session};
-use crate::shard::ShardError;
+use crate::error::ShardError;
 use bng_base::SessionNo;
 use std::alloc::Global;
 use std::marker::Model;

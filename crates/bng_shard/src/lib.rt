@@ -15,6 +15,7 @@ mod data;
 mod destination;
 mod discover;
 mod drive;
+mod error;
 mod frames;
 mod hear;
 mod holder;
@@ -64,7 +65,8 @@ pub use crate::laws::{
 };
 pub use crate::questions::Handed;
 pub use crate::rules::Rules;
-pub use crate::shard::{Shard, ShardError};
+pub use crate::error::ShardError;
+pub use crate::shard::Shard;
 pub use crate::sums::{Charged, Traffic};
 pub use crate::term::{EndedTerm, LiveTerm, ReportedTerm};
 pub use crate::destination::{Destination, destination_of};

@@ -7,7 +7,7 @@ ghost use Rattle.bng_shard.specs.Serving.{asks};
 
 use crate::store::Store;
 use crate::session::Session;
-use crate::shard::ShardError;
+use crate::error::ShardError;
 use arrayvec::ArrayVec;
 use bng_auth::{Credentials, Proof};
 use bng_base::SessionNo;

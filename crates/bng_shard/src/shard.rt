@@ -20,12 +20,13 @@ ghost use Rattle.bng_shard.specs.Tenures.{LeavesTerms, Tenure};
 ghost use Rattle.bng_shard.specs.Sums.{charged_as, AreCovered, AreLow, IsLow, RowsAreLow};
 
 use crate::changes::Answer;
+use crate::error::ShardError;
+use crate::indexed::Indexed;
 use crate::claim::{ask, left_after};
 use crate::hear::hear;
 use crate::incoming::Incoming;
 use crate::interims::Reports;
 use crate::rules::Rules;
-use crate::session::Session;
 use crate::served::{Served, Survey};
 use crate::sums::{Charged, book, charged_as, tally};
 use crate::term::{EndedTerm, LiveTerm, ReportedTerm};
@@ -36,16 +37,9 @@ use bng_base::{At, Batch, Book, Entry, Fate, Item, LONGEST, OutRecord, SessionNo
 use bng_coa::ChangeVerdict;
 use bng_pool::PlainPool;
 use bng_profile::Profiles;
-use bng_slots::Slots;
 use std::alloc::{AllocError, Global};
 use std::marker::Model;
 use std::mem;
-
-/// What a shard was not opened or made ready for.
-#[derive(Clone, Copy, Debug)]
-pub enum ShardError {
-    OutOfMemory,
-}
 
 /// The sessions and the L2TP tunnels of one shard, with the provisioned circuits whose numbers are the shard's. Contracts see it as the
 /// engine does: its rules, what it serves by them and what it answered to requests for changes, a row for each term with what it carried, a
@@ -53,7 +47,7 @@ pub enum ShardError {
 /// items more there is room.
 pub struct Shard {
     rules: Rules,
-    pub(crate) served: Served<Slots<Session>>,
+    pub(crate) served: Served<Indexed>,
     pub(crate) terms: Terms,
     pub(crate) profiles: Profiles,
     pub(crate) allowance: u32,
@@ -201,7 +195,7 @@ impl Shard {
         ensures few { IfOk result (λ s. sessions_of s.state ≤ 1022) }
     {
         let profiles = books_of(alloc, &rules)?;
-        let Ok(sessions) = Slots::open(alloc, number) else {
+        let Ok(sessions) = Indexed::open(alloc, number) else {
             return Err(ShardError::OutOfMemory);
         };
         let Ok(served) = Served::open(alloc, sessions, number, rules.profiles.as_slice(), circuits, now)
