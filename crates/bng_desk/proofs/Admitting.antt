@@ -14,15 +14,15 @@ use Rattle.bng_engine.specs.Views.{ShardView}
 use Rattle.bng_engine.proofs.Everywhere.{all_append, all_mapped, all_weaker}
 use Rattle.bng_base.specs.declared.fate.Fate.TheVariants.{Consumed}
 use Rattle.bng_pool.specs.Tables.{Table, entry}
-use Rattle.bng_shard.specs.declared.rules.Rules.{Rules}
-use Rattle.bng_shard.specs.declared.whose.Whose.{Whose}
-use Rattle.bng_shard.specs.declared.whose.Whose.TheVariants.{Loose as IsLoose, Stands}
-use Rattle.bng_shard.specs.Protocol.{entry_of}
+use Rattle.bng_steps.specs.declared.rules.Rules.{Rules}
+use Rattle.bng_steps.specs.declared.whose.Whose.{Whose}
+use Rattle.bng_steps.specs.declared.whose.Whose.TheVariants.{Loose as IsLoose, Stands}
+use Rattle.bng_steps.specs.Protocol.{entry_of}
 use Rattle.bng_shard.specs.Room.{Admits, is_tick, is_end}
-use Rattle.bng_shard.specs.Protocol.{ShardState}
-use Rattle.bng_shard.specs.declared.destination.Destination.{Destination}
-use Rattle.bng_shard.specs.Destinations.{IsForKind, IsForTarget}
-use Rattle.bng_shard.specs.Whose.{IsFound, IsWhose}
+use Rattle.bng_steps.specs.Protocol.{ShardState}
+use Rattle.bng_steps.specs.declared.destination.Destination.{Destination}
+use Rattle.bng_steps.specs.Destinations.{IsForKind, IsForTarget}
+use Rattle.bng_steps.specs.Whose.{IsFound, IsWhose}
 use Rattle.bng_desk.specs.Items.{entries_in, stands_in, without_claim}
 use Rattle.bng_desk.specs.Taking.{is_once, AreOnce}
 

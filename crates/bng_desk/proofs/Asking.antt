@@ -19,8 +19,9 @@ use Rattle.bng_engine.specs.Views.{ShardView}
 use Rattle.bng_pool.specs.Plain.{PlainView}
 use Rattle.bng_base.specs.Ranges.{InRange, size_of}
 use Rattle.bng_pool.specs.Tables.{Table, IsTaken, Puts, entry}
-use Rattle.bng_shard.specs.Protocol.{ShardState, Handled, AnswersClaim, HasPools, addresses_in, claimed_by, refused_by, pppoe, terms_of}
-use Rattle.bng_shard.proofs.Values.{none_some}
+use Rattle.bng_steps.specs.Protocol.{ShardState, Handled, addresses_in, claimed_by, refused_by, pppoe, terms_of}
+use Rattle.bng_shard.specs.Handling.{AnswersClaim, HasPools}
+use Rattle.bng_steps.proofs.Values.{none_some}
 use Rattle.bng_desk.specs.Round.{AreClaimed, HasAll, held_by}
 use Rattle.bng_desk.proofs.Dealing.{Seens}
 use Rattle.bng_desk.proofs.Returning.{HoldsOwn, held_in}

@@ -13,11 +13,11 @@ use Rattle.bng_engine.specs.Journals.{after, AreSteps}
 use Rattle.bng_engine.specs.Lists.{Zip3}
 use Rattle.bng_engine.specs.Terms.{Key, Stop}
 use Rattle.bng_engine.specs.Views.{Row}
-use Rattle.bng_shard.specs.declared.changes.Answer.{Answer}
-use Rattle.bng_shard.specs.Interims.{AwaitsInterims, Reports}
-use Rattle.bng_shard.specs.Protocol.{ShardState, Handled, pppoe}
-use Rattle.bng_shard.specs.Tenures.{Tenure}
-use Rattle.bng_shard.proofs.Awaiting.{awaits_kept, awaits_settled}
+use Rattle.bng_steps.specs.declared.changes.Answer.{Answer}
+use Rattle.bng_steps.specs.Interims.{AwaitsInterims, Reports}
+use Rattle.bng_steps.specs.Protocol.{ShardState, Handled, pppoe}
+use Rattle.bng_steps.specs.Tenures.{Tenure}
+use Rattle.bng_steps.proofs.Awaiting.{awaits_kept, awaits_settled}
 use Rattle.bng_desk.specs.Accounting.{FormedRecord, Forms, HasBegun, KnowsBegun}
 use Rattle.bng_desk.specs.Interims.{AreAwaited, AreWaiting, AwaitsAt, FormsInterim, FormsInterims, WaitsAt}
 use Rattle.bng_desk.specs.Taking.{BegunTo, KeepsHeld, ReapedTo, Shown}

@@ -20,7 +20,7 @@ use Rattle.bng_billing.specs.Records.{IsFormedBy}
 use Rattle.bng_billing.specs.State.{BillingState, IsNewBilling}
 use Rattle.bng_engine.specs.Lists.{AnyOf}
 use Rattle.bng_engine.specs.Terms.{Key}
-use Rattle.bng_shard.specs.Tenures.{Tenure}
+use Rattle.bng_steps.specs.Tenures.{Tenure}
 use Rattle.bng_desk.specs.Accounting.{AreBilled, FormedRecord, Forms, IsStartOf}
 use Rattle.bng_desk.specs.Taking.{Accounts, BooksStarts}
 use Rattle.bng_desk.proofs.Billed.{AreApart, apart_back, formed_others}

@@ -16,10 +16,10 @@ use Rattle.bng_engine.specs.Views.{ShardView}
 use Rattle.bng_engine.proofs.Everywhere.{all_append}
 use Rattle.bng_engine.proofs.Reaping.{in_order_more}
 use Rattle.bng_engine.proofs.Walks.{same_at}
-use Rattle.bng_shard.specs.Lasting.{AreTenures}
-use Rattle.bng_shard.specs.Protocol.{ShardState, TellsNew, key_in, terms_of}
-use Rattle.bng_shard.specs.State.{State}
-use Rattle.bng_shard.specs.Tenures.{Tenure}
+use Rattle.bng_steps.specs.Lasting.{AreTenures}
+use Rattle.bng_steps.specs.Protocol.{ShardState, TellsNew, key_in, terms_of}
+use Rattle.bng_steps.specs.State.{State}
+use Rattle.bng_steps.specs.Tenures.{Tenure}
 use Rattle.bng_desk.specs.Accounting.{AreBilled, AreSettling, FormedRecord, Forms, IsStartOf}
 use Rattle.bng_desk.specs.Model.{keys_in}
 use Rattle.bng_desk.specs.Round.{news_in}

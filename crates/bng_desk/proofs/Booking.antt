@@ -11,8 +11,8 @@ use Rattle.bng_billing.specs.State.{BillingState}
 use Rattle.bng_engine.specs.Lists.{AnyOf}
 use Rattle.bng_engine.specs.Terms.{Key, Stop}
 use Rattle.bng_engine.proofs.Everywhere.{any_either, any_left, any_right}
-use Rattle.bng_shard.specs.Protocol.{SaysOf}
-use Rattle.bng_shard.specs.Tenures.{LeavesTerms, Tenure}
+use Rattle.bng_steps.specs.Protocol.{SaysOf}
+use Rattle.bng_steps.specs.Tenures.{LeavesTerms, Tenure}
 use Rattle.bng_desk.specs.declared.accounts.Stopped.{Stopped}
 use Rattle.bng_desk.specs.Accounting.{AreFactsOf, FormedRecord, Forms, IsStartOf, IsStopOf}
 use Rattle.bng_desk.specs.Model.{line_after}

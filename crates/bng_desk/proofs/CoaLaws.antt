@@ -30,8 +30,8 @@ use Rattle.bng_coa.specs.Replies.{IsAnswered}
 use Rattle.bng_coa.specs.Requests.{is_in_hand, is_numbered}
 use Rattle.bng_coa.specs.State.{State as CoaState}
 use Rattle.bng_engine.proofs.Walks.{same_at}
-use Rattle.bng_shard.specs.declared.changes.Answer.{Answer}
-use Rattle.bng_shard.specs.declared.rules.Rules.{Rules}
+use Rattle.bng_steps.specs.declared.changes.Answer.{Answer}
+use Rattle.bng_steps.specs.declared.rules.Rules.{Rules}
 use Rattle.bng_desk.specs.declared.reading.Ended.{Ended}
 use Rattle.bng_desk.specs.Coa.{AdmitsAll, AdmitsOne, AnswersLooseKind, AreLooseAnswers, CoaReply, CoaSend, Given, GivesAnswer, IsNotInHand, Requested, TargetOf, change_in, change_item, change_items, coa_datagram, coa_stretch, has_places, repeat_in, repeats_of, requests_most}
 use Rattle.bng_desk.specs.Intake.{AddsRequest, GivesItem, GivesLoose, GivesOne, GivesSome, RepeatsAll, SendsReplies, TakesCoa, TakesRequests}

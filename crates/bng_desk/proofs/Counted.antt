@@ -2,7 +2,7 @@
 use Rattle.std.proofs.Common.{◌≡◌, ℕ, ◌+◌, ◌*◌, ◌<◌, ◌≤◌, ◌^◌, Bool, [], ◌∷◌, map, ap, ◌∙◌, arith}
 use Rattle.bng_base.specs.declared.book.Book.{Book}
 use Rattle.bng_engine.specs.Quantities.{Quantity, in_book}
-use Rattle.bng_shard.specs.Sums.{IsLow}
+use Rattle.bng_steps.specs.Sums.{IsLow}
 use Rattle.bng_desk.specs.declared.accounts.Stopped.{Stopped}
 use Rattle.bng_desk.specs.Kept.{octets_most, rested}
 use Rattle.bng_desk.specs.Model.{begun_in, live_of, live_terms, plus_book, total_of}

@@ -11,9 +11,9 @@ use Rattle.bng_base.specs.declared.item.Entry.{Entry}
 use Rattle.bng_base.specs.declared.item.Item.{Item}
 use Rattle.bng_base.specs.declared.item.Loose.{Loose}
 use Rattle.bng_engine.specs.Views.{ShardView}
-use Rattle.bng_shard.specs.declared.whose.Whose.{Whose}
-use Rattle.bng_shard.specs.declared.whose.Whose.TheVariants.{Stands}
-use Rattle.bng_shard.specs.Protocol.{ShardState, Handled, entry_of}
+use Rattle.bng_steps.specs.declared.whose.Whose.{Whose}
+use Rattle.bng_steps.specs.declared.whose.Whose.TheVariants.{Stands}
+use Rattle.bng_steps.specs.Protocol.{ShardState, Handled, entry_of}
 use Rattle.bng_desk.specs.declared.drops.Drops.{Drops}
 use Rattle.bng_desk.specs.Counting.{with_fate, is_dropped, drops_of, plus}
 use Rattle.bng_desk.specs.Items.{entries_in, loose_item, loose_in, stands_in, without_claim}

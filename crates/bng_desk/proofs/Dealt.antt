@@ -15,11 +15,11 @@ use Rattle.bng_engine.specs.Showing.{Shows, with_journal}
 use Rattle.bng_engine.specs.Sums.{is_any, is_directed, is_under, sent_where}
 use Rattle.bng_engine.specs.Views.{ShardView, rows_where}
 use Rattle.bng_pool.specs.Plain.{PlainView}
-use Rattle.bng_shard.specs.declared.rules.Rules.{Rules}
-use Rattle.bng_shard.specs.declared.whose.Whose.{Whose}
-use Rattle.bng_shard.specs.declared.whose.Whose.TheVariants.{Loose as IsLoose, Stands}
-use Rattle.bng_shard.specs.Protocol.{ShardState, Handled, pppoe}
-use Rattle.bng_shard.specs.Sums.{IsLow, AreLow, RowsAreLow}
+use Rattle.bng_steps.specs.declared.rules.Rules.{Rules}
+use Rattle.bng_steps.specs.declared.whose.Whose.{Whose}
+use Rattle.bng_steps.specs.declared.whose.Whose.TheVariants.{Loose as IsLoose, Stands}
+use Rattle.bng_steps.specs.Protocol.{ShardState, Handled, pppoe}
+use Rattle.bng_steps.specs.Sums.{IsLow, AreLow, RowsAreLow}
 use Rattle.bng_desk.specs.declared.drops.Drops.{Drops}
 use Rattle.bng_desk.specs.Items.{entries_in, loose_item, without_claim}
 use Rattle.bng_desk.specs.Round.{IsWhoseIn, views_of}

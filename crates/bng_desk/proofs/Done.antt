@@ -18,8 +18,8 @@ use Rattle.bng_engine.specs.Lists.{Zip3}
 use Rattle.bng_engine.specs.Views.{ShardView}
 use Rattle.bng_ppp.specs.LinkRelation.{earliest}
 use Rattle.bng_pool.specs.Plain.{PlainView}
-use Rattle.bng_shard.specs.Interims.{Reports}
-use Rattle.bng_shard.specs.Protocol.{Handled, ShardState, pppoe}
+use Rattle.bng_steps.specs.Interims.{Reports}
+use Rattle.bng_steps.specs.Protocol.{Handled, ShardState, pppoe}
 use Rattle.bng_desk.specs.declared.accounts.Stopped.{Stopped}
 use Rattle.bng_desk.specs.declared.drops.Drops.{Drops}
 use Rattle.bng_desk.specs.declared.holding.Named.{Named}

@@ -21,29 +21,29 @@ use Rattle.bng_pool.specs.Plain.{PlainView}
 use Rattle.bng_pool.specs.Tables.{Table, entry}
 use Rattle.bng_sessions.specs.Listed.{values}
 use Rattle.bng_sessions.specs.Sessions.{value_at, with_value}
-use Rattle.bng_shard.specs.declared.rules.Rules.{Rules}
-use Rattle.bng_shard.specs.declared.whose.Whose.{Whose}
-use Rattle.bng_shard.specs.declared.whose.Whose.TheVariants.{Stands}
-use Rattle.bng_shard.specs.declared.session.Service.{Service}
-use Rattle.bng_shard.specs.declared.session.Service.TheVariants.{Provisioned, Discovered}
-use Rattle.bng_shard.specs.declared.session.Session.{Session}
+use Rattle.bng_steps.specs.declared.rules.Rules.{Rules}
+use Rattle.bng_steps.specs.declared.whose.Whose.{Whose}
+use Rattle.bng_steps.specs.declared.whose.Whose.TheVariants.{Stands}
+use Rattle.bng_steps.specs.declared.session.Service.{Service}
+use Rattle.bng_steps.specs.declared.session.Service.TheVariants.{Provisioned, Discovered}
+use Rattle.bng_steps.specs.declared.session.Session.{Session}
 use Rattle.bng_coa.specs.Wants.{wanted}
-use Rattle.bng_shard.specs.Changes.{HearsChange, lease_after, place_of}
-use Rattle.bng_shard.specs.Deed.{Deed}
-use Rattle.bng_shard.specs.Link.{Told, admin_reset}
-use Rattle.bng_shard.specs.Made.{Question}
-use Rattle.bng_shard.specs.Passing.{lapsed}
-use Rattle.bng_shard.specs.Protocol.{ShardState, Handled, pppoe, entry_of, sessions_of}
-use Rattle.bng_shard.specs.State.{Beside, State, count_in}
-use Rattle.bng_shard.specs.Step.{Hears}
-use Rattle.bng_shard.specs.Timers.{LosesTerm}
-use Rattle.bng_shard.specs.Verdicts.{HearsVerdict, Judges, next_lease, settled_by}
-use Rattle.bng_shard.specs.declared.destination.Destination.{Destination}
-use Rattle.bng_shard.specs.Destinations.{IsForKind, IsForTarget}
-use Rattle.bng_shard.specs.Whose.{IsFound}
-use Rattle.bng_shard.proofs.Changing.{Comes, change_comes}
-use Rattle.bng_shard.proofs.Fewer.{end_leaves_fewer}
-use Rattle.bng_shard.proofs.Values.{sum_by-replaced}
+use Rattle.bng_steps.specs.Changes.{HearsChange, lease_after, place_of}
+use Rattle.bng_steps.specs.Deed.{Deed}
+use Rattle.bng_steps.specs.Link.{Told, admin_reset}
+use Rattle.bng_steps.specs.Made.{Question}
+use Rattle.bng_steps.specs.Passing.{lapsed}
+use Rattle.bng_steps.specs.Protocol.{ShardState, Handled, pppoe, entry_of, sessions_of}
+use Rattle.bng_steps.specs.State.{Beside, State, count_in}
+use Rattle.bng_steps.specs.Step.{Hears}
+use Rattle.bng_steps.specs.Timers.{LosesTerm}
+use Rattle.bng_steps.specs.Verdicts.{HearsVerdict, Judges, next_lease, settled_by}
+use Rattle.bng_steps.specs.declared.destination.Destination.{Destination}
+use Rattle.bng_steps.specs.Destinations.{IsForKind, IsForTarget}
+use Rattle.bng_steps.specs.Whose.{IsFound}
+use Rattle.bng_steps.proofs.Changing.{Comes, change_comes}
+use Rattle.bng_steps.proofs.Fewer.{end_leaves_fewer}
+use Rattle.bng_steps.proofs.Values.{sum_by-replaced}
 use Rattle.bng_desk.specs.declared.drops.Drops.{Drops}
 use Rattle.bng_desk.specs.declared.holding.Named.{Named}
 use Rattle.bng_desk.specs.Items.{entries_in, for_shard, stands_in, without_claim}

@@ -14,11 +14,12 @@ use Rattle.bng_engine.specs.Quantities.{Quantity, Octets, Packets, in_book, empt
 use Rattle.bng_engine.specs.Sums.{has_lease, is_any}
 use Rattle.bng_engine.specs.Views.{ShardView, Row, new_row, rows_where}
 use Rattle.bng_engine.specs.Terms.{Key, keys}
-use Rattle.bng_shard.specs.Interims.{Reports, interim_at, no_reports}
-use Rattle.bng_shard.specs.Protocol.{HasPools, ShardState, opened, terms_of}
-use Rattle.bng_shard.specs.Questions.{none_handed}
-use Rattle.bng_shard.specs.Sums.{IsLow, AreLow, RowsAreLow}
-use Rattle.bng_shard.specs.declared.rules.Rules.{Rules}
+use Rattle.bng_steps.specs.Interims.{Reports, interim_at, no_reports}
+use Rattle.bng_steps.specs.Protocol.{ShardState, opened, terms_of}
+use Rattle.bng_shard.specs.Handling.{HasPools}
+use Rattle.bng_steps.specs.Questions.{none_handed}
+use Rattle.bng_steps.specs.Sums.{IsLow, AreLow, RowsAreLow}
+use Rattle.bng_steps.specs.declared.rules.Rules.{Rules}
 use Rattle.bng_base.specs.declared.item.Item.{Item}
 use Rattle.bng_desk.specs.declared.accounts.Stopped.{Stopped}
 use Rattle.bng_desk.specs.declared.drops.Drops.{Drops}

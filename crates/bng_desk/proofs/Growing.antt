@@ -11,16 +11,16 @@ use Rattle.bng_engine.specs.Lists.{Zip3}
 use Rattle.bng_engine.specs.Terms.{Key, Term, keys}
 use Rattle.bng_engine.proofs.Everywhere.{all_append, all_mapped, all_weaker}
 use Rattle.bng_engine.proofs.Journals.{run_few}
-use Rattle.bng_shard.specs.declared.whose.Whose.{Whose}
-use Rattle.bng_shard.specs.Granting.{IsSound}
-use Rattle.bng_shard.specs.Lasting.{AreTenures}
-use Rattle.bng_shard.specs.Protocol.{ShardState, Handled, entry_of, key_in, pppoe, term_in, terms_of}
-use Rattle.bng_shard.specs.State.{State}
-use Rattle.bng_shard.specs.Tenures.{Tenure}
-use Rattle.bng_shard.proofs.ClaimedTerms.{step_by_claims}
-use Rattle.bng_shard.proofs.GrantLaws.{step_sound}
-use Rattle.bng_shard.proofs.Numbered.{step_tenures}
-use Rattle.bng_shard.proofs.StepLaws.{pppoe_laws}
+use Rattle.bng_steps.specs.declared.whose.Whose.{Whose}
+use Rattle.bng_steps.specs.Granting.{IsSound}
+use Rattle.bng_steps.specs.Lasting.{AreTenures}
+use Rattle.bng_steps.specs.Protocol.{ShardState, Handled, entry_of, key_in, pppoe, term_in, terms_of}
+use Rattle.bng_steps.specs.State.{State}
+use Rattle.bng_steps.specs.Tenures.{Tenure}
+use Rattle.bng_steps.proofs.ClaimedTerms.{step_by_claims}
+use Rattle.bng_steps.proofs.GrantLaws.{step_sound}
+use Rattle.bng_steps.proofs.Numbered.{step_tenures}
+use Rattle.bng_steps.proofs.StepLaws.{pppoe_laws}
 use Rattle.bng_desk.specs.Items.{entries_in, stands_in, without_claim}
 use Rattle.bng_desk.specs.Model.{begun_in, live_terms}
 use Rattle.bng_desk.specs.Round.{entries_of, handled_states, views_of}

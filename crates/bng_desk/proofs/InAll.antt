@@ -7,8 +7,8 @@ use Rattle.bng_engine.specs.Quantities.{Quantity, Octets, Packets, in_book}
 use Rattle.bng_engine.specs.Sums.{is_any, stopped_where}
 use Rattle.bng_engine.specs.Terms.{Key, Stop}
 use Rattle.bng_engine.specs.Views.{ShardView, rows_where}
-use Rattle.bng_shard.specs.Protocol.{ShardState, terms_of}
-use Rattle.bng_shard.specs.Sums.{IsLow}
+use Rattle.bng_steps.specs.Protocol.{ShardState, terms_of}
+use Rattle.bng_steps.specs.Sums.{IsLow}
 use Rattle.bng_desk.specs.declared.accounts.Stopped.{Stopped}
 use Rattle.bng_desk.specs.Model.{all_stopped, live_of, plus_book, total_of}
 use Rattle.bng_desk.specs.Taking.{AddsUp, AllWithin, HasRoomFor, SameInAll, far, live_by, plus_stops}

@@ -12,8 +12,8 @@ use Rattle.bng_base.specs.declared.outside.Role.{Role}
 use Rattle.bng_base.specs.declared.outside.Role.TheVariants.{Access, Core, Tunnel, Auth, Acct, Coa, Control}
 use Rattle.bng_base.specs.FateOf.{Arrival}
 use Rattle.bng_engine.specs.Views.{ShardView}
-use Rattle.bng_shard.specs.Hearing.{outs_most}
-use Rattle.bng_shard.specs.Protocol.{ShardState}
+use Rattle.bng_steps.specs.Hearing.{outs_most}
+use Rattle.bng_steps.specs.Protocol.{ShardState}
 use Rattle.bng_desk.specs.Items.{DataReading, arrived, kind_of, drawn_from, for_shard, is_due, taken_items, ticks_of, ends_of}
 use Rattle.bng_desk.specs.Random.{draw}
 use Rattle.bng_desk.specs.Taking.{AreInOrder, is_once, outs_of_items}

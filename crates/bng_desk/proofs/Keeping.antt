@@ -32,8 +32,9 @@ use Rattle.bng_desk.specs.Reading.{is_empty}
 use Rattle.bng_desk.proofs.DropLaws.{within_wider}
 use Rattle.bng_desk.proofs.Ending.{after_ending}
 use Rattle.bng_desk.proofs.ItemLaws.{IsWhole}
-use Rattle.bng_shard.specs.Protocol.{HasPools, ShardState, sessions_of}
-use Rattle.bng_shard.specs.Sums.{IsLow, AreLow}
+use Rattle.bng_steps.specs.Protocol.{ShardState, sessions_of}
+use Rattle.bng_shard.specs.Handling.{HasPools}
+use Rattle.bng_steps.specs.Sums.{IsLow, AreLow}
 use Rattle.bng_engine.specs.Books.{book_at}
 use Rattle.bng_engine.specs.Views.{ShardView}
 use Rattle.bng_desk.proofs.Dwindling.{Nears, less_left, still_left, unopened_low}

@@ -24,10 +24,10 @@ use Rattle.bng_engine.specs.Lists.{AnyOf}
 use Rattle.bng_engine.specs.Terms.{Key, Stop}
 use Rattle.bng_engine.proofs.Everywhere.{all_append, any_all}
 use Rattle.bng_lane.specs.Sends.{LaneSend}
-use Rattle.bng_shard.specs.Lasting.{AreTenures, IsTenureOf}
-use Rattle.bng_shard.specs.Protocol.{SaysOf}
-use Rattle.bng_shard.specs.Tenures.{Tenure}
-use Rattle.bng_shard.proofs.Numbered.{tenures_later}
+use Rattle.bng_steps.specs.Lasting.{AreTenures, IsTenureOf}
+use Rattle.bng_steps.specs.Protocol.{SaysOf}
+use Rattle.bng_steps.specs.Tenures.{Tenure}
+use Rattle.bng_steps.proofs.Numbered.{tenures_later}
 use Rattle.bng_desk.specs.Accounting.{Acknowledged, FormedRecord, Forms, Gives, HasBegun, HearsRecords, IsStartOf, IsStopOf, KnowsBegun, RecordRequests, RecordSend, Resends, SettlesRecords}
 use Rattle.bng_desk.specs.Round.{news_in, terms_in}
 use Rattle.bng_desk.specs.Taking.{Accounts, AreInOrder, BooksStarts, BooksStops, KeepsTerms, Shown, states_of}

@@ -10,8 +10,8 @@ use Rattle.bng_lane.specs.Due.{GivesUp}
 use Rattle.bng_lane.specs.Replies.{Takes}
 use Rattle.bng_lane.specs.State.{LaneState}
 use Rattle.bng_rad_client.specs.Table.{taken}
-use Rattle.bng_shard.specs.Protocol.{ShardState}
-use Rattle.bng_shard.specs.Questions.{Asking, waiting}
+use Rattle.bng_steps.specs.Protocol.{ShardState}
+use Rattle.bng_steps.specs.Questions.{Asking, waiting}
 use Rattle.bng_verdict.specs.declared.question.QuestionNo.{QuestionNo}
 use Rattle.bng_desk.specs.Accounting.{FormedRecord, Forms}
 use Rattle.bng_desk.specs.Kept.{rested}

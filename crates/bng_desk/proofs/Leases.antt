@@ -10,9 +10,9 @@ use Rattle.bng_base.specs.declared.settings.Static.{Static}
 use Rattle.bng_engine.specs.Terms.{Term}
 use Rattle.bng_engine.proofs.Everywhere.{all_append}
 use Rattle.bng_pool.specs.Tables.{Table, TableClaims, entry}
-use Rattle.bng_shard.specs.declared.rules.Rules.{Rules}
-use Rattle.bng_shard.specs.Opening.{circuit_at, in_order, tenures_after}
-use Rattle.bng_shard.specs.Protocol.{opened, term_in}
+use Rattle.bng_steps.specs.declared.rules.Rules.{Rules}
+use Rattle.bng_steps.specs.Opening.{circuit_at, in_order, tenures_after}
+use Rattle.bng_steps.specs.Protocol.{opened, term_in}
 use Rattle.bng_desk.specs.Opening.{circuit_with, shard_of}
 use Rattle.bng_desk.proofs.Outfit.{of_shard}
 use Rattle.bng_desk.proofs.Parts.{pairs_head, pairs_tail}

@@ -9,7 +9,7 @@ use Rattle.bng_engine.specs.Quantities.{Quantity, Octets, in_book}
 use Rattle.bng_engine.specs.Sums.{has_lease, stopped_where}
 use Rattle.bng_engine.specs.Terms.{Key, Stop}
 use Rattle.bng_engine.specs.Views.{ShardView, rows_where}
-use Rattle.bng_shard.specs.Protocol.{ShardState}
+use Rattle.bng_steps.specs.Protocol.{ShardState}
 use Rattle.bng_desk.specs.declared.line.Line.{Line}
 use Rattle.bng_desk.specs.Model.{line_after}
 use Rattle.bng_desk.specs.Taking.{CarriesWithin, LinesWithin, stopped_in, kept_in}

@@ -17,10 +17,10 @@ use Rattle.bng_base.specs.declared.circuit.TermId.{TermId}
 use Rattle.bng_billing.specs.State.{BillingState}
 use Rattle.bng_engine.specs.Terms.{Key, keys}
 use Rattle.bng_engine.proofs.Everywhere.{all_append, all_weaker}
-use Rattle.bng_shard.specs.Lasting.{IsTenureOf, Precedes}
-use Rattle.bng_shard.specs.Protocol.{key_in, terms_of}
-use Rattle.bng_shard.specs.State.{State}
-use Rattle.bng_shard.specs.Tenures.{Tenure}
+use Rattle.bng_steps.specs.Lasting.{IsTenureOf, Precedes}
+use Rattle.bng_steps.specs.Protocol.{key_in, terms_of}
+use Rattle.bng_steps.specs.State.{State}
+use Rattle.bng_steps.specs.Tenures.{Tenure}
 use Rattle.bng_desk.specs.Accounting.{AreBilled, AreSettling, KnowsBegun, is_unknown}
 use Rattle.bng_desk.specs.Model.{keys_in}
 use Rattle.bng_desk.specs.Round.{news_in}

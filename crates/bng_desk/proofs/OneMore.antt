@@ -32,14 +32,15 @@ use Rattle.bng_engine.proofs.Showing.{shows_begin, shows_handles, shows_more}
 use Rattle.bng_engine.proofs.Walks.{zip_same, zip_set}
 use Rattle.bng_pool.specs.Plain.{PlainView}
 use Rattle.bng_pool.specs.Tables.{Table, entry}
-use Rattle.bng_shard.specs.declared.rules.Rules.{Rules}
-use Rattle.bng_shard.specs.declared.whose.Whose.{Whose}
-use Rattle.bng_shard.specs.declared.whose.Whose.TheVariants.{Loose as IsLoose, Stands}
-use Rattle.bng_shard.specs.Hearing.{outs_most}
-use Rattle.bng_shard.specs.Protocol.{ShardState, HasPools, Handled, pppoe, packet_octets, entry_of, entry_with, terms_of}
-use Rattle.bng_shard.specs.Sums.{Rises, IsLow}
-use Rattle.bng_shard.specs.Whose.{IsWhose}
-use Rattle.bng_shard.proofs.StepLaws.{pppoe_laws}
+use Rattle.bng_steps.specs.declared.rules.Rules.{Rules}
+use Rattle.bng_steps.specs.declared.whose.Whose.{Whose}
+use Rattle.bng_steps.specs.declared.whose.Whose.TheVariants.{Loose as IsLoose, Stands}
+use Rattle.bng_steps.specs.Hearing.{outs_most}
+use Rattle.bng_steps.specs.Protocol.{ShardState, Handled, pppoe, packet_octets, entry_of, entry_with, terms_of}
+use Rattle.bng_shard.specs.Handling.{HasPools}
+use Rattle.bng_steps.specs.Sums.{Rises, IsLow}
+use Rattle.bng_steps.specs.Whose.{IsWhose}
+use Rattle.bng_steps.proofs.StepLaws.{pppoe_laws}
 use Rattle.bng_desk.specs.declared.drops.Drops.{Drops}
 use Rattle.bng_desk.specs.Counting.{with_fate, drops_of, plus}
 use Rattle.bng_desk.specs.Items.{loose_item, loose_in, without_claim}

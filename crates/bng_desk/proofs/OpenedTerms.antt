@@ -21,16 +21,16 @@ use Rattle.bng_engine.proofs.Adding.{sum_plus}
 use Rattle.bng_config.specs.declared.config.Config.{Config}
 use Rattle.bng_config.specs.Rules.{KeepsRules}
 use Rattle.bng_schema.specs.Names.{IsSessionOf}
-use Rattle.bng_shard.specs.declared.rules.Rules.{Rules}
-use Rattle.bng_shard.specs.Lasting.{IsTenureOf}
-use Rattle.bng_shard.specs.Opening.{circuit_at, in_order, tenures_after}
-use Rattle.bng_shard.specs.Protocol.{ShardState, opened, term_in, terms_of}
-use Rattle.bng_shard.specs.Tenures.{Tenure}
-use Rattle.bng_shard.proofs.InOrder.{sum_in_order}
-use Rattle.bng_shard.proofs.Numbered.{tenures_opened}
-use Rattle.bng_shard.proofs.OpenedKeys.{rows_apart, rows_of_shard}
-use Rattle.bng_shard.proofs.RowLaws.{new_keys}
-use Rattle.bng_shard.proofs.SoundOpening.{opened_sound}
+use Rattle.bng_steps.specs.declared.rules.Rules.{Rules}
+use Rattle.bng_steps.specs.Lasting.{IsTenureOf}
+use Rattle.bng_steps.specs.Opening.{circuit_at, in_order, tenures_after}
+use Rattle.bng_steps.specs.Protocol.{ShardState, opened, term_in, terms_of}
+use Rattle.bng_steps.specs.Tenures.{Tenure}
+use Rattle.bng_steps.proofs.InOrder.{sum_in_order}
+use Rattle.bng_steps.proofs.Numbered.{tenures_opened}
+use Rattle.bng_steps.proofs.OpenedKeys.{rows_apart, rows_of_shard}
+use Rattle.bng_steps.proofs.RowLaws.{new_keys}
+use Rattle.bng_steps.proofs.SoundOpening.{opened_sound}
 use Rattle.bng_sessions.specs.Sessions.{IsNumberOf}
 use Rattle.bng_desk.specs.Accounting.{KnowsBegun}
 use Rattle.bng_desk.specs.Model.{begun_in, keys_in, live_terms}

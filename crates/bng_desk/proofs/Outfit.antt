@@ -15,8 +15,8 @@ use Rattle.bng_base.specs.declared.settings.NamedRange.{NamedRange}
 use Rattle.bng_base.specs.declared.settings.Static.{Static}
 use Rattle.bng_discovery.specs.declared.port.PortRules.{PortRules}
 use Rattle.bng_profile.specs.Books.{AreDifferent, names_of}
-use Rattle.bng_shard.specs.declared.rules.Rules.{Rules}
-use Rattle.bng_shard.specs.Protocol.{HasPools}
+use Rattle.bng_steps.specs.declared.rules.Rules.{Rules}
+use Rattle.bng_shard.specs.Handling.{HasPools}
 use Rattle.bng_sessions.specs.Sessions.{IsNumberOf}
 use Rattle.bng_desk.specs.Opening.{AreOffersOf, AreServed, IsOfferOf, shard_of}
 

@@ -5,13 +5,13 @@ use Rattle.std.proofs.lemmas.List.Elements.{All-from_recursion, AllZip-get_or, l
 use Rattle.std.proofs.lemmas.List.Sums.{sum_by-cons}
 use Rattle.bng_engine.specs.Lists.{Zip3}
 use Rattle.bng_engine.specs.Terms.{Key, Stop}
-use Rattle.bng_shard.specs.Granting.{IsSound}
-use Rattle.bng_shard.specs.Lasting.{AreTenures}
-use Rattle.bng_shard.specs.Protocol.{ShardState}
-use Rattle.bng_shard.specs.State.{settled}
-use Rattle.bng_shard.specs.Tenures.{Tenure}
-use Rattle.bng_shard.proofs.GrantLaws.{settled_sound}
-use Rattle.bng_shard.proofs.Numbered.{tenures_settled}
+use Rattle.bng_steps.specs.Granting.{IsSound}
+use Rattle.bng_steps.specs.Lasting.{AreTenures}
+use Rattle.bng_steps.specs.Protocol.{ShardState}
+use Rattle.bng_steps.specs.State.{settled}
+use Rattle.bng_steps.specs.Tenures.{Tenure}
+use Rattle.bng_steps.proofs.GrantLaws.{settled_sound}
+use Rattle.bng_steps.proofs.Numbered.{tenures_settled}
 use Rattle.bng_desk.specs.declared.accounts.Stopped.{Stopped}
 use Rattle.bng_desk.specs.declared.line.Line.{Line}
 use Rattle.bng_desk.specs.Accounting.{KnowsBegun}

@@ -4,8 +4,8 @@ use Rattle.std.specs.Prelude.{filter, filter_map}
 use Rattle.std.specs.List.{AllZip}
 use Rattle.bng_engine.specs.Lists.{Zip3}
 use Rattle.bng_engine.specs.Views.{Row}
-use Rattle.bng_shard.specs.Interims.{Reports, owed, owes, row_in}
-use Rattle.bng_shard.specs.Protocol.{ShardState}
+use Rattle.bng_steps.specs.Interims.{Reports, owed, owes, row_in}
+use Rattle.bng_steps.specs.Protocol.{ShardState}
 use Rattle.bng_sessions.specs.Listed.{values}
 use Rattle.bng_desk.specs.Interims.{FormsInterims, TakesInterims, last_after, owed_by}
 use Rattle.bng_desk.specs.Round.{terms_in}

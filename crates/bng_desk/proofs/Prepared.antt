@@ -8,8 +8,8 @@ use Rattle.bng_engine.specs.Calls.{Kept, IsReady as IsRoomy}
 use Rattle.bng_engine.specs.Quantities.{Octets, in_book}
 use Rattle.bng_engine.specs.Terms.{Key}
 use Rattle.bng_engine.specs.Views.{ShardView}
-use Rattle.bng_shard.specs.declared.rules.Rules.{Rules}
-use Rattle.bng_shard.specs.Protocol.{ShardState}
+use Rattle.bng_steps.specs.declared.rules.Rules.{Rules}
+use Rattle.bng_steps.specs.Protocol.{ShardState}
 use Rattle.bng_desk.specs.declared.coa.Repeated.{Repeated}
 use Rattle.bng_desk.specs.declared.holding.Named.{Named}
 use Rattle.bng_desk.specs.declared.lists.Lists.{Lists}

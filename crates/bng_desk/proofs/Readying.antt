@@ -6,8 +6,8 @@ use Rattle.bng_base.specs.declared.item.Entry.{Entry}
 use Rattle.bng_engine.specs.Calls.{Kept, IsReady}
 use Rattle.bng_engine.specs.Views.{ShardView}
 use Rattle.bng_engine.proofs.Walks.{Walked, walk_all, walk_more, walk_stop, walk_weaker}
-use Rattle.bng_shard.specs.declared.rules.Rules.{Rules}
-use Rattle.bng_shard.specs.Protocol.{ShardState}
+use Rattle.bng_steps.specs.declared.rules.Rules.{Rules}
+use Rattle.bng_steps.specs.Protocol.{ShardState}
 use Rattle.bng_desk.specs.Allowing.{allowance_of}
 use Rattle.bng_desk.specs.Taking.{IsEmpty, HasRows, AreInOrder}
 

@@ -24,13 +24,14 @@ use Rattle.bng_engine.proofs.SameLists.{same_equal}
 use Rattle.bng_engine.proofs.Walks.{same_at}
 use Rattle.bng_pool.specs.Plain.{PlainView}
 use Rattle.bng_pool.specs.Tables.{TableFrees, entry}
-use Rattle.bng_shard.specs.declared.changes.Answer.{Answer}
-use Rattle.bng_shard.specs.declared.rules.Rules.{Rules}
-use Rattle.bng_shard.specs.Lasting.{AreTenures}
-use Rattle.bng_shard.specs.Protocol.{ShardState, AreHeld, Handled, Leaves, pppoe, ended_terms, key_in, term_in, terms_of}
-use Rattle.bng_shard.specs.State.{State, reaped as reaped_slots}
-use Rattle.bng_shard.specs.Sums.{AreLow, RowsAreLow}
-use Rattle.bng_shard.specs.Tenures.{LeavesTerms, Tenure}
+use Rattle.bng_steps.specs.declared.changes.Answer.{Answer}
+use Rattle.bng_steps.specs.declared.rules.Rules.{Rules}
+use Rattle.bng_steps.specs.Lasting.{AreTenures}
+use Rattle.bng_steps.specs.Protocol.{ShardState, Handled, pppoe, ended_terms, key_in, term_in, terms_of}
+use Rattle.bng_shard.specs.Handling.{AreHeld, Leaves}
+use Rattle.bng_steps.specs.State.{State, reaped as reaped_slots}
+use Rattle.bng_steps.specs.Sums.{AreLow, RowsAreLow}
+use Rattle.bng_steps.specs.Tenures.{LeavesTerms, Tenure}
 use Rattle.bng_desk.specs.declared.line.Line.{Line}
 use Rattle.bng_desk.specs.Accounting.{AreSettling, FormedRecord, Forms, IsStopOf}
 use Rattle.bng_desk.specs.Model.{keys_in}

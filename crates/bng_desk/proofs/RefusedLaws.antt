@@ -8,7 +8,7 @@ use Rattle.bng_base.specs.declared.item.ItemKind.{ItemKind}
 use Rattle.bng_base.specs.declared.item.ItemKind.TheVariants as kind
 use Rattle.bng_base.specs.declared.outside.Role.{Role}
 use Rattle.bng_base.specs.declared.outside.Role.TheVariants.{Access, Core, Tunnel}
-use Rattle.bng_shard.specs.declared.rules.Rules.{Rules}
+use Rattle.bng_steps.specs.declared.rules.Rules.{Rules}
 use Rattle.bng_desk.specs.Items.{DataReading, arrived, kind_of, is_from_outside, stays, taken_items}
 use Rattle.bng_desk.specs.Turn.{data_roles, ports_up_to, tunnel_roles}
 

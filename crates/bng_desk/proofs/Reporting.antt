@@ -18,9 +18,9 @@ use Rattle.bng_engine.specs.Lists.{AnyOf, Zip3}
 use Rattle.bng_engine.specs.Terms.{Key}
 use Rattle.bng_engine.specs.Views.{Row}
 use Rattle.bng_engine.proofs.Walks.{same_at}
-use Rattle.bng_shard.specs.Interims.{Reports, owed, with_report}
-use Rattle.bng_shard.specs.Protocol.{SaysOf}
-use Rattle.bng_shard.specs.Tenures.{Tenure}
+use Rattle.bng_steps.specs.Interims.{Reports, owed, with_report}
+use Rattle.bng_steps.specs.Protocol.{SaysOf}
+use Rattle.bng_steps.specs.Tenures.{Tenure}
 use Rattle.bng_desk.specs.Accounting.{FormedRecord}
 use Rattle.bng_desk.specs.Interims.{AreAwaited, AreWaiting, AwaitsAt, WaitsAt, FormsInterim, FormsInterims, TakesInterims, last_after, owed_by}
 use Rattle.bng_desk.specs.Model.{keys_in}

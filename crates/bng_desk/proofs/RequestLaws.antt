@@ -19,8 +19,8 @@ use Rattle.bng_lane.specs.Sends.{LaneAsk, LaneSend, Asks, Resends}
 use Rattle.bng_lane.specs.State.{LaneState, noted}
 use Rattle.bng_rad_client.specs.declared.pending.Pending.{Pending}
 use Rattle.bng_rad_client.specs.Table.{request_of, taken}
-use Rattle.bng_shard.specs.Questions.{Asking, asking_from, handed_after, waiting}
-use Rattle.bng_shard.specs.State.{State}
+use Rattle.bng_steps.specs.Questions.{Asking, asking_from, handed_after, waiting}
+use Rattle.bng_steps.specs.State.{State}
 use Rattle.bng_sessions.specs.Sessions.{IsNumberOf}
 use Rattle.bng_verdict.specs.declared.question.QuestionNo.{QuestionNo}
 use Rattle.bng_desk.specs.Intake.{SendsAgain, AsksSome, AsksAll, SendsRequests}

@@ -17,10 +17,10 @@ use Rattle.bng_engine.specs.Views.{Row, ShardView}
 use Rattle.bng_engine.proofs.Adding.{sum_map}
 use Rattle.bng_ppp.specs.LinkRelation.{earliest}
 use Rattle.bng_pool.specs.Plain.{PlainView}
-use Rattle.bng_shard.specs.declared.changes.Answer.{Answer}
-use Rattle.bng_shard.specs.declared.rules.Rules.{Rules}
-use Rattle.bng_shard.specs.declared.sums.Traffic.{Traffic}
-use Rattle.bng_shard.specs.Protocol.{ShardState, Handled, pppoe, deadline_of, sessions_of}
+use Rattle.bng_steps.specs.declared.changes.Answer.{Answer}
+use Rattle.bng_steps.specs.declared.rules.Rules.{Rules}
+use Rattle.bng_steps.specs.declared.sums.Traffic.{Traffic}
+use Rattle.bng_steps.specs.Protocol.{ShardState, Handled, pppoe, deadline_of, sessions_of}
 use Rattle.bng_desk.specs.declared.line.Line.{Line}
 use Rattle.bng_desk.specs.Items.{for_shard, is_due, ticks_of}
 use Rattle.bng_desk.specs.Kept.{rested}

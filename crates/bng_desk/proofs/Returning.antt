@@ -17,8 +17,9 @@ use Rattle.bng_engine.specs.Turns.{given_back}
 use Rattle.bng_engine.specs.Views.{ShardView}
 use Rattle.bng_pool.specs.Plain.{PlainView}
 use Rattle.bng_pool.specs.Tables.{Table, TableFrees, entry}
-use Rattle.bng_shard.specs.Protocol.{ShardState, Handled, AreHeld, SaysOf, term_in, terms_of}
-use Rattle.bng_shard.specs.Tenures.{Tenure}
+use Rattle.bng_steps.specs.Protocol.{ShardState, Handled, SaysOf, term_in, terms_of}
+use Rattle.bng_shard.specs.Handling.{AreHeld}
+use Rattle.bng_steps.specs.Tenures.{Tenure}
 use Rattle.bng_desk.specs.Round.{IsReturned, held_by}
 use Rattle.bng_desk.specs.Taking.{AreInOrder}
 use Rattle.bng_desk.proofs.Dealing.{Seens}

@@ -5,9 +5,9 @@ use Rattle.std.proofs.lemmas.List.Elements.{AllZip-get_or, length_all_zip}
 use Rattle.bng_billing.specs.State.{BillingState}
 use Rattle.bng_engine.specs.Calls.{IsReady, Kept}
 use Rattle.bng_engine.specs.Terms.{Key, keys}
-use Rattle.bng_shard.specs.Granting.{IsSound}
-use Rattle.bng_shard.specs.Lasting.{AreTenures}
-use Rattle.bng_shard.specs.Protocol.{ShardState, terms_of}
+use Rattle.bng_steps.specs.Granting.{IsSound}
+use Rattle.bng_steps.specs.Lasting.{AreTenures}
+use Rattle.bng_steps.specs.Protocol.{ShardState, terms_of}
 use Rattle.bng_desk.specs.Accounting.{KnowsBegun}
 use Rattle.bng_desk.specs.Allowing.{allowance_of, share_of}
 use Rattle.bng_desk.specs.Model.{keys_in}

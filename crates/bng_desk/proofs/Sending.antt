@@ -28,11 +28,11 @@ use Rattle.bng_engine.proofs.Journals.{run_owned, run_unsent, owned_same}
 use Rattle.bng_engine.proofs.Progressing.{turn_sends}
 use Rattle.bng_engine.proofs.SameLists.{same_back}
 use Rattle.bng_engine.proofs.Wire.{went_append}
-use Rattle.bng_shard.specs.declared.sums.Charged.{Charged}
-use Rattle.bng_shard.specs.declared.sums.Charged.TheVariants.{Packet}
-use Rattle.bng_shard.specs.Protocol.{ShardState, Handled, pppoe, terms_of}
-use Rattle.bng_shard.specs.Sums.{charged_as, Has, IsMore, AreCovered, AreLow, RowsAreLow}
-use Rattle.bng_shard.proofs.StepLaws.{pppoe_laws}
+use Rattle.bng_steps.specs.declared.sums.Charged.{Charged}
+use Rattle.bng_steps.specs.declared.sums.Charged.TheVariants.{Packet}
+use Rattle.bng_steps.specs.Protocol.{ShardState, Handled, pppoe, terms_of}
+use Rattle.bng_steps.specs.Sums.{charged_as, Has, IsMore, AreCovered, AreLow, RowsAreLow}
+use Rattle.bng_steps.proofs.StepLaws.{pppoe_laws}
 use Rattle.bng_desk.specs.declared.drops.Drops.{Drops}
 use Rattle.bng_desk.specs.Counting.{plus, Within}
 use Rattle.bng_desk.specs.Reading.{sending}

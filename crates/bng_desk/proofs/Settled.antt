@@ -11,7 +11,7 @@ use Rattle.bng_base.proofs.StretchLaws.{plant_more}
 use Rattle.bng_billing.specs.State.{BillingState}
 use Rattle.bng_coa.specs.State.{State as CoaState}
 use Rattle.bng_lane.specs.State.{LaneState}
-use Rattle.bng_shard.specs.declared.changes.Answer.{Answer}
+use Rattle.bng_steps.specs.declared.changes.Answer.{Answer}
 use Rattle.bng_desk.specs.declared.holding.Named.{Named}
 use Rattle.bng_desk.specs.declared.lists.Lists.{Lists}
 use Rattle.bng_desk.specs.declared.settlement.Settled.{Settled}

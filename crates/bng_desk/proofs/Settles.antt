@@ -11,8 +11,8 @@ use Rattle.bng_engine.specs.Settlements.{AreStarts}
 use Rattle.bng_engine.specs.Showing.{with_lists}
 use Rattle.bng_engine.specs.Terms.{Key, Stop, keys}
 use Rattle.bng_engine.specs.Views.{row_keys, rows_where}
-use Rattle.bng_shard.specs.Protocol.{Handled, ShardState, key_in, pppoe, terms_of}
-use Rattle.bng_shard.specs.Tenures.{Tenure}
+use Rattle.bng_steps.specs.Protocol.{Handled, ShardState, key_in, pppoe, terms_of}
+use Rattle.bng_steps.specs.Tenures.{Tenure}
 use Rattle.bng_desk.specs.Round.{entries_of}
 use Rattle.bng_desk.specs.Taking.{BegunTo, IsLeftBy, IsTurning, ReapedTo, SentTo, Shown, Sight, joined, settled_as}
 use Rattle.bng_desk.proofs.Dealing.{Seens}

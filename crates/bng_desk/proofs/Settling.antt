@@ -22,8 +22,8 @@ use Rattle.bng_engine.specs.Wire.{went}
 use Rattle.bng_engine.proofs.Walks.{same_at}
 use Rattle.bng_engine.proofs.Wire.{went_append}
 use Rattle.bng_pool.specs.Tables.{Table}
-use Rattle.bng_shard.specs.Protocol.{ShardState, Handled}
-use Rattle.bng_shard.specs.Sums.{IsLow, AreLow, RowsAreLow}
+use Rattle.bng_steps.specs.Protocol.{ShardState, Handled}
+use Rattle.bng_steps.specs.Sums.{IsLow, AreLow, RowsAreLow}
 use Rattle.bng_desk.specs.declared.drops.Drops.{Drops}
 use Rattle.bng_desk.specs.Counting.{plus}
 use Rattle.bng_desk.specs.Round.{is_failed, with_failed, not_sent, sends_stretch}

@@ -12,9 +12,9 @@ use Rattle.bng_base.specs.declared.item.ItemKind.{ItemKind}
 use Rattle.bng_base.specs.declared.item.ItemKind.TheVariants.{Access, Core, Tunnel, Verdict, Change, Tick, End}
 use Rattle.bng_engine.specs.Lists.{one_if}
 use Rattle.bng_engine.specs.Views.{ShardView}
-use Rattle.bng_shard.specs.declared.rules.Rules.{Rules}
-use Rattle.bng_shard.specs.Hearing.{outs_most}
-use Rattle.bng_shard.specs.Protocol.{ShardState}
+use Rattle.bng_steps.specs.declared.rules.Rules.{Rules}
+use Rattle.bng_steps.specs.Hearing.{outs_most}
+use Rattle.bng_steps.specs.Protocol.{ShardState}
 use Rattle.bng_shard.specs.Room.{is_end}
 use Rattle.bng_verdict.specs.declared.question.QuestionNo.{QuestionNo}
 use Rattle.bng_desk.specs.Items.{DataReading, drawn_from, ends_of, for_shard, is_change_item, is_change_kind, is_from_outside, is_verdict_item, is_verdict_kind, kept_of, stays, taken_items, ticks_of}

@@ -11,10 +11,10 @@ use Rattle.bng_engine.specs.Journals.{after}
 use Rattle.bng_engine.specs.Terms.{Key, keys}
 use Rattle.bng_engine.specs.Views.{ShardView}
 use Rattle.bng_engine.proofs.Adding.{sum_map}
-use Rattle.bng_shard.specs.declared.changes.Answer.{Answer}
-use Rattle.bng_shard.specs.declared.rules.Rules.{Rules}
-use Rattle.bng_shard.specs.Interims.{Reports}
-use Rattle.bng_shard.specs.Protocol.{Handled, ShardState, pppoe, sessions_of, terms_of}
+use Rattle.bng_steps.specs.declared.changes.Answer.{Answer}
+use Rattle.bng_steps.specs.declared.rules.Rules.{Rules}
+use Rattle.bng_steps.specs.Interims.{Reports}
+use Rattle.bng_steps.specs.Protocol.{Handled, ShardState, pppoe, sessions_of, terms_of}
 use Rattle.bng_desk.specs.declared.accounts.Stopped.{Stopped}
 use Rattle.bng_desk.specs.declared.line.Line.{Line}
 use Rattle.bng_desk.specs.declared.settlement.Works.{Works}

@@ -7,11 +7,11 @@ use Rattle.bng_engine.specs.Lists.{AnyOf}
 use Rattle.bng_engine.specs.Terms.{Key, Term, is_ended, keys}
 use Rattle.bng_engine.proofs.Everywhere.{any_all}
 use Rattle.bng_radius_wire.specs.Attributes.{Field}
-use Rattle.bng_shard.specs.Lasting.{AreTenures, IsTenureOf, Precedes}
-use Rattle.bng_shard.specs.Protocol.{SaysOf, TellsNew, key_in, term_in}
-use Rattle.bng_shard.specs.State.{State, reaped}
-use Rattle.bng_shard.specs.Tenures.{LeavesTerms, Tenure, is_over}
-use Rattle.bng_shard.proofs.Numbered.{tenures_settled}
+use Rattle.bng_steps.specs.Lasting.{AreTenures, IsTenureOf, Precedes}
+use Rattle.bng_steps.specs.Protocol.{SaysOf, TellsNew, key_in, term_in}
+use Rattle.bng_steps.specs.State.{State, reaped}
+use Rattle.bng_steps.specs.Tenures.{LeavesTerms, Tenure, is_over}
+use Rattle.bng_steps.proofs.Numbered.{tenures_settled}
 use Rattle.bng_desk.proofs.Parts.{all_without, pairs_without}
 
 -- the keys of terms, as the engine reads them

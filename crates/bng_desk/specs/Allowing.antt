@@ -3,7 +3,7 @@ use Rattle.std.specs.Prelude.{◌≡◌, ℕ, ◌+◌, ◌-◌, ◌/◌, ◌%◌
 use Rattle.bng_base.specs.declared.item.Entry.{Entry}
 use Rattle.bng_billing.specs.State.{BillingState}
 use Rattle.bng_engine.specs.Views.{ShardView}
-use Rattle.bng_shard.specs.Protocol.{ShardState}
+use Rattle.bng_steps.specs.Protocol.{ShardState}
 use Rattle.bng_desk.specs.Round.{Round}
 
 -- of so many, what the shard with this number gets of so many shards: each the same, and one more the first, as many as are left over

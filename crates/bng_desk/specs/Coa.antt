@@ -22,10 +22,10 @@ use Rattle.bng_coa.specs.Requests.{is_in_hand, is_numbered}
 use Rattle.bng_coa.specs.State.{State}
 use Rattle.bng_engine.specs.Views.{ShardView}
 use Rattle.bng_radius_wire.specs.Grammar.{Packet}
-use Rattle.bng_shard.specs.declared.changes.Answer.{Answer}
-use Rattle.bng_shard.specs.declared.rules.Rules.{Rules}
-use Rattle.bng_shard.specs.Changes.{refusal_of, verdict_by}
-use Rattle.bng_shard.specs.Protocol.{ShardState, Handled}
+use Rattle.bng_steps.specs.declared.changes.Answer.{Answer}
+use Rattle.bng_steps.specs.declared.rules.Rules.{Rules}
+use Rattle.bng_steps.specs.Changes.{refusal_of, verdict_by}
+use Rattle.bng_steps.specs.Protocol.{ShardState, Handled}
 use Rattle.bng_desk.specs.declared.coa.Repeated.{Repeated}
 use Rattle.bng_desk.specs.declared.reading.Ended.{Ended}
 use Rattle.bng_desk.specs.Items.{DataReading}

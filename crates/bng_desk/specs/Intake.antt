@@ -19,10 +19,10 @@ use Rattle.bng_lane.specs.Replies.{Takes as IsTaken}
 use Rattle.bng_lane.specs.Sends.{LaneSend, LaneAsk, AllResent, Asks}
 use Rattle.bng_lane.specs.State.{LaneState, noted}
 use Rattle.bng_rad_client.specs.Table.{taken}
-use Rattle.bng_shard.specs.declared.changes.Answer.{Answer}
-use Rattle.bng_shard.specs.declared.rules.Rules.{Rules}
-use Rattle.bng_shard.specs.Questions.{asking_from, waiting, handed_after}
-use Rattle.bng_shard.specs.State.{State}
+use Rattle.bng_steps.specs.declared.changes.Answer.{Answer}
+use Rattle.bng_steps.specs.declared.rules.Rules.{Rules}
+use Rattle.bng_steps.specs.Questions.{asking_from, waiting, handed_after}
+use Rattle.bng_steps.specs.State.{State}
 use Rattle.bng_verdict.specs.declared.question.AuthAsk.{AuthAsk}
 use Rattle.bng_verdict.specs.declared.question.QuestionNo.{QuestionNo}
 use Rattle.bng_desk.specs.declared.reading.Ended.{Ended}

@@ -6,9 +6,9 @@ use Rattle.bng_acct.specs.Spool.{open_of}
 use Rattle.bng_billing.specs.Records.{IsFormedBy}
 use Rattle.bng_billing.specs.State.{BillingState}
 use Rattle.bng_engine.specs.Views.{Row, ShardView}
-use Rattle.bng_shard.specs.Interims.{AwaitsInterims, Reports, owed, with_report}
-use Rattle.bng_shard.specs.Protocol.{ShardState}
-use Rattle.bng_shard.specs.Tenures.{Tenure}
+use Rattle.bng_steps.specs.Interims.{AwaitsInterims, Reports, owed, with_report}
+use Rattle.bng_steps.specs.Protocol.{ShardState}
+use Rattle.bng_steps.specs.Tenures.{Tenure}
 use Rattle.bng_desk.specs.Accounting.{AreFactsOf, FormedRecord}
 
 -- the Interim of a live term, formed at this moment: its octets and packets are what was carried for the term so far

@@ -6,8 +6,9 @@ use Rattle.bng_base.specs.declared.item.Item.{Item}
 use Rattle.bng_base.specs.declared.item.ItemKind.TheVariants.{Change, Verdict}
 use Rattle.bng_engine.specs.Books.{book_at}
 use Rattle.bng_engine.specs.Views.{ShardView}
-use Rattle.bng_shard.specs.Protocol.{ShardState, AreHeld, HasPools, terms_of}
-use Rattle.bng_shard.specs.Sums.{AreLow, RowsAreLow}
+use Rattle.bng_steps.specs.Protocol.{ShardState, terms_of}
+use Rattle.bng_shard.specs.Handling.{AreHeld, HasPools}
+use Rattle.bng_steps.specs.Sums.{AreLow, RowsAreLow}
 use Rattle.bng_desk.specs.Accounting.{AreBilled, KnowsBegun}
 use Rattle.bng_desk.specs.Counting.{Within}
 use Rattle.bng_desk.specs.Coa.{requests_most}

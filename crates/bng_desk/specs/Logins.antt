@@ -17,8 +17,8 @@ use Rattle.bng_lane.specs.Replies.{Takes}
 use Rattle.bng_lane.specs.Sends.{LaneSend, LaneAsk, AllResent, Asks}
 use Rattle.bng_lane.specs.State.{LaneState}
 use Rattle.bng_rad_client.specs.Table.{taken}
-use Rattle.bng_shard.specs.Protocol.{ShardState}
-use Rattle.bng_shard.specs.Questions.{Asking, asking_from, waiting, handed_after}
+use Rattle.bng_steps.specs.Protocol.{ShardState}
+use Rattle.bng_steps.specs.Questions.{Asking, asking_from, waiting, handed_after}
 use Rattle.bng_verdict.specs.declared.question.QuestionNo.{QuestionNo}
 use Rattle.bng_desk.specs.declared.reading.Ended.{Ended}
 use Rattle.bng_desk.specs.Items.{DataReading, nobody}

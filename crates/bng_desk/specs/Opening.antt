@@ -24,10 +24,10 @@ use Rattle.bng_lane.specs.declared.rules.LaneRules.{LaneRules}
 use Rattle.bng_lane.specs.State.{LaneState, IsNewLane}
 use Rattle.bng_pool.specs.Plain.{PlainView}
 use Rattle.bng_pool.specs.Tables.{entry}
-use Rattle.bng_shard.specs.declared.rules.Rules.{Rules}
-use Rattle.bng_shard.specs.Interims.{Reports, no_reports}
-use Rattle.bng_shard.specs.Protocol.{ShardState, opened}
-use Rattle.bng_shard.specs.Questions.{none_handed}
+use Rattle.bng_steps.specs.declared.rules.Rules.{Rules}
+use Rattle.bng_steps.specs.Interims.{Reports, no_reports}
+use Rattle.bng_steps.specs.Protocol.{ShardState, opened}
+use Rattle.bng_steps.specs.Questions.{none_handed}
 use Rattle.bng_sessions.specs.Sessions.{IsNumberOf}
 use Rattle.bng_desk.specs.declared.line.Line.{Line}
 use Rattle.bng_desk.specs.Accounting.{AreBilled, FormedRecord, Forms, IsStartOf}

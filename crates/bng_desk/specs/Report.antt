@@ -13,13 +13,13 @@ use Rattle.bng_engine.specs.Views.{ShardView}
 use Rattle.bng_schema.specs.Address.{address_text}
 use Rattle.bng_base.specs.declared.fate.DropCause.{DropCause}
 use Rattle.bng_base.specs.declared.fate.DropCause.TheVariants.{Malformed, NoSession, NotOpen, Expired, Spoofed, TooBig, Exceeded, LinkFailed, WantOfMemory}
-use Rattle.bng_shard.specs.Protocol.{ShardState}
+use Rattle.bng_steps.specs.Protocol.{ShardState}
 use Rattle.bng_desk.specs.declared.accounts.Stopped.{Stopped}
 use Rattle.bng_desk.specs.declared.drops.Drops.{Drops}
 use Rattle.bng_desk.specs.declared.line.Line.{Line}
 use Rattle.bng_desk.specs.Counting.{by_number}
 use Rattle.bng_desk.specs.Model.{Desk, by_profile, live_of, plus_book, sums_of, traffic_by, traffic_under}
-use Rattle.bng_shard.specs.declared.sums.Traffic.{Traffic}
+use Rattle.bng_steps.specs.declared.sums.Traffic.{Traffic}
 
 -- the causes, by number
 abbrev pub causes : List DropCause

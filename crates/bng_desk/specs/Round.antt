@@ -19,12 +19,12 @@ use Rattle.bng_engine.specs.Views.{ShardView, DeskView}
 use Rattle.bng_engine.specs.Wire.{went}
 use Rattle.bng_pool.specs.Plain.{PlainView}
 use Rattle.bng_pool.specs.Tables.{Table, entry}
-use Rattle.bng_shard.specs.declared.rules.Rules.{Rules}
-use Rattle.bng_shard.specs.declared.whose.Whose.{Whose}
-use Rattle.bng_shard.specs.declared.whose.Whose.TheVariants.{Loose as IsLoose, Stands}
-use Rattle.bng_shard.specs.Protocol.{ShardState, Handled, pppoe}
-use Rattle.bng_shard.specs.Tenures.{Tenure}
-use Rattle.bng_shard.specs.Whose.{IsWhose}
+use Rattle.bng_steps.specs.declared.rules.Rules.{Rules}
+use Rattle.bng_steps.specs.declared.whose.Whose.{Whose}
+use Rattle.bng_steps.specs.declared.whose.Whose.TheVariants.{Loose as IsLoose, Stands}
+use Rattle.bng_steps.specs.Protocol.{ShardState, Handled, pppoe}
+use Rattle.bng_steps.specs.Tenures.{Tenure}
+use Rattle.bng_steps.specs.Whose.{IsWhose}
 use Rattle.bng_desk.specs.declared.drops.Drops.{Drops}
 use Rattle.bng_desk.specs.Counting.{no_drops, drops_of, plus}
 use Rattle.bng_desk.specs.Items.{entries_in, all_loose, is_from_outside, without_claim}

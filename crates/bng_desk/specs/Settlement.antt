@@ -5,9 +5,10 @@ use Rattle.bng_base.specs.declared.item.Item.{Item}
 use Rattle.bng_base.specs.declared.round.RoundRecord.{RoundRecord}
 use Rattle.bng_base.specs.Causes.{HasCause}
 use Rattle.bng_base.specs.Told.{PlantTold, TraceTold, Grows}
-use Rattle.bng_shard.specs.declared.rules.Rules.{Rules}
-use Rattle.bng_shard.specs.Protocol.{AreHeld, HasPools, terms_of}
-use Rattle.bng_shard.specs.Sums.{IsLow, AreLow, RowsAreLow}
+use Rattle.bng_steps.specs.declared.rules.Rules.{Rules}
+use Rattle.bng_steps.specs.Protocol.{terms_of}
+use Rattle.bng_shard.specs.Handling.{AreHeld, HasPools}
+use Rattle.bng_steps.specs.Sums.{IsLow, AreLow, RowsAreLow}
 use Rattle.bng_billing.specs.State.{BillingState}
 use Rattle.bng_desk.specs.declared.holding.Named.{Named}
 use Rattle.bng_desk.specs.declared.lists.Lists.{Lists}

@@ -28,22 +28,23 @@ use Rattle.bng_engine.specs.Terms.{AreInOrder as AreOrdered, Key, Stop, keys, st
 use Rattle.bng_engine.specs.Turns.{InRound}
 use Rattle.bng_engine.specs.Views.{ShardView, row_keys, rows_where}
 use Rattle.bng_pool.specs.Plain.{PlainView}
-use Rattle.bng_shard.specs.declared.rules.Rules.{Rules}
-use Rattle.bng_shard.specs.declared.sums.Charged.{Charged}
-use Rattle.bng_shard.specs.declared.sums.Charged.TheVariants.{Packet, Control}
-use Rattle.bng_shard.specs.declared.whose.Whose.{Whose}
-use Rattle.bng_shard.specs.declared.whose.Whose.TheVariants.{Loose as IsLoose, Stands}
-use Rattle.bng_shard.specs.Hearing.{outs_most}
-use Rattle.bng_shard.specs.Granting.{IsSound}
-use Rattle.bng_shard.specs.Interims.{Reports, owed}
-use Rattle.bng_shard.specs.Lasting.{AreTenures}
-use Rattle.bng_shard.specs.Protocol.{ShardState, Handled, key_in, pppoe, sessions_of, terms_of, entry_of, Handles}
+use Rattle.bng_steps.specs.declared.rules.Rules.{Rules}
+use Rattle.bng_steps.specs.declared.sums.Charged.{Charged}
+use Rattle.bng_steps.specs.declared.sums.Charged.TheVariants.{Packet, Control}
+use Rattle.bng_steps.specs.declared.whose.Whose.{Whose}
+use Rattle.bng_steps.specs.declared.whose.Whose.TheVariants.{Loose as IsLoose, Stands}
+use Rattle.bng_steps.specs.Hearing.{outs_most}
+use Rattle.bng_steps.specs.Granting.{IsSound}
+use Rattle.bng_steps.specs.Interims.{Reports, owed}
+use Rattle.bng_steps.specs.Lasting.{AreTenures}
+use Rattle.bng_steps.specs.Protocol.{ShardState, Handled, key_in, pppoe, sessions_of, terms_of, entry_of}
+use Rattle.bng_shard.specs.Handling.{Handles}
 use Rattle.bng_shard.specs.Room.{is_tick, is_end}
-use Rattle.bng_shard.specs.State.{reaped}
-use Rattle.bng_shard.specs.Sums.{AreLow, RowsAreLow}
-use Rattle.bng_shard.specs.Tenures.{Tenure}
+use Rattle.bng_steps.specs.State.{reaped}
+use Rattle.bng_steps.specs.Sums.{AreLow, RowsAreLow}
+use Rattle.bng_steps.specs.Tenures.{Tenure}
 use Rattle.bng_pool.specs.Tables.{entry}
-use Rattle.bng_shard.specs.Whose.{IsWhose}
+use Rattle.bng_steps.specs.Whose.{IsWhose}
 use Rattle.bng_billing.specs.State.{BillingState}
 use Rattle.bng_desk.specs.declared.accounts.Stopped.{Stopped}
 use Rattle.bng_desk.specs.declared.drops.Drops.{Drops}

@@ -17,10 +17,10 @@ use Rattle.bng_engine.specs.Calls.{all_sends}
 use Rattle.bng_engine.specs.Lists.{Zip3}
 use Rattle.bng_engine.specs.Views.{ShardView}
 use Rattle.bng_ppp.specs.LinkRelation.{earliest}
-use Rattle.bng_shard.specs.declared.changes.Answer.{Answer}
-use Rattle.bng_shard.specs.declared.rules.Rules.{Rules}
-use Rattle.bng_shard.specs.Interims.{Reports}
-use Rattle.bng_shard.specs.Protocol.{ShardState, deadline_of}
+use Rattle.bng_steps.specs.declared.changes.Answer.{Answer}
+use Rattle.bng_steps.specs.declared.rules.Rules.{Rules}
+use Rattle.bng_steps.specs.Interims.{Reports}
+use Rattle.bng_steps.specs.Protocol.{ShardState, deadline_of}
 use Rattle.bng_shard.specs.Room.{is_end}
 use Rattle.bng_desk.specs.declared.desk.Turned.{Turned}
 use Rattle.bng_desk.specs.declared.desk.Turned.TheVariants.{Ok, TraceFault, WantOfMemory}

@@ -6,7 +6,7 @@ use arrayvec::ArrayVec;
 use bng_base::{AccessPort, AuthKind, Ip4, Lac, Listed, NamedRange, Profile};
 use bng_discovery::PortRules;
 use bng_ppp::LinkRules;
-use bng_shard::Rules;
+use bng_steps::Rules;
 use std::alloc::Global;
 
 /// The same octets again.

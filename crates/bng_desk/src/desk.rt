@@ -18,7 +18,8 @@ use crate::settlement::Works;
 use crate::sums::{Sums, all_carried, begun_in, live, plus_book, sessions_in};
 use bng_base::{Book, Frame, Item, Listed};
 use bng_config::Config;
-use bng_shard::{Rules, Shard};
+use bng_shard::Shard;
+use bng_steps::Rules;
 use std::alloc::Global;
 use std::marker::Model;
 use std::mem;
@@ -101,7 +102,7 @@ impl Model for Desk {
     ghost use Rattle.bng_desk.specs.Model.{Desk as Seen};
     ghost use Rattle.std.specs.Prelude.{◌≤◌, map, [], ◌∷◌, vec_capacity};
     ghost use Rattle.std.specs.Coded.{codes};
-    ghost use Rattle.bng_shard.specs.Codes.{state_code};
+    ghost use Rattle.bng_steps.specs.Codes.{state_code};
     ghost use Rattle.bng_desk.specs.Kept.{IsKept, rested};
 
     ghost Value = { Seen };

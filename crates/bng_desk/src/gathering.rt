@@ -20,7 +20,7 @@ use crate::settlement::Works;
 use bng_base::{Batch, Frame, Item, ItemKind};
 use bng_lane::Lane;
 use bng_plant::Plant;
-use bng_shard::Rules;
+use bng_steps::Rules;
 
 fn is_none(items: &[Item]) -> bool
     ensures { result ≡ is_empty items.now }

@@ -18,7 +18,7 @@ use crate::starts::begin_all;
 use crate::stops::reap_all;
 use bng_base::{Batch, Item, ItemKind, Listed, RoundRecord};
 use bng_plant::{Noted, Plant, Trace};
-use bng_shard::Rules;
+use bng_steps::Rules;
 use std::alloc::Global;
 use std::mem;
 

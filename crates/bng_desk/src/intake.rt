@@ -10,7 +10,7 @@ use crate::flags::both;
 use crate::random::Draws;
 use bng_base::{Batch, Frame, Item, ItemKind, Received, Role};
 use bng_plant::Plant;
-use bng_shard::Rules;
+use bng_steps::Rules;
 
 /// How many datagrams of the end for tunnels a turn takes.
 const TUNNEL_MOST: usize = 224;

@@ -7,10 +7,10 @@ ghost use Rattle.bng_acct.specs.Spool.{is_live};
 ghost use Rattle.bng_engine.specs.Lists.{AnyOf, Zip3};
 ghost use Rattle.bng_engine.specs.Terms.{keys};
 ghost use Rattle.bng_radius_wire.specs.Attributes.{Field};
-ghost use Rattle.bng_shard.specs.Interims.{row_told};
-ghost use Rattle.bng_shard.specs.Lasting.{AreTenures};
-ghost use Rattle.bng_shard.specs.Protocol.{key_of, terms_of, SaysOf};
-ghost use Rattle.bng_shard.specs.Tenures.{Tenure};
+ghost use Rattle.bng_steps.specs.Interims.{row_told};
+ghost use Rattle.bng_steps.specs.Lasting.{AreTenures};
+ghost use Rattle.bng_steps.specs.Protocol.{key_of, terms_of, SaysOf};
+ghost use Rattle.bng_steps.specs.Tenures.{Tenure};
 ghost use Rattle.bng_desk.specs.Accounting.{FormedRecord};
 ghost use Rattle.bng_desk.specs.Interims.{owed_by, AreAwaited, AreWaiting, AwaitsAt, WaitsAt, FormsInterim, FormsInterims, TakesInterims};
 ghost use Rattle.bng_desk.specs.Model.{keys_in};
@@ -19,7 +19,8 @@ ghost use Rattle.bng_desk.specs.Taking.{states_of, KeepsHeld, ReportsShard};
 
 use bng_acct::{Moment, TermFacts};
 use bng_billing::Billing;
-use bng_shard::{ReportedTerm, Reports, Shard};
+use bng_shard::Shard;
+use bng_steps::{ReportedTerm, Reports};
 
 // Forms the Interim of a live term that is due, at this moment and this second on the wall, unless its last one is open still. Its Classes
 // are whole, it began no later than now, and it is live in accounting. It is one of these terms.

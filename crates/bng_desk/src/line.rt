@@ -1,5 +1,5 @@
 use bng_base::{Ip4, SessionNo};
-use bng_shard::Traffic;
+use bng_steps::Traffic;
 
 /// A provisioned circuit, as the report names it: its session, the address of its subscriber, and what the Stops with this address say.
 #[derive(Drop)]

@@ -6,11 +6,11 @@ ghost use Rattle.bng_base.specs.declared.settings.NamedRange.{NamedRange};
 ghost use Rattle.bng_pool.specs.Ranges.{ArePoolRanges, HasAddress};
 ghost use Rattle.bng_pool.specs.Tables.{entry};
 ghost use Rattle.bng_profile.specs.Books.{AreDifferent, names_of};
-ghost use Rattle.bng_shard.specs.Interims.{no_reports};
-ghost use Rattle.bng_shard.specs.Lasting.{AreTenures};
-ghost use Rattle.bng_shard.specs.Protocol.{opened};
+ghost use Rattle.bng_steps.specs.Interims.{no_reports};
+ghost use Rattle.bng_steps.specs.Lasting.{AreTenures};
+ghost use Rattle.bng_steps.specs.Protocol.{opened};
 ghost use Rattle.bng_lane.specs.State.{IsNewLane};
-ghost use Rattle.bng_shard.specs.Questions.{none_handed};
+ghost use Rattle.bng_steps.specs.Questions.{none_handed};
 ghost use Rattle.bng_desk.specs.Opening.{coa_of, line_of, shard_of, circuit_with, dns_of, lane_rules, billing_rules, AreOffersOf, AreServed, IsOpenedPool, OpensAccounts};
 ghost use Rattle.bng_desk.specs.Model.{keys_in};
 ghost use Rattle.bng_desk.specs.Taking.{HasFewSessions, HasRows};
@@ -35,7 +35,8 @@ use bng_discovery::PortRules;
 use bng_lane::{Lane, LaneRules};
 use bng_pool::PlainPool;
 use bng_ppp::LinkRules;
-use bng_shard::{Handed, Reports, Rules, Shard};
+use bng_shard::Shard;
+use bng_steps::{Handed, Reports, Rules};
 use std::alloc::Global;
 
 // The DNS servers that a subscriber is told.

@@ -2,7 +2,7 @@
 ghost use Rattle.std.specs.Prelude.{◌≡◌, ◌⊎◌, ◌≤◌, ◌^◌, None, Some, map, option_map};
 ghost use Rattle.std.specs.List.{flat_map};
 ghost use Rattle.bng_radius_wire.specs.Grammar.{whole};
-ghost use Rattle.bng_shard.specs.Changes.{refusal_of, verdict_by};
+ghost use Rattle.bng_steps.specs.Changes.{refusal_of, verdict_by};
 ghost use Rattle.bng_desk.specs.Coa.{AnswersLoose, AnswersLooseKind, replies_in};
 ghost use Rattle.bng_desk.specs.Intake.{GivesItem, GivesLoose, GivesOne, GivesSome, RepeatsAll, SendsReplies};
 ghost use Rattle.bng_desk.specs.Taking.{told_all};
@@ -13,7 +13,8 @@ use bng_base::{Frame, Item, ItemKind, Loose, Role};
 use bng_coa::{ChangeVerdict, CoaDesk, first_refusal, request_in};
 use bng_plant::Plant;
 use bng_radius_wire::Radius;
-use bng_shard::{Rules, Shard};
+use bng_shard::Shard;
+use bng_steps::Rules;
 
 /// Session Context Not Found (RFC 5176 section 3.5).
 const NOT_FOUND: u16 = 503;

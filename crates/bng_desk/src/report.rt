@@ -8,7 +8,8 @@ use crate::line::Line;
 use crate::sums::{Sums, sent_under};
 use arrayvec::ArrayVec;
 use bng_base::{Book, DropCause, Ip4, Profile};
-use bng_shard::{Shard, Traffic};
+use bng_shard::Shard;
+use bng_steps::Traffic;
 use std::alloc::{AllocError, Global};
 
 /// The causes, by number.

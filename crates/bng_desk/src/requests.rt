@@ -12,7 +12,8 @@ use crate::random::Draws;
 use bng_base::{Frame, Role};
 use bng_lane::Lane;
 use bng_plant::Plant;
-use bng_shard::{Handed, Shard};
+use bng_shard::Shard;
+use bng_steps::Handed;
 use bng_verdict::AuthAsk;
 
 // Sends a request, and notes and answers whether the outside did.

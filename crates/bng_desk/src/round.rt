@@ -6,10 +6,11 @@ ghost use Rattle.bng_engine.specs.Lists.{one_if};
 ghost use Rattle.bng_engine.specs.Quantities.{Quantity, in_book};
 ghost use Rattle.bng_engine.specs.Sums.{charge_if, is_directed, passed_sum};
 ghost use Rattle.bng_pool.specs.Tables.{entry};
-ghost use Rattle.bng_shard.specs.Protocol.{AreHeld, HasPools, terms_of};
+ghost use Rattle.bng_steps.specs.Protocol.{terms_of};
+ghost use Rattle.bng_shard.specs.Handling.{AreHeld, HasPools};
 ghost use Rattle.bng_shard.specs.Room.{Admits};
-ghost use Rattle.bng_shard.specs.Sums.{Has, IsMore, IsLow, AreLow, RowsAreLow};
-ghost use Rattle.bng_shard.specs.Whose.{IsWhose};
+ghost use Rattle.bng_steps.specs.Sums.{Has, IsMore, IsLow, AreLow, RowsAreLow};
+ghost use Rattle.bng_steps.specs.Whose.{IsWhose};
 ghost use Rattle.bng_desk.specs.Allowing.{allowance_of};
 ghost use Rattle.bng_desk.specs.Counting.{Within, plus};
 ghost use Rattle.bng_desk.specs.Round.{with_failed};
@@ -22,7 +23,8 @@ use crate::lists::Lists;
 use bng_base::{Batch, Book, DropCause, Entry, Fate, Item, Listed, Loose, OutRecord};
 use bng_plant::Plant;
 use bng_pool::PlainPool;
-use bng_shard::{Charged, Rules, Shard, Whose, whose_is};
+use bng_shard::{Shard, whose_is};
+use bng_steps::{Charged, Rules, Whose};
 use std::alloc::Global;
 
 // Lends a shard the list of a journal of before, emptied.

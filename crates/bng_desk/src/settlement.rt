@@ -15,7 +15,8 @@ use bng_coa::CoaDesk;
 use bng_lane::Lane;
 use bng_plant::{Plant, Trace};
 use bng_pool::PlainPool;
-use bng_shard::{Handed, Rules, Shard};
+use bng_shard::Shard;
+use bng_steps::{Handed, Rules};
 use std::alloc::Global;
 use std::mem;
 

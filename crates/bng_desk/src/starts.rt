@@ -3,9 +3,9 @@ ghost use Rattle.std.specs.Prelude.{◌≡◌, ◌⊎◌, ◌+◌, ◌≤◌, �
 ghost use Rattle.std.specs.List.{All, AllPairs};
 ghost use Rattle.bng_acct.specs.Roster.{of_term, same};
 ghost use Rattle.bng_engine.specs.Terms.{Key, keys};
-ghost use Rattle.bng_shard.specs.Lasting.{AreTenures};
-ghost use Rattle.bng_shard.specs.Protocol.{key_in, terms_of};
-ghost use Rattle.bng_shard.specs.Tenures.{Tenure};
+ghost use Rattle.bng_steps.specs.Lasting.{AreTenures};
+ghost use Rattle.bng_steps.specs.Protocol.{key_in, terms_of};
+ghost use Rattle.bng_steps.specs.Tenures.{Tenure};
 ghost use Rattle.bng_desk.specs.Accounting.{AreBilled, AreSettling};
 ghost use Rattle.bng_desk.specs.Model.{keys_in};
 ghost use Rattle.bng_desk.specs.Round.{news_in};

@@ -12,7 +12,8 @@ use crate::report::{CAUSES, name_of, octets_of};
 use crate::sums::{live, plus_book, sent_under};
 use arrayvec::ArrayVec;
 use bng_base::{Book, DropCause, Frame, Profile};
-use bng_shard::{Shard, Traffic};
+use bng_shard::Shard;
+use bng_steps::Traffic;
 use itoa::Buffer;
 
 /// What a desk has counted, as its parts have it: the shards, what the Stops say, what was passed, the drops, and the profiles.

@@ -2,8 +2,9 @@
 ghost use Rattle.std.specs.Prelude.{◌≡◌, ◌≢◌, ◌≤◌, ◌++◌, Bool, List, ℕ, [], ◌∷◌, map};
 ghost use Rattle.std.specs.List.{All};
 ghost use Rattle.bng_engine.specs.Terms.{Key, Term, keys};
-ghost use Rattle.bng_shard.specs.Lasting.{AreTenures};
-ghost use Rattle.bng_shard.specs.Protocol.{AreHeld, key_in, terms_of};
+ghost use Rattle.bng_steps.specs.Lasting.{AreTenures};
+ghost use Rattle.bng_steps.specs.Protocol.{key_in, terms_of};
+ghost use Rattle.bng_shard.specs.Handling.{AreHeld};
 ghost use Rattle.bng_desk.specs.Accounting.{AreSettling};
 ghost use Rattle.bng_desk.specs.Model.{keys_in};
 ghost use Rattle.bng_desk.specs.Round.{news_in};

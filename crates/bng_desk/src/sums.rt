@@ -4,11 +4,12 @@ ghost use Rattle.std.specs.List.{All};
 ghost use Rattle.bng_engine.specs.Quantities.{Quantity, in_book};
 ghost use Rattle.bng_desk.specs.Model.{begun_in, sessions_in, carried_on, live_of, plus_book, plus_traffic, traffic_at, traffic_or, traffic_under};
 ghost use Rattle.bng_desk.specs.Taking.{CarriesWithin, LinesWithin, far};
-ghost use Rattle.bng_shard.specs.Protocol.{row_at};
+ghost use Rattle.bng_steps.specs.Protocol.{row_at};
 
 use crate::line::Line;
 use bng_base::{Book, Ip4, SessionNo};
-use bng_shard::{Shard, Traffic};
+use bng_shard::Shard;
+use bng_steps::Traffic;
 use std::alloc::{AllocError, Global};
 
 /// Nothing was carried.

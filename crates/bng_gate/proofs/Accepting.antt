@@ -12,22 +12,22 @@ use Rattle.bng_base.specs.declared.item.OutRecord.{OutRecord}
 use Rattle.bng_engine.specs.Views.{ShardView}
 use Rattle.bng_ppp.specs.PppState.{is_accepted}
 use Rattle.bng_sessions.specs.Sessions.{value_at}
-use Rattle.bng_shard.specs.Made.{Question}
-use Rattle.bng_shard.specs.declared.rules.Rules.{Rules}
-use Rattle.bng_shard.specs.declared.session.Service.{Service}
-use Rattle.bng_shard.specs.declared.session.Service.TheVariants.{Provisioned, Discovered}
-use Rattle.bng_shard.specs.declared.session.Session.{Session}
-use Rattle.bng_shard.specs.Deed.{Deed}
-use Rattle.bng_shard.specs.Granting.{GivesYes, IsGrantedOn, IsGrantedOver, IsSound, IsYesOn, IsYesOver, accepted_ask_at, accepted_in}
-use Rattle.bng_shard.specs.Protocol.{ShardState, Handled, pppoe}
-use Rattle.bng_shard.specs.Questions.{Asking, asking_of, last_asking, last_asking_at, last_in}
-use Rattle.bng_shard.specs.Serving.{AreOwn}
-use Rattle.bng_shard.specs.State.{State, leaves, settled}
-use Rattle.bng_shard.specs.Step.{Step}
-use Rattle.bng_shard.proofs.GrantLaws.{settled_sound, step_accepted, step_last, step_sound, step_yes, step_yes_over}
-use Rattle.bng_shard.proofs.QuestionLaws.{step_asks}
-use Rattle.bng_shard.proofs.TermLaws.{step_moves}
-use Rattle.bng_shard.proofs.Values.{kept_from}
+use Rattle.bng_steps.specs.Made.{Question}
+use Rattle.bng_steps.specs.declared.rules.Rules.{Rules}
+use Rattle.bng_steps.specs.declared.session.Service.{Service}
+use Rattle.bng_steps.specs.declared.session.Service.TheVariants.{Provisioned, Discovered}
+use Rattle.bng_steps.specs.declared.session.Session.{Session}
+use Rattle.bng_steps.specs.Deed.{Deed}
+use Rattle.bng_steps.specs.Granting.{GivesYes, IsGrantedOn, IsGrantedOver, IsSound, IsYesOn, IsYesOver, accepted_ask_at, accepted_in}
+use Rattle.bng_steps.specs.Protocol.{ShardState, Handled, pppoe}
+use Rattle.bng_steps.specs.Questions.{Asking, asking_of, last_asking, last_asking_at, last_in}
+use Rattle.bng_steps.specs.Serving.{AreOwn}
+use Rattle.bng_steps.specs.State.{State, leaves, settled}
+use Rattle.bng_steps.specs.Step.{Step}
+use Rattle.bng_steps.proofs.GrantLaws.{settled_sound, step_accepted, step_last, step_sound, step_yes, step_yes_over}
+use Rattle.bng_steps.proofs.QuestionLaws.{step_asks}
+use Rattle.bng_steps.proofs.TermLaws.{step_moves}
+use Rattle.bng_steps.proofs.Values.{kept_from}
 use Rattle.bng_desk.specs.Model.{Desk}
 use Rattle.bng_gate.specs.Granted.{Held, HandledIn}
 use Rattle.bng_gate.proofs.HeldRuns.{HeldRun, HasCount}

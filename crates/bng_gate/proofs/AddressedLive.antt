@@ -15,8 +15,8 @@ use Rattle.bng_engine.specs.Wire.{went}
 use Rattle.bng_engine.proofs.Everywhere.{all_append, all_mapped, all_weaker, any_either, any_left, any_right, if_some_weaker}
 use Rattle.bng_engine.proofs.Journals.{owned_same, run_owned}
 use Rattle.bng_engine.proofs.Rounds.{in_shards}
-use Rattle.bng_shard.specs.Protocol.{ShardState, Handled, pppoe, terms_of}
-use Rattle.bng_shard.proofs.StepLaws.{pppoe_laws}
+use Rattle.bng_steps.specs.Protocol.{ShardState, Handled, pppoe, terms_of}
+use Rattle.bng_steps.proofs.StepLaws.{pppoe_laws}
 use Rattle.bng_gate.specs.Headline.{AddressesLive, IsAddressed, live_in}
 use Rattle.bng_gate.proofs.Addressing.{went_addressed}
 use Rattle.bng_gate.proofs.Keys.{IsOurs, all_ours}

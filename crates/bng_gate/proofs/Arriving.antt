@@ -12,7 +12,7 @@ use Rattle.bng_base.specs.declared.outside.Role.TheVariants.{Access, Core, Tunne
 use Rattle.bng_base.specs.FateOf.{Arrival}
 use Rattle.bng_coa.specs.declared.rules.Admitted.{Admitted}
 use Rattle.bng_coa.specs.declared.rules.Admitted.TheVariants.{New, Repeat, InHand, Ignored}
-use Rattle.bng_shard.specs.Protocol.{ShardState, Handled}
+use Rattle.bng_steps.specs.Protocol.{ShardState, Handled}
 use Rattle.bng_verdict.specs.declared.question.QuestionNo.{QuestionNo}
 use Rattle.bng_desk.specs.Coa.{Requested, change_in, change_item, change_items}
 use Rattle.bng_desk.specs.Items.{DataReading, arrived, drawn_from, ends_of, kept_of, kind_of, stays, taken_items, ticks_of}

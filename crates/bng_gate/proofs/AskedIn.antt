@@ -29,8 +29,8 @@ use Rattle.bng_coa.proofs.Standing.{IsApart, run_apart}
 use Rattle.bng_engine.specs.Lists.{AnyOf}
 use Rattle.bng_engine.proofs.Everywhere.{any_all, any_left, any_right}
 use Rattle.bng_radius_wire.specs.Grammar.{IsRadius, length_in}
-use Rattle.bng_shard.specs.declared.whose.Whose.{Whose}
-use Rattle.bng_shard.specs.declared.whose.Whose.TheVariants.{Loose as IsLoose, Stands}
+use Rattle.bng_steps.specs.declared.whose.Whose.{Whose}
+use Rattle.bng_steps.specs.declared.whose.Whose.TheVariants.{Loose as IsLoose, Stands}
 use Rattle.bng_desk.specs.Coa.{AdmitsAll, CoaSend, GivesAnswer, GivesTo, Given, Requested, change_in, change_item, change_items}
 use Rattle.bng_desk.specs.Items.{DataReading, all_loose, arrived, drawn_from, ends_of, kind_of, loose_in, loose_item, taken_items, ticks_of}
 use Rattle.bng_desk.specs.Logins.{Answered as Answer, reply_in, reply_items, silence, timeout_items, verdict_item}

@@ -26,13 +26,13 @@ use Rattle.bng_engine.specs.Lists.{AnyOf}
 use Rattle.bng_engine.specs.Views.{ShardView}
 use Rattle.bng_engine.proofs.Everywhere.{any_either, any_left, any_right}
 use Rattle.bng_radius_wire.specs.Grammar.{Packet}
-use Rattle.bng_shard.specs.declared.changes.Answer.{Answer}
-use Rattle.bng_shard.specs.declared.rules.Rules.{Rules}
-use Rattle.bng_shard.specs.declared.whose.Whose.{Whose}
-use Rattle.bng_shard.specs.declared.whose.Whose.TheVariants.{Loose as IsLoose, Stands}
-use Rattle.bng_shard.specs.Changes.{AnswersKind, AnswersRequest, answer_to, refusal_of, verdict_by}
-use Rattle.bng_shard.specs.Protocol.{ShardState, Handled, entry_of, pppoe}
-use Rattle.bng_shard.specs.State.{State}
+use Rattle.bng_steps.specs.declared.changes.Answer.{Answer}
+use Rattle.bng_steps.specs.declared.rules.Rules.{Rules}
+use Rattle.bng_steps.specs.declared.whose.Whose.{Whose}
+use Rattle.bng_steps.specs.declared.whose.Whose.TheVariants.{Loose as IsLoose, Stands}
+use Rattle.bng_steps.specs.Changes.{AnswersKind, AnswersRequest, answer_to, refusal_of, verdict_by}
+use Rattle.bng_steps.specs.Protocol.{ShardState, Handled, entry_of, pppoe}
+use Rattle.bng_steps.specs.State.{State}
 use Rattle.bng_desk.specs.Coa.{AdmitsAll, AnswersLoose, AnswersLooseKind, AreLooseAnswers, CoaReplies, CoaReply, CoaSend, GivesAnswer, GivesTo, Given, Requested, SettlesCoa, answers_in, change_in, change_item, change_items, shard_answers}
 use Rattle.bng_desk.specs.Items.{all_loose, drawn_from, ends_of, entries_in, kept_of, loose_in, loose_item, stands_in, stays, without_claim}
 use Rattle.bng_desk.specs.Model.{Desk}

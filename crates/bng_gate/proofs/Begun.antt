@@ -17,14 +17,14 @@ use Rattle.bng_engine.specs.Views.{ShardView}
 use Rattle.bng_engine.proofs.Everywhere.{all_append, any_all}
 use Rattle.bng_engine.proofs.Journals.{after_more}
 use Rattle.bng_engine.proofs.SameLists.{any_same}
-use Rattle.bng_shard.specs.Granting.{BeginsByYes, GivesYes}
-use Rattle.bng_shard.specs.Lasting.{BeginsByClaims}
-use Rattle.bng_shard.specs.Protocol.{ShardState, Handled, claimed_by, key_in, pppoe, term_in, terms_of}
-use Rattle.bng_shard.specs.Questions.{Asking, asking_from}
-use Rattle.bng_shard.specs.Step.{Step}
-use Rattle.bng_shard.specs.Tenures.{Tenure}
-use Rattle.bng_shard.proofs.ClaimedTerms.{step_by_claims}
-use Rattle.bng_shard.proofs.TermYeses.{step_by_yeses}
+use Rattle.bng_steps.specs.Granting.{BeginsByYes, GivesYes}
+use Rattle.bng_steps.specs.Lasting.{BeginsByClaims}
+use Rattle.bng_steps.specs.Protocol.{ShardState, Handled, claimed_by, key_in, pppoe, term_in, terms_of}
+use Rattle.bng_steps.specs.Questions.{Asking, asking_from}
+use Rattle.bng_steps.specs.Step.{Step}
+use Rattle.bng_steps.specs.Tenures.{Tenure}
+use Rattle.bng_steps.proofs.ClaimedTerms.{step_by_claims}
+use Rattle.bng_steps.proofs.TermYeses.{step_by_yeses}
 use Rattle.bng_verdict.specs.declared.question.QuestionNo.{QuestionNo}
 use Rattle.bng_desk.specs.Model.{Desk}
 use Rattle.bng_desk.specs.Round.{Round, starts_of}

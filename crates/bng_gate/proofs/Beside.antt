@@ -11,10 +11,10 @@ use Rattle.bng_engine.specs.Lists.{AnyOf}
 use Rattle.bng_engine.specs.Settlements.{OneEach, AreStarts}
 use Rattle.bng_engine.specs.Sums.{sent_where}
 use Rattle.bng_engine.specs.Views.{Row, ShardView, rows_where}
-use Rattle.bng_shard.specs.declared.changes.Answer.{Answer}
-use Rattle.bng_shard.specs.declared.rules.Rules.{Rules}
-use Rattle.bng_shard.specs.Protocol.{ShardState, Handled, HandlesStep, pppoe, term_in}
-use Rattle.bng_shard.specs.State.{State, settled}
+use Rattle.bng_steps.specs.declared.changes.Answer.{Answer}
+use Rattle.bng_steps.specs.declared.rules.Rules.{Rules}
+use Rattle.bng_steps.specs.Protocol.{ShardState, Handled, HandlesStep, pppoe, term_in}
+use Rattle.bng_steps.specs.State.{State, settled}
 
 abbrev pub Sight : Type 0
 Sight = ShardView ShardState Handled

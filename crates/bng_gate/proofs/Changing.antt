@@ -19,11 +19,11 @@ use Rattle.bng_coa.specs.State.{State as CoaState}
 use Rattle.bng_coa.proofs.Standing.{IsApart}
 use Rattle.bng_engine.specs.Journals.{after, AreSteps}
 use Rattle.bng_engine.specs.Views.{ShardView}
-use Rattle.bng_shard.specs.declared.changes.Answer.{Answer}
-use Rattle.bng_shard.specs.declared.rules.Rules.{Rules}
-use Rattle.bng_shard.specs.Changes.{AnswersKind, IsAnswerOf, answer_to, refusal_of, verdict_by}
-use Rattle.bng_shard.specs.Protocol.{ShardState, Handled, HandlesStep, pppoe}
-use Rattle.bng_shard.specs.State.{State}
+use Rattle.bng_steps.specs.declared.changes.Answer.{Answer}
+use Rattle.bng_steps.specs.declared.rules.Rules.{Rules}
+use Rattle.bng_steps.specs.Changes.{AnswersKind, IsAnswerOf, answer_to, refusal_of, verdict_by}
+use Rattle.bng_steps.specs.Protocol.{ShardState, Handled, HandlesStep, pppoe}
+use Rattle.bng_steps.specs.State.{State}
 use Rattle.bng_desk.specs.Coa.{AdmitsAll, AdmitsOne, AnswersLooseKind, AreLooseAnswers, CoaReplies, CoaReply, CoaSend, Given, GivesAnswer, Requested, SettlesCoa, answers_in, repeats_of, shard_answers}
 use Rattle.bng_desk.specs.Items.{DataReading, all_loose, kept_of, stays}
 use Rattle.bng_desk.specs.Model.{Desk}

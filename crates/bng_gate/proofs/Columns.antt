@@ -9,7 +9,7 @@ use Rattle.bng_engine.specs.Histories.{History, ShardHistory, ShardTurn, NextInS
 use Rattle.bng_engine.specs.Lists.{Zip3}
 use Rattle.bng_engine.proofs.Everywhere.{all_append}
 use Rattle.bng_engine.proofs.Rounds.{in_shards}
-use Rattle.bng_shard.specs.Protocol.{ShardState, Handled, pppoe}
+use Rattle.bng_steps.specs.Protocol.{ShardState, Handled, pppoe}
 
 -- Lists side by side ---------------------------------------------------------------------------------------------------------
 

@@ -27,11 +27,11 @@ use Rattle.bng_engine.specs.Calls.{Moves}
 use Rattle.bng_engine.specs.Journals.{after as after_all, AreSteps}
 use Rattle.bng_engine.specs.Showing.{with_journal}
 use Rattle.bng_engine.specs.Views.{ShardView}
-use Rattle.bng_shard.specs.declared.rules.Rules.{Rules}
-use Rattle.bng_shard.specs.declared.whose.Whose.{Whose}
-use Rattle.bng_shard.specs.Protocol.{ShardState, Handled, pppoe, entry_of}
+use Rattle.bng_steps.specs.declared.rules.Rules.{Rules}
+use Rattle.bng_steps.specs.declared.whose.Whose.{Whose}
+use Rattle.bng_steps.specs.Protocol.{ShardState, Handled, pppoe, entry_of}
 use Rattle.bng_shard.specs.Room.{is_end}
-use Rattle.bng_shard.proofs.GrantLaws.{step_few}
+use Rattle.bng_steps.proofs.GrantLaws.{step_few}
 use Rattle.bng_desk.specs.declared.reading.Ended.{Ended}
 use Rattle.bng_desk.specs.Coa.{Requested, change_in, change_item, change_items, has_places, requests_most}
 use Rattle.bng_desk.specs.Items.{DataReading, arrived, drawn_from, ends_of, entries_in, is_change_item, is_change_kind, is_verdict_item, is_verdict_kind, kept_of, stands_in, stays, taken_items, ticks_of, without_claim}

@@ -11,9 +11,9 @@ use Rattle.bng_base.specs.declared.item.Item.{Item}
 use Rattle.bng_engine.specs.Views.{ShardView}
 use Rattle.bng_engine.proofs.Everywhere.{all_append, all_mapped}
 use Rattle.bng_pool.specs.Plain.{PlainView}
-use Rattle.bng_shard.specs.declared.rules.Rules.{Rules}
-use Rattle.bng_shard.specs.declared.whose.Whose.{Whose}
-use Rattle.bng_shard.specs.Protocol.{ShardState, Handled, entry_of}
+use Rattle.bng_steps.specs.declared.rules.Rules.{Rules}
+use Rattle.bng_steps.specs.declared.whose.Whose.{Whose}
+use Rattle.bng_steps.specs.Protocol.{ShardState, Handled, entry_of}
 use Rattle.bng_desk.specs.Items.{entries_in, stands_in, without_claim}
 use Rattle.bng_desk.specs.Round.{Round, IsRound, IsPart, AreParts, entries_of, of_seat}
 

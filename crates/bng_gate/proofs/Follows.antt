@@ -7,7 +7,7 @@ use Rattle.bng_base.specs.Chain.{Chain}
 use Rattle.bng_base.proofs.ChainLaws.{chain_append}
 use Rattle.bng_engine.specs.Views.{ShardView}
 use Rattle.bng_pool.specs.Plain.{PlainView}
-use Rattle.bng_shard.specs.Protocol.{ShardState}
+use Rattle.bng_steps.specs.Protocol.{ShardState}
 use Rattle.bng_desk.specs.declared.line.Line.{Line}
 use Rattle.bng_desk.specs.Model.{Desk, all_stopped, line_after, plus_book}
 use Rattle.bng_desk.specs.Round.{Round, IsRound, left_by, stops_of}

@@ -19,7 +19,7 @@ use Rattle.bng_engine.specs.Terms.{Key, Stop, keys}
 use Rattle.bng_engine.specs.Turns.{journals_in, TalliesGrow, HasSeat, Tells}
 use Rattle.bng_engine.specs.Views.{Row, ShardView, DeskView, row_keys, rows_where, turn_in}
 use Rattle.bng_engine.proofs.Walks.{zip_both}
-use Rattle.bng_shard.specs.Protocol.{ShardState, Handled, pppoe, terms_of}
+use Rattle.bng_steps.specs.Protocol.{ShardState, Handled, pppoe, terms_of}
 use Rattle.bng_desk.specs.Model.{Desk}
 use Rattle.bng_desk.specs.Round.{Round, left_by, views_of, view_of, held_by}
 use Rattle.bng_gate.proofs.Beside.{IsBeside, Sight, Went, all_beside_itself, all_gone, all_moved, any_gone, each_gone, gone, map_gone, moves_beside, sum_gone, sums_beside}

@@ -9,10 +9,10 @@ use Rattle.bng_base.specs.declared.item.OutRecord.{OutRecord}
 use Rattle.bng_base.specs.declared.outside.Datagram.{Datagram}
 use Rattle.bng_config.specs.declared.config.Config.{Config}
 use Rattle.bng_engine.specs.Lists.{AnyOf}
-use Rattle.bng_shard.specs.declared.rules.Rules.{Rules}
-use Rattle.bng_shard.specs.Granting.{GivesYes, IsGrantedOver, IsYesOn, IsYesOver}
-use Rattle.bng_shard.specs.Protocol.{ShardState, Handled}
-use Rattle.bng_shard.specs.Questions.{Asking, asking_from}
+use Rattle.bng_steps.specs.declared.rules.Rules.{Rules}
+use Rattle.bng_steps.specs.Granting.{GivesYes, IsGrantedOver, IsYesOn, IsYesOver}
+use Rattle.bng_steps.specs.Protocol.{ShardState, Handled}
+use Rattle.bng_steps.specs.Questions.{Asking, asking_from}
 use Rattle.bng_verdict.specs.declared.question.QuestionNo.{QuestionNo}
 use Rattle.bng_desk.specs.Model.{Desk}
 use Rattle.bng_gate.specs.Granted.{Granted, Held, HandledIn, IsLetIn, IsLetInOver, IsOverCall, Login, LetsIn, LetsInOver, LetsInOwn, SentBy, held_of, stages_of, stage_at}

@@ -26,10 +26,10 @@ use Rattle.bng_engine.proofs.Everywhere.{all_weaker}
 use Rattle.bng_engine.proofs.Openings.{opening_accounted}
 use Rattle.bng_engine.proofs.Runs.{books_account, rounds_are_right, run_conserves_at, rows_account, rows_account_on_wire}
 use Rattle.bng_engine.proofs.Turns.{balanced}
-use Rattle.bng_shard.specs.declared.rules.Rules.{Rules}
-use Rattle.bng_shard.specs.declared.sums.Traffic.{Traffic}
-use Rattle.bng_shard.specs.Protocol.{ShardState, Handled, pppoe}
-use Rattle.bng_shard.proofs.StepLaws.{pppoe_laws}
+use Rattle.bng_steps.specs.declared.rules.Rules.{Rules}
+use Rattle.bng_steps.specs.declared.sums.Traffic.{Traffic}
+use Rattle.bng_steps.specs.Protocol.{ShardState, Handled, pppoe}
+use Rattle.bng_steps.proofs.StepLaws.{pppoe_laws}
 use Rattle.bng_desk.specs.declared.desk.DeskState.TheVariants.{Ended}
 use Rattle.bng_desk.specs.declared.drops.Drops.{Drops}
 use Rattle.bng_desk.specs.declared.line.Line.{Line}

@@ -10,14 +10,14 @@ use Rattle.bng_base.specs.declared.settings.AccessPort.{AccessPort}
 use Rattle.bng_config.specs.declared.config.Config.{Config}
 use Rattle.bng_engine.specs.Views.{ShardView}
 use Rattle.bng_forward.specs.Fates.{IsFrame}
-use Rattle.bng_shard.specs.declared.rules.Rules.{Rules}
-use Rattle.bng_shard.specs.declared.way.Way.{Way}
-use Rattle.bng_shard.specs.declared.way.Way.TheVariants.{Port, Call}
-use Rattle.bng_shard.specs.Claiming.{CarriesOn}
-use Rattle.bng_shard.specs.Deed.{arrival_in}
-use Rattle.bng_shard.specs.Protocol.{ShardState}
-use Rattle.bng_shard.specs.Questions.{asking_from, questions_of}
-use Rattle.bng_shard.specs.State.{circuit_in}
+use Rattle.bng_steps.specs.declared.rules.Rules.{Rules}
+use Rattle.bng_steps.specs.declared.way.Way.{Way}
+use Rattle.bng_steps.specs.declared.way.Way.TheVariants.{Port, Call}
+use Rattle.bng_steps.specs.Claiming.{CarriesOn}
+use Rattle.bng_steps.specs.Deed.{arrival_in}
+use Rattle.bng_steps.specs.Protocol.{ShardState}
+use Rattle.bng_steps.specs.Questions.{asking_from, questions_of}
+use Rattle.bng_steps.specs.State.{circuit_in}
 use Rattle.bng_desk.specs.Model.{Desk}
 use Rattle.bng_desk.specs.Turn.{Turn, items_of}
 use Rattle.bng_gate.specs.Granted.{CameOn, Held, IsHeard, Login, held_of, round_of_turn, session_in, stage_at, stages_of}

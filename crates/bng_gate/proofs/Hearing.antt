@@ -4,14 +4,14 @@ use Rattle.std.specs.Prelude.{slice_get}
 use Rattle.std.proofs.lemmas.Option.{none-some}
 use Rattle.bng_base.specs.declared.item.Entry.{Entry}
 use Rattle.bng_engine.specs.Views.{ShardView}
-use Rattle.bng_shard.specs.declared.rules.Rules.{Rules}
-use Rattle.bng_shard.specs.Claiming.{IsAskedBy}
-use Rattle.bng_shard.specs.Granting.{IsSound}
-use Rattle.bng_shard.specs.Protocol.{ShardState, Handled}
-use Rattle.bng_shard.specs.Questions.{Asking, last_asking_at}
-use Rattle.bng_shard.specs.Step.{Step}
-use Rattle.bng_shard.proofs.ClaimLaws.{step_heard}
-use Rattle.bng_shard.proofs.GrantLaws.{settled_sound, step_sound}
+use Rattle.bng_steps.specs.declared.rules.Rules.{Rules}
+use Rattle.bng_steps.specs.Claiming.{IsAskedBy}
+use Rattle.bng_steps.specs.Granting.{IsSound}
+use Rattle.bng_steps.specs.Protocol.{ShardState, Handled}
+use Rattle.bng_steps.specs.Questions.{Asking, last_asking_at}
+use Rattle.bng_steps.specs.Step.{Step}
+use Rattle.bng_steps.proofs.ClaimLaws.{step_heard}
+use Rattle.bng_steps.proofs.GrantLaws.{settled_sound, step_sound}
 use Rattle.bng_desk.specs.Model.{Desk}
 use Rattle.bng_gate.specs.Granted.{Held, HandledIn}
 use Rattle.bng_gate.proofs.Accepting.{last_stayed}

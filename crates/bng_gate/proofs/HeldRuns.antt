@@ -5,8 +5,8 @@ use Rattle.std.specs.Option.{option_map}
 use Rattle.bng_base.specs.declared.item.Item.{Item}
 use Rattle.bng_base.specs.Chain.{Chain}
 use Rattle.bng_engine.specs.Lists.{AnyOf}
-use Rattle.bng_shard.specs.Protocol.{ShardState, Handled}
-use Rattle.bng_shard.specs.Questions.{Asking, questions_of}
+use Rattle.bng_steps.specs.Protocol.{ShardState, Handled}
+use Rattle.bng_steps.specs.Questions.{Asking, questions_of}
 use Rattle.bng_desk.specs.Model.{Desk}
 use Rattle.bng_desk.specs.Turn.{RoundOf, after_round}
 use Rattle.bng_gate.specs.Granted.{Held, HandledIn}

@@ -27,13 +27,13 @@ use Rattle.bng_engine.specs.Views.{ShardView, turn_in}
 use Rattle.bng_engine.specs.Wire.{WirePacket, datagram_of, is_from, is_to, went}
 use Rattle.bng_engine.proofs.Rounds.{in_shards}
 use Rattle.bng_engine.proofs.Wire.{went_append}
-use Rattle.bng_shard.specs.declared.rules.Rules.{Rules}
-use Rattle.bng_shard.specs.Deed.{Deed}
-use Rattle.bng_shard.specs.Protocol.{Handled, ShardState, opened, pppoe}
-use Rattle.bng_shard.specs.Reader.{pppoe_reader}
-use Rattle.bng_shard.specs.Serving.{AreOwn}
-use Rattle.bng_shard.specs.State.{State}
-use Rattle.bng_shard.specs.Step.{Step as ShardStep}
+use Rattle.bng_steps.specs.declared.rules.Rules.{Rules}
+use Rattle.bng_steps.specs.Deed.{Deed}
+use Rattle.bng_steps.specs.Protocol.{Handled, ShardState, opened, pppoe}
+use Rattle.bng_steps.specs.Reader.{pppoe_reader}
+use Rattle.bng_steps.specs.Serving.{AreOwn}
+use Rattle.bng_steps.specs.State.{State}
+use Rattle.bng_steps.specs.Step.{Step as ShardStep}
 use Rattle.bng_desk.specs.Model.{Desk}
 use Rattle.bng_desk.specs.Opening.{opened_shards, statics_of}
 use Rattle.bng_desk.specs.Round.{Round, views_of}

@@ -4,8 +4,8 @@ use Rattle.std.specs.List.{AllByRecursion}
 use Rattle.bng_base.specs.declared.item.OutRecord.{OutRecord}
 use Rattle.bng_config.specs.declared.config.Config.{Config}
 use Rattle.bng_engine.specs.Terms.{Key, keys, key_in}
-use Rattle.bng_shard.specs.Protocol.{terms_of_circuits}
-use Rattle.bng_shard.specs.Reader.{IsWhole}
+use Rattle.bng_steps.specs.Protocol.{terms_of_circuits}
+use Rattle.bng_steps.specs.Reader.{IsWhole}
 use Rattle.bng_desk.specs.Opening.{statics_of}
 
 -- the keys of the circuits of a shard

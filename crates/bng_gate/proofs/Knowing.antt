@@ -10,17 +10,17 @@ use Rattle.bng_ppp.specs.PppState.{is_open}
 use Rattle.bng_sessions.specs.Listed.{values}
 use Rattle.bng_sessions.specs.Sessions.{IsNumberOf, value_at}
 use Rattle.bng_verdict.specs.declared.question.QuestionNo.{QuestionNo}
-use Rattle.bng_shard.specs.Made.{Question}
-use Rattle.bng_shard.specs.declared.session.Service.{Service}
-use Rattle.bng_shard.specs.declared.session.Service.TheVariants.{Provisioned, Discovered}
-use Rattle.bng_shard.specs.declared.session.Session.{Session}
-use Rattle.bng_shard.specs.Protocol.{ShardState, Handled, pppoe}
-use Rattle.bng_shard.specs.Questions.{Asking, asked_in, asking_of, last_asking, last_asking_at, last_in, open_in, open_of, questions_of}
-use Rattle.bng_shard.specs.State.{State}
-use Rattle.bng_shard.specs.Step.{Step}
-use Rattle.bng_shard.proofs.GrantLaws.{step_last}
-use Rattle.bng_shard.proofs.QuestionLaws.{held as stands_in}
-use Rattle.bng_shard.proofs.Values.{numbered}
+use Rattle.bng_steps.specs.Made.{Question}
+use Rattle.bng_steps.specs.declared.session.Service.{Service}
+use Rattle.bng_steps.specs.declared.session.Service.TheVariants.{Provisioned, Discovered}
+use Rattle.bng_steps.specs.declared.session.Session.{Session}
+use Rattle.bng_steps.specs.Protocol.{ShardState, Handled, pppoe}
+use Rattle.bng_steps.specs.Questions.{Asking, asked_in, asking_of, last_asking, last_asking_at, last_in, open_in, open_of, questions_of}
+use Rattle.bng_steps.specs.State.{State}
+use Rattle.bng_steps.specs.Step.{Step}
+use Rattle.bng_steps.proofs.GrantLaws.{step_last}
+use Rattle.bng_steps.proofs.QuestionLaws.{held as stands_in}
+use Rattle.bng_steps.proofs.Values.{numbered}
 use Rattle.bng_desk.specs.Model.{Desk}
 use Rattle.bng_gate.specs.Granted.{Held, HandledIn}
 use Rattle.bng_gate.proofs.HeldRuns.{HeldRun, HasCount, OpenBefore}

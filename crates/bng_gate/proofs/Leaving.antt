@@ -9,8 +9,8 @@ use Rattle.bng_engine.specs.Quantities.{Quantity}
 use Rattle.bng_engine.specs.Showing.{with_journal}
 use Rattle.bng_engine.specs.Terms.{Key, Term, keys, stopped_keys}
 use Rattle.bng_engine.specs.Views.{ShardView, Row, row_keys, rows_where}
-use Rattle.bng_shard.specs.Protocol.{ShardState, Handled, sessions_of, terms_of}
-use Rattle.bng_shard.specs.State.{State, count_in}
+use Rattle.bng_steps.specs.Protocol.{ShardState, Handled, sessions_of, terms_of}
+use Rattle.bng_steps.specs.State.{State, count_in}
 use Rattle.bng_desk.specs.declared.desk.DeskState.TheVariants.{Ended}
 use Rattle.bng_desk.specs.Model.{Desk, grace_is_over, has_ended, has_starved, is_over, sessions_in, state_of}
 use Rattle.bng_desk.specs.Round.{views_of}

@@ -12,8 +12,8 @@ use Rattle.bng_engine.specs.Quantities.{Quantity, Octets, in_book}
 use Rattle.bng_engine.specs.Sums.{has_lease, is_any, stopped_where}
 use Rattle.bng_engine.specs.Terms.{Key, Stop}
 use Rattle.bng_engine.specs.Views.{ShardView, turn_in}
-use Rattle.bng_shard.specs.declared.sums.Traffic.{Traffic}
-use Rattle.bng_shard.specs.Protocol.{ShardState, Handled}
+use Rattle.bng_steps.specs.declared.sums.Traffic.{Traffic}
+use Rattle.bng_steps.specs.Protocol.{ShardState, Handled}
 use Rattle.bng_desk.specs.declared.line.Line.{Line}
 use Rattle.bng_desk.specs.Model.{Desk, all_stopped, line_after, plus_book, plus_traffic, stopped_of, total_of, traffic_by}
 use Rattle.bng_desk.specs.Report.{causes, drop_lines, profile_lines, report_text, static_line, static_lines, traffic_line, worker_lines}

@@ -14,8 +14,8 @@ use Rattle.bng_engine.specs.Terms.{Key, Term, is_live, key_in, keys}
 use Rattle.bng_engine.specs.Views.{ShardView}
 use Rattle.bng_engine.proofs.Everywhere.{all_append, all_mapped, all_weaker, if_some_weaker}
 use Rattle.bng_engine.proofs.Journals.{owned_same, run_owned}
-use Rattle.bng_shard.specs.Protocol.{ShardState, Handled, pppoe, terms_of}
-use Rattle.bng_shard.proofs.StepLaws.{pppoe_laws}
+use Rattle.bng_steps.specs.Protocol.{ShardState, Handled, pppoe, terms_of}
+use Rattle.bng_steps.proofs.StepLaws.{pppoe_laws}
 use Rattle.bng_desk.specs.Model.{Desk}
 use Rattle.bng_desk.specs.Round.{Round, left_by, views_of}
 use Rattle.bng_desk.specs.Turn.{RoundOf, Step, Turn, after_round, ending_items, items_of}

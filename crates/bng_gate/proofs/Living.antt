@@ -11,25 +11,25 @@ use Rattle.bng_engine.specs.Terms.{Term, is_ended}
 use Rattle.bng_engine.proofs.Everywhere.{all_append, all_filter}
 use Rattle.bng_sessions.specs.Listed.{values}
 use Rattle.bng_sessions.specs.Sessions.{IsNumberOf}
-use Rattle.bng_shard.specs.declared.rules.Rules.{Rules}
-use Rattle.bng_shard.specs.declared.session.Session.{Session}
-use Rattle.bng_shard.specs.Deed.{Deed}
-use Rattle.bng_shard.specs.Granting.{IsSound}
-use Rattle.bng_shard.specs.Lasting.{AreHoused, CircuitsLast, IsCause, IsCircuitCause, IsHousedIn}
-use Rattle.bng_shard.specs.Opening.{in_order, opened_slots, tenures_after}
-use Rattle.bng_shard.specs.Protocol.{ShardState, Handled, cause_in, pppoe, sessions_of, term_in, terms_of}
-use Rattle.bng_shard.specs.State.{State, count_in, settled}
-use Rattle.bng_shard.specs.Tenures.{Tenure, is_over}
-use Rattle.bng_shard.proofs.CircuitsKept.{circuits_kept, circuits_opened, circuits_settled}
-use Rattle.bng_shard.proofs.ClaimedTerms.{step_by_claims}
-use Rattle.bng_shard.proofs.GrantLaws.{settled_sound, step_sound}
-use Rattle.bng_shard.proofs.HousedSettled.{housed_opened, housed_settled}
-use Rattle.bng_shard.proofs.Housing.{housed_kept}
-use Rattle.bng_shard.proofs.InOrder.{all_in_order}
-use Rattle.bng_shard.proofs.OpenedKeys.{of_shard}
-use Rattle.bng_shard.proofs.SoundOpening.{opened_sound}
-use Rattle.bng_shard.proofs.TermLaws.{AnyCause, Lasts, Moves, step_moves}
-use Rattle.bng_shard.proofs.Values.{stands}
+use Rattle.bng_steps.specs.declared.rules.Rules.{Rules}
+use Rattle.bng_steps.specs.declared.session.Session.{Session}
+use Rattle.bng_steps.specs.Deed.{Deed}
+use Rattle.bng_steps.specs.Granting.{IsSound}
+use Rattle.bng_steps.specs.Lasting.{AreHoused, CircuitsLast, IsCause, IsCircuitCause, IsHousedIn}
+use Rattle.bng_steps.specs.Opening.{in_order, opened_slots, tenures_after}
+use Rattle.bng_steps.specs.Protocol.{ShardState, Handled, cause_in, pppoe, sessions_of, term_in, terms_of}
+use Rattle.bng_steps.specs.State.{State, count_in, settled}
+use Rattle.bng_steps.specs.Tenures.{Tenure, is_over}
+use Rattle.bng_steps.proofs.CircuitsKept.{circuits_kept, circuits_opened, circuits_settled}
+use Rattle.bng_steps.proofs.ClaimedTerms.{step_by_claims}
+use Rattle.bng_steps.proofs.GrantLaws.{settled_sound, step_sound}
+use Rattle.bng_steps.proofs.HousedSettled.{housed_opened, housed_settled}
+use Rattle.bng_steps.proofs.Housing.{housed_kept}
+use Rattle.bng_steps.proofs.InOrder.{all_in_order}
+use Rattle.bng_steps.proofs.OpenedKeys.{of_shard}
+use Rattle.bng_steps.proofs.SoundOpening.{opened_sound}
+use Rattle.bng_steps.proofs.TermLaws.{AnyCause, Lasts, Moves, step_moves}
+use Rattle.bng_steps.proofs.Values.{stands}
 use Rattle.bng_gate.proofs.Lists.{all_right}
 use Rattle.bng_gate.proofs.Openings.{IsLive}
 

@@ -9,7 +9,7 @@ use Rattle.bng_config.specs.declared.config.Config.{Config}
 use Rattle.bng_engine.specs.Lists.{AnyOf}
 use Rattle.bng_engine.proofs.Everywhere.{all_weaker}
 use Rattle.bng_lane.specs.Sends.{LaneAsk}
-use Rattle.bng_shard.specs.Questions.{asking_from}
+use Rattle.bng_steps.specs.Questions.{asking_from}
 use Rattle.bng_verdict.specs.declared.question.QuestionNo.{QuestionNo}
 use Rattle.bng_verdict.specs.Verdicts.{IsVerdict, Replied}
 use Rattle.bng_desk.specs.Logins.{Answered}

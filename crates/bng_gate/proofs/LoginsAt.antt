@@ -13,7 +13,7 @@ use Rattle.bng_engine.specs.Lists.{AnyOf}
 use Rattle.bng_lane.specs.Sends.{LaneAsk}
 use Rattle.bng_radius_wire.specs.Codes.{access_accept}
 use Rattle.bng_radius_wire.specs.Grammar.{Packet, IsRadius}
-use Rattle.bng_shard.specs.Questions.{Asking, asking_from, questions_of}
+use Rattle.bng_steps.specs.Questions.{Asking, asking_from, questions_of}
 use Rattle.bng_verdict.specs.declared.question.QuestionNo.{QuestionNo}
 use Rattle.bng_verdict.specs.Verdicts.{Saying, IsVerdict, Silent, Replied, NoReply, is_served, reply_text, verdict_in, silence}
 use Rattle.bng_desk.specs.Logins.{Answered}

@@ -19,7 +19,7 @@ use Rattle.bng_engine.specs.Terms.{Key}
 use Rattle.bng_engine.specs.Wire.{datagram_of, went}
 use Rattle.bng_engine.proofs.Everywhere.{all_weaker}
 use Rattle.bng_lane.specs.Sends.{LaneSend}
-use Rattle.bng_shard.specs.Reader.{is_tunnel, IsInDirection, IsNoPacket, IsOutputOn}
+use Rattle.bng_steps.specs.Reader.{is_tunnel, IsInDirection, IsNoPacket, IsOutputOn}
 use Rattle.bng_desk.specs.Accounting.{record_datagram, record_sends}
 use Rattle.bng_desk.specs.Coa.{CoaReplies, CoaSend, coa_datagram, coa_sends}
 use Rattle.bng_desk.specs.Control.{Heeded, reply, is_answered}

@@ -15,17 +15,17 @@ use Rattle.bng_config.specs.declared.config.Config.{Config}
 use Rattle.bng_config.specs.Rules.{KeepsRules}
 use Rattle.bng_engine.specs.Views.{ShardView}
 use Rattle.bng_lane.specs.State.{IsNewLane}
-use Rattle.bng_shard.specs.declared.rules.Rules.{Rules}
-use Rattle.bng_shard.specs.declared.session.Session.{Session}
-use Rattle.bng_shard.specs.Granting.{IsSound, accepted_ask_at, accepted_in}
-use Rattle.bng_shard.specs.Made.{Question}
-use Rattle.bng_shard.specs.Opening.{in_order, numbered_after, opened_slots}
-use Rattle.bng_shard.specs.Protocol.{ShardState, opened}
-use Rattle.bng_shard.specs.Questions.{Asking, asked_in, last_asking, last_asking_at, none_handed, open_of, questions_of}
-use Rattle.bng_shard.specs.State.{State}
-use Rattle.bng_shard.proofs.InOrder as ordered
-use Rattle.bng_shard.proofs.SoundOpening.{opened_sound}
-use Rattle.bng_shard.proofs.Values.{stands}
+use Rattle.bng_steps.specs.declared.rules.Rules.{Rules}
+use Rattle.bng_steps.specs.declared.session.Session.{Session}
+use Rattle.bng_steps.specs.Granting.{IsSound, accepted_ask_at, accepted_in}
+use Rattle.bng_steps.specs.Made.{Question}
+use Rattle.bng_steps.specs.Opening.{in_order, numbered_after, opened_slots}
+use Rattle.bng_steps.specs.Protocol.{ShardState, opened}
+use Rattle.bng_steps.specs.Questions.{Asking, asked_in, last_asking, last_asking_at, none_handed, open_of, questions_of}
+use Rattle.bng_steps.specs.State.{State}
+use Rattle.bng_steps.proofs.InOrder as ordered
+use Rattle.bng_steps.proofs.SoundOpening.{opened_sound}
+use Rattle.bng_steps.proofs.Values.{stands}
 use Rattle.bng_sessions.specs.Listed.{values}
 use Rattle.bng_sessions.specs.Sessions.{IsNumberOf, value_at}
 use Rattle.bng_desk.specs.Model.{Desk, HasOneRule}

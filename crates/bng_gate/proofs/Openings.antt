@@ -29,11 +29,11 @@ use Rattle.bng_engine.specs.Views.{new_row, row_keys}
 use Rattle.bng_engine.proofs.Everywhere.{all_filter}
 use Rattle.bng_pool.specs.Plain.{PlainView}
 use Rattle.bng_pool.specs.Tables.{Table, entry}
-use Rattle.bng_shard.specs.declared.rules.Rules.{Rules}
+use Rattle.bng_steps.specs.declared.rules.Rules.{Rules}
 use Rattle.bng_sessions.specs.Sessions.{IsNumberOf}
-use Rattle.bng_shard.specs.Opening.{in_order, opened_slots, tenure_from, tenures_after}
-use Rattle.bng_shard.specs.Protocol.{ShardState, Handled, key_in, pppoe, opened, term_in, terms_of}
-use Rattle.bng_shard.proofs.InOrder as ordered
+use Rattle.bng_steps.specs.Opening.{in_order, opened_slots, tenure_from, tenures_after}
+use Rattle.bng_steps.specs.Protocol.{ShardState, Handled, key_in, pppoe, opened, term_in, terms_of}
+use Rattle.bng_steps.proofs.InOrder as ordered
 use Rattle.bng_desk.specs.Opening.{IsOpenedPool, circuit_with, opened_shards, shard_of, statics_of}
 use Rattle.bng_desk.specs.Round.{views_of, view_of, held_by}
 use Rattle.bng_gate.proofs.Lists.{Apart, apart_of, IsWithin, sum_parts}

@@ -12,9 +12,9 @@ use Rattle.bng_engine.specs.Terms.{Key, key_in, keys, stopped_keys}
 use Rattle.bng_engine.proofs.Everywhere.{all_append, all_mapped, all_weaker, any_right, if_some_weaker}
 use Rattle.bng_engine.proofs.Journals.{owned_later, owned_same, run_outs}
 use Rattle.bng_engine.proofs.Rounds.{in_shards}
-use Rattle.bng_shard.specs.Protocol.{ShardState, Handled, pppoe, terms_of}
-use Rattle.bng_shard.specs.Reader.{IsWhole}
-use Rattle.bng_shard.proofs.StepLaws.{step_whole}
+use Rattle.bng_steps.specs.Protocol.{ShardState, Handled, pppoe, terms_of}
+use Rattle.bng_steps.specs.Reader.{IsWhole}
+use Rattle.bng_steps.proofs.StepLaws.{step_whole}
 use Rattle.bng_gate.specs.Headline.{HaveTerms}
 use Rattle.bng_gate.proofs.Keys.{IsOurs, all_ours}
 use Rattle.bng_gate.proofs.Lists.{all_left, all_right, contained}

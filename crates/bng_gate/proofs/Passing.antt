@@ -40,31 +40,31 @@ use Rattle.bng_lns.specs.Framed.{IsCallFrameTo, call_frame}
 use Rattle.bng_lns.specs.Tunnels.{Answer as TunnelAnswer, NoTunnel, NoRequest, Steps, TunnelsState}
 use Rattle.bng_pppoe_wire.proofs.Spelled.{six}
 use Rattle.bng_radius_wire.specs.Grammar.{Packet as Request}
-use Rattle.bng_shard.specs.Made.{Made}
-use Rattle.bng_shard.specs.declared.rules.Rules.{Rules}
-use Rattle.bng_shard.specs.declared.session.Lease.{Lease}
-use Rattle.bng_shard.specs.declared.session.Service.{Service}
-use Rattle.bng_shard.specs.declared.session.Service.TheVariants.{Provisioned, Discovered}
-use Rattle.bng_shard.specs.declared.session.Session.{Session}
-use Rattle.bng_shard.specs.declared.way.Called.{Called}
-use Rattle.bng_shard.specs.declared.way.Way.{Way}
-use Rattle.bng_shard.specs.declared.way.Way.TheVariants.{Port, Call}
-use Rattle.bng_shard.specs.Calls.{HearsCallMessage, TakesFound, TakesIfLives, is_icrq}
-use Rattle.bng_shard.specs.Datagrams.{HearsAnswer, HearsFor, HearsOver, HearsTunnel, HearsTunnelData, TakesStep, heard_by}
-use Rattle.bng_shard.specs.Changes.{Applies, Found as FoundTerm, HearsChange, Obeys, found_by, refusal_of}
-use Rattle.bng_shard.specs.Deed.{Deed, arrival_in, at_of, out}
-use Rattle.bng_shard.specs.Discovery.{Answers, Discovers}
-use Rattle.bng_shard.specs.Frames.{GoesDown, GoesUp, HearsAccess, HearsControl, HearsCore, HearsData, HearsFrame, HearsIn, HearsPpp, IsCarriedDown, IsFramedDown, SentDown, charge_of, found_down, found_up}
-use Rattle.bng_shard.specs.Reader.{pppoe_reader}
-use Rattle.bng_shard.specs.Serving.{AreOwn}
-use Rattle.bng_shard.specs.State.{State, call_of, circuit_in, circuit_of, lives_in, port_at, session_of, with_tunnels}
-use Rattle.bng_shard.specs.Step.{Hears, Step}
-use Rattle.bng_shard.specs.Timers.{HearsEnd, HearsTick}
-use Rattle.bng_shard.specs.Verdicts.{HearsVerdict}
-use Rattle.bng_shard.proofs.Packets.{spelled_down, spelled_up}
-use Rattle.bng_shard.proofs.Reading.{whole_read_as}
-use Rattle.bng_shard.proofs.Sends.{step_sends}
-use Rattle.bng_shard.proofs.Spelling.{AreControl}
+use Rattle.bng_steps.specs.Made.{Made}
+use Rattle.bng_steps.specs.declared.rules.Rules.{Rules}
+use Rattle.bng_steps.specs.declared.session.Lease.{Lease}
+use Rattle.bng_steps.specs.declared.session.Service.{Service}
+use Rattle.bng_steps.specs.declared.session.Service.TheVariants.{Provisioned, Discovered}
+use Rattle.bng_steps.specs.declared.session.Session.{Session}
+use Rattle.bng_steps.specs.declared.way.Called.{Called}
+use Rattle.bng_steps.specs.declared.way.Way.{Way}
+use Rattle.bng_steps.specs.declared.way.Way.TheVariants.{Port, Call}
+use Rattle.bng_steps.specs.Calls.{HearsCallMessage, TakesFound, TakesIfLives, is_icrq}
+use Rattle.bng_steps.specs.Datagrams.{HearsAnswer, HearsFor, HearsOver, HearsTunnel, HearsTunnelData, TakesStep, heard_by}
+use Rattle.bng_steps.specs.Changes.{Applies, Found as FoundTerm, HearsChange, Obeys, found_by, refusal_of}
+use Rattle.bng_steps.specs.Deed.{Deed, arrival_in, at_of, out}
+use Rattle.bng_steps.specs.Discovery.{Answers, Discovers}
+use Rattle.bng_steps.specs.Frames.{GoesDown, GoesUp, HearsAccess, HearsControl, HearsCore, HearsData, HearsFrame, HearsIn, HearsPpp, IsCarriedDown, IsFramedDown, SentDown, charge_of, found_down, found_up}
+use Rattle.bng_steps.specs.Reader.{pppoe_reader}
+use Rattle.bng_steps.specs.Serving.{AreOwn}
+use Rattle.bng_steps.specs.State.{State, call_of, circuit_in, circuit_of, lives_in, port_at, session_of, with_tunnels}
+use Rattle.bng_steps.specs.Step.{Hears, Step}
+use Rattle.bng_steps.specs.Timers.{HearsEnd, HearsTick}
+use Rattle.bng_steps.specs.Verdicts.{HearsVerdict}
+use Rattle.bng_steps.proofs.Packets.{spelled_down, spelled_up}
+use Rattle.bng_steps.proofs.Reading.{whole_read_as}
+use Rattle.bng_steps.proofs.Sends.{step_sends}
+use Rattle.bng_steps.proofs.Spelling.{AreControl}
 use Rattle.bng_gate.specs.Unchanged.{Arises, ComesOnPort, ComesOverCall, GoesOnPort, GoesOverCall, IsPassedDown, IsPassedUp, IsTermOn}
 use Rattle.bng_gate.proofs.Arising.{arises_none}
 use Rattle.bng_gate.proofs.Ways.{call_circuit, port_circuit}

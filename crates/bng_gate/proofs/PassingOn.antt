@@ -25,18 +25,18 @@ use Rattle.bng_engine.specs.Wire.{WirePacket, datagram_of, went}
 use Rattle.bng_engine.proofs.Adding.{sum_map}
 use Rattle.bng_engine.proofs.Journals.{run_begins, run_outs, run_owned}
 use Rattle.bng_engine.proofs.Wire.{went_append}
-use Rattle.bng_shard.specs.declared.rules.Rules.{Rules}
-use Rattle.bng_shard.specs.declared.whose.Whose.{Whose}
-use Rattle.bng_shard.specs.Deed.{Deed}
-use Rattle.bng_shard.specs.Granting.{IsSound}
-use Rattle.bng_shard.specs.Protocol.{Handled, ShardState, entry_of, pppoe, terms_of}
-use Rattle.bng_shard.specs.Reader.{IsWhole, tells_pppoe, pppoe_reader}
-use Rattle.bng_shard.specs.Serving.{AreOwn}
-use Rattle.bng_shard.specs.State.{State}
-use Rattle.bng_shard.specs.Step.{Step}
-use Rattle.bng_shard.proofs.GrantLaws.{settled_sound, step_sound}
-use Rattle.bng_shard.proofs.Reading.{whole_read}
-use Rattle.bng_shard.proofs.StepLaws.{pppoe_laws, step_whole}
+use Rattle.bng_steps.specs.declared.rules.Rules.{Rules}
+use Rattle.bng_steps.specs.declared.whose.Whose.{Whose}
+use Rattle.bng_steps.specs.Deed.{Deed}
+use Rattle.bng_steps.specs.Granting.{IsSound}
+use Rattle.bng_steps.specs.Protocol.{Handled, ShardState, entry_of, pppoe, terms_of}
+use Rattle.bng_steps.specs.Reader.{IsWhole, tells_pppoe, pppoe_reader}
+use Rattle.bng_steps.specs.Serving.{AreOwn}
+use Rattle.bng_steps.specs.State.{State}
+use Rattle.bng_steps.specs.Step.{Step}
+use Rattle.bng_steps.proofs.GrantLaws.{settled_sound, step_sound}
+use Rattle.bng_steps.proofs.Reading.{whole_read}
+use Rattle.bng_steps.proofs.StepLaws.{pppoe_laws, step_whole}
 use Rattle.bng_desk.specs.Items.{entries_in, stands_in, without_claim}
 use Rattle.bng_desk.specs.Round.{AreParts, IsPart, entries_of, of_seat}
 use Rattle.bng_gate.specs.Unchanged.{Arises}

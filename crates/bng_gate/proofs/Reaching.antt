@@ -11,10 +11,10 @@ use Rattle.bng_engine.specs.Journals.{after, AreSteps}
 use Rattle.bng_engine.specs.Settlements.{AreStarts}
 use Rattle.bng_engine.specs.Showing.{with_journal}
 use Rattle.bng_engine.specs.Views.{ShardView}
-use Rattle.bng_shard.specs.Granting.{IsSound}
-use Rattle.bng_shard.specs.Protocol.{ShardState, Handled, pppoe, terms_of}
-use Rattle.bng_shard.specs.Questions.{last_asking_at}
-use Rattle.bng_shard.specs.Step.{Step}
+use Rattle.bng_steps.specs.Granting.{IsSound}
+use Rattle.bng_steps.specs.Protocol.{ShardState, Handled, pppoe, terms_of}
+use Rattle.bng_steps.specs.Questions.{last_asking_at}
+use Rattle.bng_steps.specs.Step.{Step}
 use Rattle.bng_desk.specs.Model.{Desk}
 use Rattle.bng_desk.specs.Round.{Round, left_by, views_of}
 use Rattle.bng_desk.specs.Turn.{RoundOf, after_round}

@@ -21,9 +21,9 @@ use Rattle.bng_engine.specs.Terms.{Key, Stop}
 use Rattle.bng_engine.specs.Views.{DeskView, ShardView, turn_in}
 use Rattle.bng_engine.proofs.Everywhere.{all_weaker}
 use Rattle.bng_lane.specs.Sends.{LaneSend}
-use Rattle.bng_shard.specs.Interims.{Reports}
-use Rattle.bng_shard.specs.Protocol.{ShardState, Handled}
-use Rattle.bng_shard.specs.Tenures.{Tenure}
+use Rattle.bng_steps.specs.Interims.{Reports}
+use Rattle.bng_steps.specs.Protocol.{ShardState, Handled}
+use Rattle.bng_steps.specs.Tenures.{Tenure}
 use Rattle.bng_desk.specs.Accounting.{Acknowledged, FormedRecord, IsStartOf, IsStopOf, RecordRequests, RecordSend, record_datagram, record_sends}
 use Rattle.bng_desk.specs.Model.{Desk, has_ended}
 use Rattle.bng_desk.specs.Opening.{IsOpened, billing_rules}

@@ -25,12 +25,12 @@ use Rattle.bng_engine.proofs.Everywhere.{all_append, all_weaker, any_all, any_ei
 use Rattle.bng_engine.proofs.Owners.{each_is, live_is_keys, none_of}
 use Rattle.bng_engine.proofs.SameLists.{any_same}
 use Rattle.bng_engine.proofs.Turns.{turn_goes_on}
-use Rattle.bng_shard.specs.declared.session.Lease.{Lease}
-use Rattle.bng_shard.specs.declared.session.Session.{Session}
-use Rattle.bng_shard.specs.Interims.{Reports, owed, owes, row_in}
-use Rattle.bng_shard.specs.Protocol.{Handled, ShardState, pppoe, terms_of}
-use Rattle.bng_shard.specs.Tenures.{Tenure}
-use Rattle.bng_shard.proofs.StepLaws.{pppoe_laws}
+use Rattle.bng_steps.specs.declared.session.Lease.{Lease}
+use Rattle.bng_steps.specs.declared.session.Session.{Session}
+use Rattle.bng_steps.specs.Interims.{Reports, owed, owes, row_in}
+use Rattle.bng_steps.specs.Protocol.{Handled, ShardState, pppoe, terms_of}
+use Rattle.bng_steps.specs.Tenures.{Tenure}
+use Rattle.bng_steps.proofs.StepLaws.{pppoe_laws}
 use Rattle.bng_sessions.specs.Listed.{values}
 use Rattle.bng_desk.specs.Accounting.{FormedRecord}
 use Rattle.bng_desk.specs.Interims.{FormsInterim, FormsInterims, IsInterimOf, owed_by}

@@ -14,7 +14,7 @@ use Rattle.bng_engine.specs.Views.{ShardView}
 use Rattle.bng_engine.specs.Wire.{datagram_of, went}
 use Rattle.bng_engine.proofs.Everywhere.{all_append, all_filter, all_mapped, all_weaker}
 use Rattle.bng_engine.proofs.Journals.{after_more}
-use Rattle.bng_shard.specs.Protocol.{ShardState, Handled, pppoe}
+use Rattle.bng_steps.specs.Protocol.{ShardState, Handled, pppoe}
 use Rattle.bng_desk.specs.Model.{Desk}
 use Rattle.bng_desk.specs.Round.{Round, views_of}
 use Rattle.bng_desk.specs.Turn.{Turn, RoundOf}

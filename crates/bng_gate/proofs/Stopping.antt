@@ -26,13 +26,13 @@ use Rattle.bng_engine.proofs.Deciding.{key_itself, key_same}
 use Rattle.bng_engine.proofs.Everywhere.{all_append, all_weaker, any_all}
 use Rattle.bng_engine.proofs.Rounds.{in_shards}
 use Rattle.bng_sessions.specs.Sessions.{IsNumberOf}
-use Rattle.bng_shard.specs.declared.rules.Rules.{Rules}
-use Rattle.bng_shard.specs.Lasting.{AreHoused, IsCause, IsCircuitCause}
-use Rattle.bng_shard.specs.Opening.{in_order, tenures_after}
-use Rattle.bng_shard.specs.Protocol.{ShardState, Handled, opened, pppoe, term_in, terms_of}
-use Rattle.bng_shard.proofs.InOrder.{all_in_order, opened_terms}
-use Rattle.bng_shard.proofs.OpenedKeys.{of_shard}
-use Rattle.bng_shard.proofs.StepLaws.{pppoe_laws}
+use Rattle.bng_steps.specs.declared.rules.Rules.{Rules}
+use Rattle.bng_steps.specs.Lasting.{AreHoused, IsCause, IsCircuitCause}
+use Rattle.bng_steps.specs.Opening.{in_order, tenures_after}
+use Rattle.bng_steps.specs.Protocol.{ShardState, Handled, opened, pppoe, term_in, terms_of}
+use Rattle.bng_steps.proofs.InOrder.{all_in_order, opened_terms}
+use Rattle.bng_steps.proofs.OpenedKeys.{of_shard}
+use Rattle.bng_steps.proofs.StepLaws.{pppoe_laws}
 use Rattle.bng_desk.specs.Opening.{opened_shards, shard_of, statics_of}
 use Rattle.bng_desk.specs.Round.{views_of}
 use Rattle.bng_gate.specs.Headline.{HaveTerms, IsOfCircuit, starts_at, starts_in, terms_of_run}

@@ -11,8 +11,8 @@ use Rattle.bng_engine.specs.Laws.{stops_of}
 use Rattle.bng_engine.specs.Terms.{Key, Stop, stopped_keys}
 use Rattle.bng_engine.specs.Views.{DeskView, ShardView}
 use Rattle.bng_engine.proofs.RoundSums.{run_stopped}
-use Rattle.bng_shard.specs.Protocol.{ShardState, Handled, pppoe, term_in, terms_of}
-use Rattle.bng_shard.specs.State.{State}
+use Rattle.bng_steps.specs.Protocol.{ShardState, Handled, pppoe, term_in, terms_of}
+use Rattle.bng_steps.specs.State.{State}
 use Rattle.bng_desk.specs.Model.{live_terms}
 use Rattle.bng_desk.specs.Round.{views_of}
 use Rattle.bng_gate.specs.Headline.{AreStopped}

@@ -20,7 +20,7 @@ use Rattle.bng_engine.specs.Views.{turn_in}
 use Rattle.bng_engine.specs.Wire.{went}
 use Rattle.bng_engine.proofs.Wire.{went_append}
 use Rattle.bng_lane.specs.Sends.{LaneSend}
-use Rattle.bng_shard.specs.Protocol.{Handled}
+use Rattle.bng_steps.specs.Protocol.{Handled}
 use Rattle.bng_desk.specs.declared.reading.Ended.{Ended}
 use Rattle.bng_desk.specs.Accounting.{Acknowledged, RecordRequests, record_datagram, record_sends, records_stretch}
 use Rattle.bng_desk.specs.Coa.{CoaReplies, CoaSend, Requested, coa_datagram, coa_sends, coa_stretch}

@@ -21,9 +21,9 @@ use Rattle.bng_engine.specs.Views.{DeskView, Row, ShardView, rows_where}
 use Rattle.bng_engine.specs.Wire.{WirePacket, is_input, is_from, is_output, is_to, is_on, is_on_to, counted, on_wire, told_of, went}
 use Rattle.bng_engine.proofs.RoundSums.{run_stopped}
 use Rattle.bng_engine.proofs.Wire.{on_wire_went}
-use Rattle.bng_shard.specs.declared.sums.Traffic.{Traffic}
-use Rattle.bng_shard.specs.Protocol.{ShardState, Handled, pppoe, row_at}
-use Rattle.bng_shard.specs.Reader.{pppoe_reader}
+use Rattle.bng_steps.specs.declared.sums.Traffic.{Traffic}
+use Rattle.bng_steps.specs.Protocol.{ShardState, Handled, pppoe, row_at}
+use Rattle.bng_steps.specs.Reader.{pppoe_reader}
 use Rattle.bng_desk.specs.declared.line.Line.{Line}
 use Rattle.bng_desk.specs.Model.{all_stopped, carried_on, line_after, live_of, no_traffic, plus_book, plus_traffic, total_of, traffic_at, traffic_or}
 use Rattle.bng_desk.specs.Opening.{line_of}

@@ -16,9 +16,9 @@ use Rattle.bng_engine.specs.Sums.{is_any, sent_where}
 use Rattle.bng_engine.specs.Terms.{Key}
 use Rattle.bng_engine.specs.Views.{DeskView, ShardView, rows_where}
 use Rattle.bng_engine.proofs.Adding.{sum_map}
-use Rattle.bng_shard.specs.declared.rules.Rules.{Rules}
-use Rattle.bng_shard.specs.declared.sums.Traffic.{Traffic}
-use Rattle.bng_shard.specs.Protocol.{ShardState, Handled, opened, pppoe}
+use Rattle.bng_steps.specs.declared.rules.Rules.{Rules}
+use Rattle.bng_steps.specs.declared.sums.Traffic.{Traffic}
+use Rattle.bng_steps.specs.Protocol.{ShardState, Handled, opened, pppoe}
 use Rattle.bng_desk.specs.Model.{Desk, by_profile, traffic_under}
 use Rattle.bng_desk.specs.Opening.{opened_shards, statics_of}
 use Rattle.bng_desk.specs.Round.{views_of}

@@ -4,8 +4,8 @@ use Rattle.std.specs.List.{All}
 use Rattle.std.specs.Option.{option_map}
 use Rattle.std.proofs.lemmas.List.Elements.{All-append, All-nil, All-weaker}
 use Rattle.bng_base.specs.declared.item.Item.{Item}
-use Rattle.bng_shard.specs.Granting.{GivesYes}
-use Rattle.bng_shard.specs.Protocol.{ShardState, Handled}
+use Rattle.bng_steps.specs.Granting.{GivesYes}
+use Rattle.bng_steps.specs.Protocol.{ShardState, Handled}
 use Rattle.bng_desk.specs.Coa.{change_items}
 use Rattle.bng_desk.specs.Items.{drawn_from, ends_of, kept_of, taken_items, ticks_of}
 use Rattle.bng_desk.specs.Logins.{reply_items, timeout_items}

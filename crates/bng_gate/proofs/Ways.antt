@@ -11,13 +11,13 @@ use Rattle.bng_base.specs.declared.address.TunnelNo.{TunnelNo}
 use Rattle.bng_base.specs.declared.circuit.Circuit.TheVariants.{Pppoe, L2tp}
 use Rattle.bng_lns.specs.Places.{same_peer}
 use Rattle.bng_sessions.specs.Sessions.{value_at}
-use Rattle.bng_shard.specs.declared.session.Session.{Session}
-use Rattle.bng_shard.specs.declared.way.Way.{Way}
-use Rattle.bng_shard.specs.declared.way.Way.TheVariants.{Port, Call}
-use Rattle.bng_shard.specs.Serving.{AreOwn}
-use Rattle.bng_shard.specs.State.{State, call_of, circuit_in, circuit_of, is_call_of, is_on, is_on_way, is_over_way, session_of, where_on, where_over}
-use Rattle.bng_shard.proofs.GrantLaws.{if_some}
-use Rattle.bng_shard.proofs.Values.{none_some, same_some}
+use Rattle.bng_steps.specs.declared.session.Session.{Session}
+use Rattle.bng_steps.specs.declared.way.Way.{Way}
+use Rattle.bng_steps.specs.declared.way.Way.TheVariants.{Port, Call}
+use Rattle.bng_steps.specs.Serving.{AreOwn}
+use Rattle.bng_steps.specs.State.{State, call_of, circuit_in, circuit_of, is_call_of, is_on, is_on_way, is_over_way, session_of, where_on, where_over}
+use Rattle.bng_steps.proofs.GrantLaws.{if_some}
+use Rattle.bng_steps.proofs.Values.{none_some, same_some}
 
 -- a session that was found at a number is the one there, on the way that was asked for
 record IsThere (found : Option Session) (way : Way) (x : Session) : Type 0 where

@@ -13,8 +13,8 @@ use Rattle.bng_coa.specs.Replies.{reply_octets}
 use Rattle.bng_coa.specs.State.{State as CoaState}
 use Rattle.bng_config.specs.declared.config.Config.{Config}
 use Rattle.bng_radius_wire.specs.Grammar.{IsRadius, Packet, length_in}
-use Rattle.bng_shard.specs.declared.changes.Answer.{Answer}
-use Rattle.bng_shard.specs.Protocol.{Handled, HandlesStep, ShardState}
+use Rattle.bng_steps.specs.declared.changes.Answer.{Answer}
+use Rattle.bng_steps.specs.Protocol.{Handled, HandlesStep, ShardState}
 use Rattle.bng_desk.specs.Coa.{AdmitsOne, AnswersLooseKind, CoaReply, CoaSend, Given, GivesAnswer, Requested, coa_datagram, repeats_of}
 use Rattle.bng_desk.specs.Items.{all_loose}
 use Rattle.bng_desk.specs.Model.{Desk}

@@ -34,16 +34,16 @@ use Rattle.bng_ppp.specs.Saying.{Says}
 use Rattle.bng_radius_wire.specs.Codes.{access_request, access_accept}
 use Rattle.bng_radius_wire.specs.Digests.{IsSigned}
 use Rattle.bng_radius_wire.specs.Grammar.{Packet, IsRadius}
-use Rattle.bng_shard.specs.Claiming.{IsAskedBy}
-use Rattle.bng_shard.specs.Deed.{arrival_in}
-use Rattle.bng_shard.specs.Granting.{GivesYes, IsYesOn, IsYesOver, accepted_ask_at}
-use Rattle.bng_shard.specs.Link.{call_octets}
-use Rattle.bng_shard.specs.Protocol.{ShardState, Handled, key_in, pppoe}
-use Rattle.bng_shard.specs.Questions.{Asking, asking_from, last_asking_at}
-use Rattle.bng_shard.specs.Tenures.{Tenure}
-use Rattle.bng_shard.specs.declared.session.Session.{Session}
-use Rattle.bng_shard.specs.declared.way.Called.{Called}
-use Rattle.bng_shard.specs.declared.way.Way.TheVariants.{Call}
+use Rattle.bng_steps.specs.Claiming.{IsAskedBy}
+use Rattle.bng_steps.specs.Deed.{arrival_in}
+use Rattle.bng_steps.specs.Granting.{GivesYes, IsYesOn, IsYesOver, accepted_ask_at}
+use Rattle.bng_steps.specs.Link.{call_octets}
+use Rattle.bng_steps.specs.Protocol.{ShardState, Handled, key_in, pppoe}
+use Rattle.bng_steps.specs.Questions.{Asking, asking_from, last_asking_at}
+use Rattle.bng_steps.specs.Tenures.{Tenure}
+use Rattle.bng_steps.specs.declared.session.Session.{Session}
+use Rattle.bng_steps.specs.declared.way.Called.{Called}
+use Rattle.bng_steps.specs.declared.way.Way.TheVariants.{Call}
 use Rattle.bng_sessions.specs.Sessions.{value_at}
 use Rattle.bng_verdict.specs.declared.question.AuthAsk.{AuthAsk}
 use Rattle.bng_verdict.specs.Verdicts.{Saying, IsVerdict}

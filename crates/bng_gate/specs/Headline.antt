@@ -36,10 +36,10 @@ use Rattle.bng_engine.specs.Terms.{Key, Stop, is_live, keys, stopped_keys}
 use Rattle.bng_engine.specs.Wire.{is_input, is_from, is_output, is_to, is_on, is_on_to, told_of, went}
 use Rattle.bng_l2tp_tunnel.specs.Sound.{IsSpelled}
 use Rattle.bng_l2tp_wire.specs.Messages.{type_bit}
-use Rattle.bng_shard.specs.declared.sums.Traffic.{Traffic}
-use Rattle.bng_shard.specs.Protocol.{Handled, ShardState, terms_of, terms_of_circuits, pppoe}
-use Rattle.bng_shard.specs.Lasting.{IsCause, IsCircuitCause}
-use Rattle.bng_shard.specs.Reader.{IsDataSpelled, is_call_data, is_session_data, is_tunnel, pppoe_reader, tells_pppoe}
+use Rattle.bng_steps.specs.declared.sums.Traffic.{Traffic}
+use Rattle.bng_steps.specs.Protocol.{Handled, ShardState, terms_of, terms_of_circuits, pppoe}
+use Rattle.bng_steps.specs.Lasting.{IsCause, IsCircuitCause}
+use Rattle.bng_steps.specs.Reader.{IsDataSpelled, is_call_data, is_session_data, is_tunnel, pppoe_reader, tells_pppoe}
 use Rattle.bng_desk.specs.Counting.{by_number}
 use Rattle.bng_desk.specs.Model.{traffic_by}
 use Rattle.bng_desk.specs.Opening.{coa_of, line_of, statics_of}

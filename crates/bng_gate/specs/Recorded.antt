@@ -15,7 +15,7 @@ use Rattle.bng_config.specs.declared.config.Config.{Config}
 use Rattle.bng_engine.specs.Histories.{ShardTurn, stops_in}
 use Rattle.bng_engine.specs.Terms.{Key, Stop}
 use Rattle.bng_lane.specs.Sends.{LaneSend}
-use Rattle.bng_shard.specs.Protocol.{Handled}
+use Rattle.bng_steps.specs.Protocol.{Handled}
 use Rattle.bng_desk.specs.Accounting.{Acknowledged, FormedRecord, RecordSend, RecordRequests}
 use Rattle.bng_desk.specs.Model.{Desk, has_ended}
 use Rattle.bng_desk.specs.Opening.{billing_rules}

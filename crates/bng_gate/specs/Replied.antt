@@ -13,8 +13,8 @@ use Rattle.bng_lane.specs.Sends.{LaneAsk}
 use Rattle.bng_radius_wire.specs.Codes.{access_request}
 use Rattle.bng_radius_wire.specs.Digests.{IsSigned}
 use Rattle.bng_radius_wire.specs.Grammar.{Packet, IsRadius}
-use Rattle.bng_shard.specs.Protocol.{ShardState}
-use Rattle.bng_shard.specs.Questions.{Asking, asking_from, questions_of}
+use Rattle.bng_steps.specs.Protocol.{ShardState}
+use Rattle.bng_steps.specs.Questions.{Asking, asking_from, questions_of}
 use Rattle.bng_verdict.specs.declared.question.QuestionNo.{QuestionNo}
 use Rattle.bng_desk.specs.Logins.{Answered}
 use Rattle.bng_desk.specs.Model.{Desk}

@@ -5,7 +5,7 @@ use Rattle.bng_acct.specs.declared.facts.StatusType.TheVariants.{Interim}
 use Rattle.bng_engine.specs.Histories.{History, NextRound, ShardHistory, ShardTurn}
 use Rattle.bng_engine.specs.Settlements.{SaysCarried}
 use Rattle.bng_engine.specs.Terms.{Key, keys}
-use Rattle.bng_shard.specs.Protocol.{Handled, ShardState, pppoe, terms_of}
+use Rattle.bng_steps.specs.Protocol.{Handled, ShardState, pppoe, terms_of}
 use Rattle.bng_desk.specs.Accounting.{FormedRecord}
 
 -- The record is the Interim of a term of this shard that has no Stop: it has the term's key, and the octets and packets of exactly what was

@@ -11,8 +11,8 @@ use Rattle.bng_engine.specs.Accounted.{opening}
 use Rattle.bng_engine.specs.Histories.{History, ShardTurn}
 use Rattle.bng_engine.specs.Views.{turn_in}
 use Rattle.bng_lane.specs.Sends.{LaneSend}
-use Rattle.bng_shard.specs.Protocol.{ShardState, Handled}
-use Rattle.bng_shard.specs.Reader.{is_tunnel}
+use Rattle.bng_steps.specs.Protocol.{ShardState, Handled}
+use Rattle.bng_steps.specs.Reader.{is_tunnel}
 use Rattle.bng_desk.specs.declared.drops.Drops.{Drops}
 use Rattle.bng_desk.specs.Counting.{no_drops, plus}
 use Rattle.bng_desk.specs.Model.{Desk}

@@ -27,8 +27,8 @@ use Rattle.bng_forward.specs.Packets.{IsPassedOn}
 use Rattle.bng_l2tp_wire.specs.Messages.{DataMessage}
 use Rattle.bng_lns.specs.Datagrams.{CarriesOver, IsDataIn}
 use Rattle.bng_lns.specs.Framed.{IsCallFrameTo}
-use Rattle.bng_shard.specs.Protocol.{ShardState, terms_of}
-use Rattle.bng_shard.specs.Reader.{pppoe_reader}
+use Rattle.bng_steps.specs.Protocol.{ShardState, terms_of}
+use Rattle.bng_steps.specs.Reader.{pppoe_reader}
 use Rattle.bng_desk.specs.Round.{Round, starts_of}
 use Rattle.bng_gate.specs.Granted.{Held}
 

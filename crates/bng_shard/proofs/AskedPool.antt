@@ -19,16 +19,16 @@ use Rattle.bng_pool.specs.Plain.{PlainView}
 use Rattle.bng_base.specs.Ranges.{InRange}
 use Rattle.bng_pool.specs.Ranges.{HasAddress}
 use Rattle.bng_pool.specs.Tables.{TableClaims, TableScans}
-use Rattle.bng_shard.specs.declared.meters.Plan.{Plan}
-use Rattle.bng_shard.specs.declared.rules.Rules.{Rules}
-use Rattle.bng_shard.specs.declared.wish.Wish.{Wish}
-use Rattle.bng_shard.specs.declared.wish.Wish.TheVariants.{Nothing, Address, Pool}
-use Rattle.bng_shard.specs.Metered.{plan_for}
-use Rattle.bng_shard.specs.Protocol.{AnswersClaim, HasPools}
-use Rattle.bng_shard.specs.State.{State}
-use Rattle.bng_shard.specs.Wished.{IsAnswered, IsWished, MayWish, WishesFor}
-use Rattle.bng_shard.specs.Wishes.{IsAnswerTo, Wishes, is_named, is_within, pool_for, wish_among, wish_at, wish_if, wish_in, wish_of}
-use Rattle.bng_shard.proofs.Values.{same_some}
+use Rattle.bng_steps.specs.declared.meters.Plan.{Plan}
+use Rattle.bng_steps.specs.declared.rules.Rules.{Rules}
+use Rattle.bng_steps.specs.declared.wish.Wish.{Wish}
+use Rattle.bng_steps.specs.declared.wish.Wish.TheVariants.{Nothing, Address, Pool}
+use Rattle.bng_steps.specs.Metered.{plan_for}
+use Rattle.bng_shard.specs.Handling.{AnswersClaim, HasPools}
+use Rattle.bng_steps.specs.State.{State}
+use Rattle.bng_steps.specs.Wished.{IsAnswered, IsWished, MayWish, WishesFor}
+use Rattle.bng_steps.specs.Wishes.{IsAnswerTo, Wishes, is_named, is_within, pool_for, wish_among, wish_at, wish_if, wish_in, wish_of}
+use Rattle.bng_steps.proofs.Values.{same_some}
 
 -- What is asked -----------------------------------------------------------------------------------------------------------------
 

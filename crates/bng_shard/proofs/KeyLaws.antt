@@ -6,16 +6,17 @@ use Rattle.bng_base.specs.declared.address.Ip4.{Ip4}
 use Rattle.bng_engine.specs.Terms.{Key, Term, keys}
 use Rattle.bng_engine.specs.Views.{row_keys}
 use Rattle.bng_pool.specs.Tables.{Table, entry}
-use Rattle.bng_shard.specs.declared.rules.Rules.{Rules}
-use Rattle.bng_shard.specs.declared.terms.Running.{Running}
-use Rattle.bng_shard.specs.Protocol.{AreHeld, key_in, term_in}
-use Rattle.bng_shard.specs.Running.{AreRising, AreTied, TermsView, row_from, rows_in, tenures_in, whole}
-use Rattle.bng_shard.specs.Serving.{AreOwn}
-use Rattle.bng_shard.specs.State.{State}
-use Rattle.bng_shard.specs.Tenures.{Tenure}
-use Rattle.bng_shard.proofs.TermLaws.{AnyCause, Begins, Remains, zip_keys}
-use Rattle.bng_shard.proofs.Tying.{HaveOwn, Holds}
-use Rattle.bng_shard.proofs.Values.{none_some}
+use Rattle.bng_steps.specs.declared.rules.Rules.{Rules}
+use Rattle.bng_steps.specs.declared.terms.Running.{Running}
+use Rattle.bng_steps.specs.Protocol.{key_in, term_in}
+use Rattle.bng_shard.specs.Handling.{AreHeld}
+use Rattle.bng_steps.specs.Running.{AreRising, AreTied, TermsView, row_from, rows_in, tenures_in, whole}
+use Rattle.bng_steps.specs.Serving.{AreOwn}
+use Rattle.bng_steps.specs.State.{State}
+use Rattle.bng_steps.specs.Tenures.{Tenure}
+use Rattle.bng_steps.proofs.TermLaws.{AnyCause, Begins, Remains, zip_keys}
+use Rattle.bng_steps.proofs.Tying.{HaveOwn, Holds}
+use Rattle.bng_steps.proofs.Values.{none_some}
 
 abbrev pub keys_there : List Tenure → List Key
 keys_there ts = keys (map term_in ts)

@@ -9,11 +9,11 @@ use Rattle.std.specs.FinMap.{len-entries}
 use Rattle.bng_sessions.specs.Sessions.{Sessions, used, value_at, with_value, without}
 use Rattle.bng_sessions.specs.Listed.{values}
 use Rattle.bng_sessions.proofs.Entries.{Inserted, Removed}
-use Rattle.bng_shard.specs.declared.session.Session.{Session}
+use Rattle.bng_steps.specs.declared.session.Session.{Session}
 use Rattle.bng_shard.specs.Plain.{seen}
-use Rattle.bng_shard.specs.Serving.{AreOfShard}
-use Rattle.bng_shard.proofs.Listing.{passing_most}
-use Rattle.bng_shard.proofs.Values.{used_is}
+use Rattle.bng_steps.specs.Serving.{AreOfShard}
+use Rattle.bng_steps.proofs.Listing.{passing_most}
+use Rattle.bng_steps.proofs.Values.{used_is}
 
 module _ (shard : ℕ) (es fs : List (ℕ × Session)) (sorted : T (is_sorted nat_cmp es)) (k : ℕ) where
   pub put_seen : (x : Session) → Inserted nat_cmp nat_cmp_total es fs k x → seen shard fs ≡ with_value (seen shard es) k x

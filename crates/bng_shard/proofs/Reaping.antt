@@ -13,19 +13,20 @@ use Rattle.bng_engine.specs.Terms.{ComesBefore, Key, Stop, Term}
 use Rattle.bng_engine.specs.Views.{ShardView, row_keys}
 use Rattle.bng_pool.specs.Tables.{Table, TableFrees, entry}
 use Rattle.bng_sessions.specs.Sessions.{Sessions}
-use Rattle.bng_shard.specs.declared.changes.Answer.{Answer}
-use Rattle.bng_shard.specs.declared.rules.Rules.{Rules}
-use Rattle.bng_shard.specs.declared.session.Session.{Session}
-use Rattle.bng_shard.specs.declared.term.EndedTerm.{EndedTerm}
-use Rattle.bng_shard.specs.declared.terms.Running.{Running}
-use Rattle.bng_shard.specs.Fits.{ArePlaced}
-use Rattle.bng_shard.specs.Protocol.{AreHeld, Leaves, SaysOf, ShardState, TellsNew, stop_of, term_in}
-use Rattle.bng_shard.specs.Running.{AreTied, TakesFirst, TermsView, has_ended, key_from, rows_in, tenure_in, tenures_in, whole}
-use Rattle.bng_shard.specs.State.{IsTermOf, State, leaves, reaped}
-use Rattle.bng_shard.specs.Tenures.{LeavesTerms, Tenure}
-use Rattle.bng_shard.proofs.LeavingFirst.{all_are_live, ended_from, left_are, left_least, left_leaves, left_live, left_lives, left_one, left_sums, left_were, rows_fit, told_least}
-use Rattle.bng_shard.proofs.ListParts.{all_left}
-use Rattle.bng_shard.proofs.Values.{kept, kept_from}
+use Rattle.bng_steps.specs.declared.changes.Answer.{Answer}
+use Rattle.bng_steps.specs.declared.rules.Rules.{Rules}
+use Rattle.bng_steps.specs.declared.session.Session.{Session}
+use Rattle.bng_steps.specs.declared.term.EndedTerm.{EndedTerm}
+use Rattle.bng_steps.specs.declared.terms.Running.{Running}
+use Rattle.bng_steps.specs.Placed.{ArePlaced}
+use Rattle.bng_steps.specs.Protocol.{SaysOf, ShardState, TellsNew, stop_of, term_in}
+use Rattle.bng_shard.specs.Handling.{AreHeld, Leaves}
+use Rattle.bng_steps.specs.Running.{AreTied, TakesFirst, TermsView, has_ended, key_from, rows_in, tenure_in, tenures_in, whole}
+use Rattle.bng_steps.specs.State.{IsTermOf, State, leaves, reaped}
+use Rattle.bng_steps.specs.Tenures.{LeavesTerms, Tenure}
+use Rattle.bng_steps.proofs.LeavingFirst.{all_are_live, ended_from, left_are, left_least, left_leaves, left_live, left_lives, left_one, left_sums, left_were, rows_fit, told_least}
+use Rattle.bng_steps.proofs.ListParts.{all_left}
+use Rattle.bng_steps.proofs.Values.{kept, kept_from}
 
 -- The addresses of those that stay ----------------------------------------------------------------------------------------
 

@@ -24,20 +24,22 @@ use Rattle.bng_engine.specs.Views.{Row, ShardView, row_keys}
 use Rattle.bng_engine.proofs.SameLists.{same_equal}
 use Rattle.bng_pool.specs.Plain.{PlainView}
 use Rattle.bng_pool.specs.Tables.{Puts, Table, entry}
-use Rattle.bng_shard.specs.declared.changes.Answer.{Answer}
-use Rattle.bng_shard.specs.declared.rules.Rules.{Rules}
-use Rattle.bng_shard.specs.Changes.{IsAnswerOf}
-use Rattle.bng_shard.specs.Hearing.{Does, outs_most}
-use Rattle.bng_shard.specs.Protocol.{AnswersClaim, AreHeld, Handles, ShardState, Handled, claimed_by, key_in, pppoe, refused_by}
+use Rattle.bng_steps.specs.declared.changes.Answer.{Answer}
+use Rattle.bng_steps.specs.declared.rules.Rules.{Rules}
+use Rattle.bng_steps.specs.Changes.{IsAnswerOf}
+use Rattle.bng_steps.specs.Hearing.{Does, outs_most}
+use Rattle.bng_steps.specs.Protocol.{ShardState, Handled, claimed_by, key_in, pppoe, refused_by}
+use Rattle.bng_shard.specs.Handling.{AnswersClaim, AreHeld, Handles}
 use Rattle.bng_shard.specs.Room.{is_tick, is_end, has_tick, has_end}
-use Rattle.bng_shard.specs.Fits.{ArePlaced, begun_in, owed}
-use Rattle.bng_shard.specs.Serving.{AreOwn}
-use Rattle.bng_shard.specs.State.{State}
-use Rattle.bng_shard.specs.Step.{Step}
-use Rattle.bng_shard.specs.Sums.{Rises}
-use Rattle.bng_shard.proofs.StepLaws.{light}
-use Rattle.bng_shard.proofs.TermLaws.{AnyCause, Begins, Moves, Remains, step_moves, terms_there, zip_keys}
-use Rattle.bng_shard.proofs.Tying.{Holds, step_ties}
+use Rattle.bng_shard.specs.Fits.{begun_in, owed}
+use Rattle.bng_steps.specs.Placed.{ArePlaced}
+use Rattle.bng_steps.specs.Serving.{AreOwn}
+use Rattle.bng_steps.specs.State.{State}
+use Rattle.bng_steps.specs.Step.{Step}
+use Rattle.bng_steps.specs.Sums.{Rises}
+use Rattle.bng_steps.proofs.StepLaws.{light}
+use Rattle.bng_steps.proofs.TermLaws.{AnyCause, Begins, Moves, Remains, step_moves, terms_there, zip_keys}
+use Rattle.bng_steps.proofs.Tying.{Holds, step_ties}
 use Rattle.bng_shard.proofs.KeyLaws.{keys_there, HoldTheirs, all_last, keys_more, all_held, are_held, free_of, all_both, same_address, KeysFit, remain_fit, begin_fit}
 
 -- the outs that a round may still have -------------------------------------------------------------------------------------

@@ -1,33 +1,18 @@
 -- What the fields of a shard keep.
-use Rattle.std.specs.Prelude.{◌≡◌, ◌≢◌, ℕ, ◌+◌, ◌*◌, ◌^◌, ◌<◌, ◌≤◌, Some, cond, List, length, vec_capacity}
+use Rattle.std.specs.Prelude.{◌≡◌, ◌≢◌, ℕ, ◌+◌, ◌*◌, ◌^◌, ◌<◌, ◌≤◌, cond, List, length, vec_capacity}
 use Rattle.std.specs.List.{All, AllPairs, flat_map}
 use Rattle.bng_base.specs.declared.item.Entry.{Entry}
-use Rattle.bng_base.specs.declared.settings.AccessPort.{AccessPort}
 use Rattle.bng_profile.specs.Books.{names_of}
-use Rattle.bng_shard.specs.declared.rules.Rules.{Rules}
-use Rattle.bng_shard.specs.declared.session.Session.{Session}
-use Rattle.bng_shard.specs.declared.way.Way.{Way}
-use Rattle.bng_shard.specs.declared.way.Way.TheVariants.{Port, Call}
 use Rattle.bng_shard.specs.declared.shard.Shard.TheInside.{Inside}
-use Rattle.bng_shard.specs.declared.terms.Running.{Running}
-use Rattle.bng_shard.specs.Protocol.{claimed_by}
+use Rattle.bng_steps.specs.declared.terms.Running.{Running}
+use Rattle.bng_steps.specs.Protocol.{claimed_by}
 use Rattle.bng_shard.specs.Room.{has_tick, has_end}
-use Rattle.bng_shard.specs.Running.{AreTied, tenures_in}
-use Rattle.bng_shard.specs.State.{port_at}
-use Rattle.bng_sessions.specs.Sessions.{Sessions, value_at}
+use Rattle.bng_steps.specs.Running.{AreTied, tenures_in}
+use Rattle.bng_steps.specs.Placed.{ArePlaced}
 
 -- how many outs a Tick and an End may still have that the round has not had
 abbrev pub owed : List Entry → ℕ
 owed journal = cond (has_tick journal) 0 320 + cond (has_end journal) 0 320
-
--- a way at an access port is at one that is there
-abbrev pub IsPlaced : Rules → Way → Type 0
-IsPlaced r (Port number mac) = (port : AccessPort) × (port_at r.access number ≡ Some port)
-IsPlaced r (Call c) = Unit {0}
-
--- so is that of each session
-abbrev pub ArePlaced : Rules → Sessions Session → Type 0
-ArePlaced r sessions = (n : ℕ) (x : Session) → value_at sessions n ≡ Some x → IsPlaced r x.way
 
 -- how many terms the entries of a journal began
 abbrev pub begun_in : List Entry → ℕ

@@ -4,9 +4,9 @@ use Rattle.std.specs.FinMap.{from_sorted, is_sorted}
 use Rattle.std.specs.Ordering.{nat_cmp}
 use Rattle.bng_base.specs.declared.address.SessionNo.{SessionNo}
 use Rattle.bng_sessions.specs.Sessions.{Sessions, read_at}
-use Rattle.bng_shard.specs.Timers.{deadline_of}
-use Rattle.bng_shard.specs.declared.session.Session.{Session}
-use Rattle.bng_shard.specs.Serving.{AreOfShard}
+use Rattle.bng_steps.specs.Timers.{deadline_of}
+use Rattle.bng_steps.specs.declared.session.Session.{Session}
+use Rattle.bng_steps.specs.Serving.{AreOfShard}
 
 abbrev pub seen : ℕ → List (ℕ × Session) → Sessions Session
 seen shard entries = record { shard = shard; by_number = from_sorted entries }

@@ -1,12 +1,13 @@
 //! What is asked of the table of addresses.
 ghost use Rattle.std.specs.Prelude.{◌≡◌, ◌<◌, ◌+◌, length};
 ghost use Rattle.bng_base.specs.declared.address.Ip4.{Ip4 as Address};
-ghost use Rattle.bng_shard.specs.Protocol.{AnswersClaim, HasPools, claimed_by};
-ghost use Rattle.bng_shard.specs.Wished.{MayWish};
-ghost use Rattle.bng_shard.specs.Wishes.{IsAnswerTo};
+ghost use Rattle.bng_steps.specs.Protocol.{claimed_by};
+ghost use Rattle.bng_shard.specs.Handling.{AnswersClaim, HasPools};
+ghost use Rattle.bng_steps.specs.Wished.{MayWish};
+ghost use Rattle.bng_steps.specs.Wishes.{IsAnswerTo};
 
-use crate::rules::Rules;
-use crate::wish::Wish;
+use bng_steps::Rules;
+use bng_steps::Wish;
 use bng_base::Claim;
 use bng_pool::PlainPool;
 

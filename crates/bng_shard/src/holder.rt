@@ -1,11 +1,11 @@
 //! Which shard an item is for, where the table says who holds an address.
 ghost use Rattle.std.specs.Prelude.{◌≡◌, ◌<◌, ◌≤◌, ℕ};
 ghost use Rattle.bng_pool.specs.Tables.{entry};
-ghost use Rattle.bng_shard.specs.Whose.{IsHeldOr, IsWhose};
+ghost use Rattle.bng_steps.specs.Whose.{IsHeldOr, IsWhose};
 
-use crate::destination::{Destination, destination_of};
-use crate::rules::Rules;
-use crate::whose::Whose;
+use bng_steps::{Destination, destination_of};
+use bng_steps::Rules;
+use bng_steps::Whose;
 use bng_base::{Fate, Ip4, Item};
 use bng_pool::PlainPool;
 

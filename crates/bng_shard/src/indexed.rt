@@ -2,8 +2,8 @@
 ghost use Rattle.std.specs.Prelude.{◌≡◌, ◌≤◌, IfOk};
 ghost use Rattle.std.specs.FinMap.{empty};
 
-use crate::session::Session;
-use crate::store::Store;
+use bng_steps::Session;
+use bng_steps::Store;
 use bng_base::{Ip4, SessionNo};
 use bng_slots::{SlotError, Slots};
 use std::alloc::Global;

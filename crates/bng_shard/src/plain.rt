@@ -4,14 +4,14 @@ ghost use Rattle.std.specs.FinMap.{is_sorted};
 ghost use Rattle.std.specs.List.{HoldsAt, AllWithin};
 ghost use Rattle.std.specs.Ordering.{nat_cmp};
 ghost use Rattle.std.specs.declared.cmp.Ordering.TheVariants.{Less, Equal, Greater};
-ghost use Rattle.bng_shard.specs.State.{leases};
-ghost use Rattle.bng_shard.specs.Timers.{deadline_of};
-ghost use Rattle.bng_shard.specs.declared.session.Session.{Session as Seen};
+ghost use Rattle.bng_steps.specs.State.{leases};
+ghost use Rattle.bng_steps.specs.Timers.{deadline_of};
+ghost use Rattle.bng_steps.specs.declared.session.Session.{Session as Seen};
 ghost use Rattle.bng_sessions.specs.Sessions.{Sessions, read_at};
 ghost use Rattle.bng_shard.specs.Plain.{IsBest};
 
-use crate::session::Session;
-use crate::store::Store;
+use bng_steps::Session;
+use bng_steps::Store;
 use bng_base::{Ip4, SessionNo};
 use bng_sessions::Slotted;
 use std::cmp::Ordering;
@@ -27,8 +27,8 @@ pub struct Plain {
 impl Model for Plain {
     ghost use Rattle.std.specs.Prelude.{vec_capacity};
     ghost use Rattle.bng_sessions.specs.Sessions.{Sessions, sessions_code};
-    ghost use Rattle.bng_shard.specs.contracts.session.Session.{the_row};
-    ghost use Rattle.bng_shard.specs.declared.session.Session.{Session as Seen};
+    ghost use Rattle.bng_steps.specs.contracts.session.Session.{the_row};
+    ghost use Rattle.bng_steps.specs.declared.session.Session.{Session as Seen};
 
     ghost Value = { Sessions Seen };
 

@@ -20,14 +20,15 @@ use Rattle.bng_engine.specs.Views.{ShardView}
 use Rattle.bng_pool.specs.Plain.{PlainView}
 use Rattle.bng_pool.specs.Ranges.{AreApart, ArePoolRanges}
 use Rattle.bng_pool.specs.Tables.{Table, entry}
-use Rattle.bng_shard.specs.declared.rules.Rules.{Rules}
-use Rattle.bng_shard.specs.declared.term.EndedTerm.{EndedTerm}
-use Rattle.bng_shard.specs.Opening.{in_order, tenures_after}
-use Rattle.bng_shard.specs.Protocol.{ShardState, AnswersClaim, AreHeld, Handles, HasPools, Leaves, opened, stop_of, term_in, terms_of}
-use Rattle.bng_shard.specs.State.{reaped}
-use Rattle.bng_shard.specs.Sums.{AreLow, IsLow}
-use Rattle.bng_shard.proofs.InOrder.{all_in_order}
-use Rattle.bng_shard.proofs.Values.{none_some, same_some}
+use Rattle.bng_steps.specs.declared.rules.Rules.{Rules}
+use Rattle.bng_steps.specs.declared.term.EndedTerm.{EndedTerm}
+use Rattle.bng_steps.specs.Opening.{in_order, tenures_after}
+use Rattle.bng_steps.specs.Protocol.{ShardState, opened, stop_of, term_in, terms_of}
+use Rattle.bng_shard.specs.Handling.{AnswersClaim, AreHeld, Handles, HasPools, Leaves}
+use Rattle.bng_steps.specs.State.{reaped}
+use Rattle.bng_steps.specs.Sums.{AreLow, IsLow}
+use Rattle.bng_steps.proofs.InOrder.{all_in_order}
+use Rattle.bng_steps.proofs.Values.{none_some, same_some}
 
 abbrev pub Stands : ShardView ShardState Entry → PlainView → Type 0
 Stands v pool = HasPools v.state.rules.pools pool.ranges × (v.number < pool.shards) × AreHeld v.number (terms_of v.state) pool.table × (length v.state.rules.profiles ≡ 2)

@@ -13,12 +13,12 @@ use Rattle.bng_engine.specs.Sums.{is_any}
 use Rattle.bng_engine.specs.Terms.{Term, keys}
 use Rattle.bng_engine.specs.Views.{Row, new_row, row_keys, rows_where}
 use Rattle.bng_sessions.specs.Sessions.{IsNumberOf}
-use Rattle.bng_shard.specs.declared.rules.Rules.{Rules}
-use Rattle.bng_shard.specs.Frames.{charge_of}
-use Rattle.bng_shard.specs.Opening.{circuit_at, in_order, lease_from, provisioned, tenure_from, tenures_after}
-use Rattle.bng_shard.specs.Protocol.{key_in, opened, term_in}
-use Rattle.bng_shard.specs.Sums.{RowsAreLow}
-use Rattle.bng_shard.proofs.InOrder.{number, opened_terms}
+use Rattle.bng_steps.specs.declared.rules.Rules.{Rules}
+use Rattle.bng_steps.specs.Frames.{charge_of}
+use Rattle.bng_steps.specs.Opening.{circuit_at, in_order, lease_from, provisioned, tenure_from, tenures_after}
+use Rattle.bng_steps.specs.Protocol.{key_in, opened, term_in}
+use Rattle.bng_steps.specs.Sums.{RowsAreLow}
+use Rattle.bng_steps.proofs.InOrder.{number, opened_terms}
 
 pub only_one : {X : Type 0} (P : X → Type 0) (x : X) → P x → All P (x ∷ [])
 only_one P x h zero d lt = h

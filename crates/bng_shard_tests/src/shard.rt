@@ -1,12 +1,13 @@
 //! What the tests of a shard share: the rounds of one item, and how a host asks for a session.
 ghost use Rattle.std.specs.Prelude.{◌≡◌, ◌⊎◌, ◌+◌, ◌<◌, ◌≤◌, ◌^◌, [], ◌∷◌, length, map, true};
 ghost use Rattle.bng_profile.specs.Books.{AreDifferent, names_of};
-ghost use Rattle.bng_shard.specs.Sums.{AreLow, IsLow};
+ghost use Rattle.bng_steps.specs.Sums.{AreLow, IsLow};
 
 use crate::asserts::{assert_count, assert_holds};
 use bng_base::{Book, Fate, Frame, Item, ItemKind, OutRecord, Range};
 use bng_pool::PlainPool;
-use bng_shard::{EndedTerm, LiveTerm, Rules, Shard};
+use bng_shard::Shard;
+use bng_steps::{EndedTerm, LiveTerm, Rules};
 use settings::{KEY, peer};
 use std::alloc::Global;
 use std::marker::Model;
@@ -57,12 +58,13 @@ impl Model for Bench {
     ghost use Rattle.bng_base.specs.declared.item.Entry.{Entry};
     ghost use Rattle.bng_engine.specs.Views.{ShardView};
     ghost use Rattle.bng_pool.specs.Plain.{PlainView};
-    ghost use Rattle.bng_shard.specs.Protocol.{ShardState, AreHeld, HasPools, terms_of};
+    ghost use Rattle.bng_steps.specs.Protocol.{ShardState, terms_of};
+    ghost use Rattle.bng_shard.specs.Handling.{AreHeld, HasPools};
 
     ghost Value = { ShardView ShardState Entry × PlainView };
 
     ghost use Rattle.std.specs.Coded.{codes};
-    ghost use Rattle.bng_shard.specs.Codes.{state_code};
+    ghost use Rattle.bng_steps.specs.Codes.{state_code};
 
     ghost coded = { Prim.hlevel (codes, state_code) };
 

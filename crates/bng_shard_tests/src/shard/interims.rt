@@ -1,5 +1,5 @@
 ghost use Rattle.std.specs.Prelude.{◌≡◌, ◌<◌, ◌^◌, []};
-ghost use Rattle.bng_shard.specs.Interims.{AwaitsInterims};
+ghost use Rattle.bng_steps.specs.Interims.{AwaitsInterims};
 
 use super::logins::accepted_by;
 use super::settings::{TWO, rules_with};
@@ -7,7 +7,7 @@ use super::verdicts::ACCEPT;
 use super::{Bench, NOTHING, open_bench};
 use crate::asserts::assert_same;
 use bng_base::{Book, SessionNo, TermId};
-use bng_shard::Reports;
+use bng_steps::Reports;
 use std::alloc::Global;
 use std::process::Abort;
 use std::test::Fail;

@@ -8,7 +8,7 @@ use bng_base::{
 };
 use bng_discovery::PortRules;
 use bng_ppp::LinkRules;
-use bng_shard::Rules;
+use bng_steps::Rules;
 use std::alloc::{AllocError, Global};
 
 const PORT: Mac = Mac([2, 0, 0, 0, 0, 0xfe]);

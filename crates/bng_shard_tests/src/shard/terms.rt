@@ -1,8 +1,8 @@
 ghost use Rattle.std.specs.Prelude.{◌≡◌, ◌<◌, [], ◌∷◌, Some, ℕ, IfOk, length, true};
-ghost use Rattle.bng_shard.specs.declared.rules.Rules.{Rules as Ways};
-ghost use Rattle.bng_shard.specs.Frames.{charge_of};
-ghost use Rattle.bng_shard.specs.Opening.{lease_from, provisioned};
-ghost use Rattle.bng_shard.specs.Protocol.{opened};
+ghost use Rattle.bng_steps.specs.declared.rules.Rules.{Rules as Ways};
+ghost use Rattle.bng_steps.specs.Frames.{charge_of};
+ghost use Rattle.bng_steps.specs.Opening.{lease_from, provisioned};
+ghost use Rattle.bng_steps.specs.Protocol.{opened};
 ghost use Rattle.bng_pool.specs.Tables.{entry};
 ghost use Rattle.std.specs.List.{All};
 ghost use Rattle.bng_sessions.specs.Sessions.{IsNumberOf};
@@ -16,7 +16,8 @@ use bng_base::{
     Role, SessionNo, Static, TermId,
 };
 use bng_pool::PlainPool;
-use bng_shard::{Charged, Shard, Traffic};
+use bng_shard::Shard;
+use bng_steps::{Charged, Traffic};
 use std::alloc::Global;
 use std::process::Abort;
 use std::test::Fail;

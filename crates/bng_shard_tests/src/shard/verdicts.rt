@@ -5,7 +5,7 @@ use super::{Bench, NOTHING, item, octets, open_bench, request, span};
 use crate::asserts::{assert_count, assert_octets, assert_same};
 use arrayvec::ArrayVec;
 use bng_base::{Item, ItemKind, OutRecord, SessionNo};
-use bng_shard::Handed;
+use bng_steps::Handed;
 use bng_verdict::QuestionNo;
 use std::alloc::Global;
 use std::process::Abort;

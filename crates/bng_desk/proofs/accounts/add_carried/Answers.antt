@@ -3,7 +3,7 @@ use Rattle.std.specs.List.{All}
 use Rattle.std.proofs.lemmas.List.{with_items_is}
 use Rattle.bng_engine.specs.Terms.{Stop}
 use Rattle.bng_engine.proofs.Walks.{Walked, same_at, walk_none, walk_more, walk_all}
-use Rattle.bng_shard.specs.Protocol.{stop_of}
+use Rattle.bng_steps.specs.Protocol.{stop_of}
 use Rattle.bng_desk.specs.declared.line.Line.{Line}
 use Rattle.bng_desk.specs.Model.{line_after}
 use Rattle.bng_desk.specs.Taking.{TakesIn}

@@ -1,6 +1,6 @@
 use Rattle.std.proofs.Common.{[], ◌∷◌}
 use Rattle.bng_engine.proofs.Walks.{Walked}
-use Rattle.bng_shard.specs.Protocol.{stop_of}
+use Rattle.bng_steps.specs.Protocol.{stop_of}
 use Rattle.bng_desk.proofs.Lines.{IsAfter}
 use Rattle.bng_desk.proofs.accounts.add_carried.Given as goal
 

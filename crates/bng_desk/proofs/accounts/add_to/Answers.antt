@@ -1,5 +1,5 @@
 use Rattle.std.proofs.Common.{true, false, arith}
-use Rattle.bng_shard.specs.Protocol.{stop_of}
+use Rattle.bng_steps.specs.Protocol.{stop_of}
 use Rattle.bng_desk.proofs.Lines.{one_said}
 use Rattle.bng_desk.proofs.accounts.add_to.Goals as goal
 

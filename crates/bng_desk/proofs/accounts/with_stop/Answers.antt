@@ -1,6 +1,6 @@
 use Rattle.std.proofs.Common.{◌+◌, sym, ap, ◌∙◌, arith}
 use Rattle.bng_base.specs.declared.book.Book.{Book}
-use Rattle.bng_shard.specs.Protocol.{stop_of}
+use Rattle.bng_steps.specs.Protocol.{stop_of}
 use Rattle.bng_desk.specs.declared.accounts.Stopped.{Stopped}
 use Rattle.bng_desk.specs.Model.{plus_book}
 use Rattle.bng_desk.proofs.InAll.{one_said, one_stopped}

@@ -3,7 +3,7 @@ use Rattle.std.proofs.lemmas.List.{take_more, length-take-le}
 use Rattle.bng_base.specs.declared.item.Entry.{Entry}
 use Rattle.bng_base.specs.declared.item.Item.{Item}
 use Rattle.bng_engine.specs.Views.{ShardView}
-use Rattle.bng_shard.specs.Protocol.{ShardState}
+use Rattle.bng_steps.specs.Protocol.{ShardState}
 use Rattle.bng_desk.specs.Items.{ticks_of, drawn_from}
 use Rattle.bng_desk.specs.Random.{Drawn}
 use Rattle.bng_desk.proofs.Drawing.{drawn_length, drawn_more, draws_more, ticks_append, ticks_length}

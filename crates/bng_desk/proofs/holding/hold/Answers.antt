@@ -9,7 +9,7 @@ use Rattle.bng_base.specs.declared.item.Item.{Item}
 use Rattle.bng_base.specs.declared.round.RoundRecord.{RoundRecord}
 use Rattle.bng_engine.specs.Calls.{Kept}
 use Rattle.bng_engine.specs.Views.{ShardView}
-use Rattle.bng_shard.specs.Protocol.{ShardState}
+use Rattle.bng_steps.specs.Protocol.{ShardState}
 use Rattle.bng_desk.specs.declared.settlement.Works.{Works}
 use Rattle.bng_desk.specs.Allowing.{allowance_of, free_in}
 use Rattle.bng_desk.specs.Counting.{Within, plus}

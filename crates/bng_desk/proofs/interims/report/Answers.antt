@@ -4,8 +4,8 @@ use Rattle.bng_acct.specs.Spool.{is_live}
 use Rattle.bng_engine.specs.Terms.{Key}
 use Rattle.std.proofs.Common.{◌≡◌, true, List, slice_get, refl, sym, ap}
 use Rattle.bng_engine.specs.Views.{Row}
-use Rattle.bng_shard.specs.Interims.{row_told}
-use Rattle.bng_shard.specs.Protocol.{key_of}
+use Rattle.bng_steps.specs.Interims.{row_told}
+use Rattle.bng_steps.specs.Protocol.{key_of}
 use Rattle.bng_desk.proofs.Reporting.{held_none, live_still, live_told, owed_fewer, reports_all, reports_more, reports_none, soon_still}
 use Rattle.bng_desk.proofs.ShardKeys.{keys_of}
 use Rattle.bng_desk.proofs.TermsLeft.{says_began, says_classes}

@@ -1,5 +1,5 @@
 use Rattle.std.proofs.Common.{length}
-use Rattle.bng_shard.specs.Interims.{owed}
+use Rattle.bng_steps.specs.Interims.{owed}
 use Rattle.bng_desk.proofs.Reporting.{ReportsSome}
 use Rattle.bng_desk.proofs.interims.report.Given as goal
 

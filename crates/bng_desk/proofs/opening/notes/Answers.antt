@@ -1,8 +1,8 @@
 use Rattle.std.proofs.Common.{ℕ, List, [], ◌∷◌, ◌++◌, map, ap, sym, arith, ◌∙◌}
 use Rattle.std.specs.List.{range_with_len}
 use Rattle.std.proofs.lemmas.List.FromFn.{map-range_with_len_more}
-use Rattle.bng_shard.specs.Interims.{Reports, no_reports}
-use Rattle.bng_shard.specs.Questions.{none_handed}
+use Rattle.bng_steps.specs.Interims.{Reports, no_reports}
+use Rattle.bng_steps.specs.Questions.{none_handed}
 use Rattle.bng_desk.proofs.opening.notes.Goals as goal
 
 pub loop-shard-preserved : goal.loop-shard-preserved

@@ -1,7 +1,7 @@
 use Rattle.std.proofs.Common.{◌≡◌, ◌≤◌, ℕ, length, map, vec_capacity}
 use Rattle.std.specs.List.{range_with_len}
-use Rattle.bng_shard.specs.Interims.{no_reports}
-use Rattle.bng_shard.specs.Questions.{none_handed}
+use Rattle.bng_steps.specs.Interims.{no_reports}
+use Rattle.bng_steps.specs.Questions.{none_handed}
 use Rattle.bng_desk.proofs.opening.notes.Given as goal
 
 abbrev pub invariant-loop-shard : goal.invariant-loop-shard

@@ -6,9 +6,9 @@ use Rattle.bng_base.specs.declared.item.Entry.{Entry}
 use Rattle.bng_base.specs.declared.settings.Static.{Static}
 use Rattle.bng_engine.specs.Views.{ShardView}
 use Rattle.bng_profile.specs.Books.{AreDifferent, names_of}
-use Rattle.bng_shard.specs.declared.rules.Rules.{Rules}
-use Rattle.bng_shard.specs.Protocol.{opened}
-use Rattle.bng_shard.specs.Protocol.{ShardState}
+use Rattle.bng_steps.specs.declared.rules.Rules.{Rules}
+use Rattle.bng_steps.specs.Protocol.{opened}
+use Rattle.bng_steps.specs.Protocol.{ShardState}
 use Rattle.bng_desk.specs.Taking.{HasFewSessions}
 use Rattle.bng_desk.proofs.Outfit.{of_shard, list_count, list_next, next_are}
 use Rattle.bng_desk.proofs.opening.shards.Goals as goal

@@ -1,7 +1,7 @@
 use Rattle.std.proofs.Common.{◌≡◌, ◌≤◌, ◌++◌, ◌==◌, ℕ, length, map, filter, vec_capacity}
 use Rattle.std.specs.List.{All, range_with_len}
 use Rattle.bng_base.specs.declared.settings.Static.{Static}
-use Rattle.bng_shard.specs.Protocol.{opened}
+use Rattle.bng_steps.specs.Protocol.{opened}
 use Rattle.bng_desk.specs.Opening.{shard_of}
 use Rattle.bng_desk.specs.Taking.{HasFewSessions}
 use Rattle.bng_desk.proofs.opening.shards.Given as goal

@@ -2,7 +2,7 @@ use Rattle.std.proofs.Common.{Option, ap}
 use Rattle.std.specs.Prelude.{option_map}
 use Rattle.bng_base.proofs.StretchLaws.{plant_stays}
 use Rattle.bng_coa.specs.declared.rules.ChangeVerdict.{ChangeVerdict}
-use Rattle.bng_shard.specs.declared.changes.Answer.{Answer}
+use Rattle.bng_steps.specs.declared.changes.Answer.{Answer}
 use Rattle.bng_desk.proofs.CoaLaws.{item_answered, item_silent}
 use Rattle.bng_desk.proofs.replies.answer_item.Goals as goal
 

@@ -1,6 +1,6 @@
 use Rattle.std.proofs.Common.{sym, ◌∙◌}
 use Rattle.bng_base.proofs.StretchLaws.{plant_stays}
-use Rattle.bng_shard.specs.declared.changes.Answer.{Answer}
+use Rattle.bng_steps.specs.declared.changes.Answer.{Answer}
 use Rattle.bng_desk.proofs.CoaLaws.{gives_none, gives_reply, no_number, not_in_hand, the_number}
 use Rattle.bng_desk.proofs.replies.answer_one.Goals as goal
 

@@ -2,7 +2,7 @@ use Rattle.std.proofs.Common.{inl, inr, ℕ, List, Some, refl, ap, subst}
 use Rattle.bng_coa.specs.declared.rules.ChangeVerdict.{ChangeVerdict}
 use Rattle.bng_coa.specs.Admission.{IsRequestIn}
 use Rattle.bng_radius_wire.specs.Grammar.{Packet, whole}
-use Rattle.bng_shard.specs.declared.changes.Answer.{Answer}
+use Rattle.bng_steps.specs.declared.changes.Answer.{Answer}
 use Rattle.bng_desk.proofs.replies.refusal.Goals as goal
 
 pub returns-in-Some : goal.returns-in-Some

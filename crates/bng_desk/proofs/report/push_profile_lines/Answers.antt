@@ -2,7 +2,7 @@ use Rattle.std.proofs.Common.{◌≡◌, ◌++◌, ◌+◌, ◌<◌, ℕ, zero, 
 use Rattle.std.specs.List.{range_with_len}
 use Rattle.std.proofs.lemmas.List.FromFn.{get_or-map-range_with_len, length-map-range_with_len}
 use Rattle.bng_base.specs.declared.book.Profile.{Profile}
-use Rattle.bng_shard.specs.declared.sums.Traffic.{Traffic}
+use Rattle.bng_steps.specs.declared.sums.Traffic.{Traffic}
 use Rattle.bng_desk.specs.Model.{no_traffic, traffic_under}
 use Rattle.bng_desk.specs.Report.{profile_line, profile_lines}
 use Rattle.bng_desk.proofs.report.push_profile_lines.Goals as goal

@@ -1,6 +1,6 @@
 use Rattle.std.proofs.Common.{◌≡◌, ◌++◌, ◌+◌, ◌<◌, ℕ, zero, suc, List, [], ◌∷◌, length, take, get_or, sym, ap, ◌∙◌, append_assoc, append-nil, arith, string_bytes}
 use Rattle.bng_desk.specs.declared.line.Line.{Line}
-use Rattle.bng_shard.specs.declared.sums.Traffic.{Traffic}
+use Rattle.bng_steps.specs.declared.sums.Traffic.{Traffic}
 use Rattle.bng_desk.specs.Model.{no_traffic}
 use Rattle.bng_desk.specs.Report.{static_line, static_lines}
 use Rattle.bng_desk.proofs.report.push_static_lines.Goals as goal

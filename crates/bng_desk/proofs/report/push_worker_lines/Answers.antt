@@ -1,5 +1,5 @@
 use Rattle.std.proofs.Common.{◌≡◌, ◌++◌, ◌+◌, ◌<◌, ℕ, zero, suc, List, [], ◌∷◌, length, take, get_or, sym, ap, ◌∙◌, append_assoc, append-nil, arith, string_bytes}
-use Rattle.bng_shard.specs.declared.sums.Traffic.{Traffic}
+use Rattle.bng_steps.specs.declared.sums.Traffic.{Traffic}
 use Rattle.bng_desk.specs.Model.{no_traffic}
 use Rattle.bng_desk.specs.Report.{worker_line, worker_lines}
 use Rattle.bng_desk.proofs.report.push_worker_lines.Goals as goal

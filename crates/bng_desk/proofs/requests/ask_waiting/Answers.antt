@@ -1,7 +1,7 @@
 use Rattle.std.proofs.Common.{List, length, refl, sym, ap, arith}
 use Rattle.bng_base.proofs.StretchLaws.{plant_stays}
 use Rattle.bng_lane.specs.Sends.{LaneAsk}
-use Rattle.bng_shard.specs.Questions.{Asking, asking_from, waiting}
+use Rattle.bng_steps.specs.Questions.{Asking, asking_from, waiting}
 use Rattle.bng_desk.specs.Random.{draw}
 use Rattle.bng_desk.proofs.RequestLaws.{asked_more, asked_none, waits_first}
 use Rattle.bng_desk.proofs.requests.ask_waiting.Goals as goal

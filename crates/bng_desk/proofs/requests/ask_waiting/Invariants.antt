@@ -1,5 +1,5 @@
 use Rattle.std.proofs.Common.{length}
-use Rattle.bng_shard.specs.Questions.{waiting}
+use Rattle.bng_steps.specs.Questions.{waiting}
 use Rattle.bng_desk.specs.Intake.{AsksSome}
 use Rattle.bng_desk.proofs.requests.ask_waiting.Given as goal
 

@@ -3,11 +3,12 @@ use Rattle.std.proofs.lemmas.List.{get_or_read_under}
 use Rattle.std.proofs.lemmas.List.Elements.{All-set, All-weaker}
 use Rattle.bng_base.specs.declared.item.Entry.{Entry}
 use Rattle.bng_engine.specs.Views.{ShardView}
-use Rattle.bng_shard.specs.declared.rules.Rules.{Rules}
-use Rattle.bng_shard.specs.declared.whose.Whose.TheVariants.{Stands}
-use Rattle.bng_shard.specs.Protocol.{ShardState, HasPools, Handles, entry_of}
+use Rattle.bng_steps.specs.declared.rules.Rules.{Rules}
+use Rattle.bng_steps.specs.declared.whose.Whose.TheVariants.{Stands}
+use Rattle.bng_steps.specs.Protocol.{ShardState, entry_of}
+use Rattle.bng_shard.specs.Handling.{HasPools, Handles}
 use Rattle.bng_pool.specs.Tables.{entry}
-use Rattle.bng_shard.specs.Whose.{IsWhose}
+use Rattle.bng_steps.specs.Whose.{IsWhose}
 use Rattle.bng_desk.proofs.Asking.{grows, held_on}
 use Rattle.bng_desk.proofs.Returning.{HoldsOwn}
 use Rattle.bng_desk.proofs.round.deal.Goals as goal

@@ -4,7 +4,7 @@ use Rattle.std.proofs.Math.Seq.{take-length}
 use Rattle.bng_base.specs.declared.book.Range.{Range}
 use Rattle.bng_base.specs.declared.item.Item.{Item}
 use Rattle.bng_base.specs.declared.item.Loose.{Loose}
-use Rattle.bng_shard.specs.Protocol.{HasPools}
+use Rattle.bng_shard.specs.Handling.{HasPools}
 use Rattle.bng_desk.specs.Taking.{AreOnce, Deals, DealsOne}
 use Rattle.bng_desk.proofs.Admitting.{admits_next}
 use Rattle.bng_desk.proofs.Dealt.{dealt_books, dealt_once, dealt_rules, journal_in, loose_more, numbers_dealt, room_more, tally_more}

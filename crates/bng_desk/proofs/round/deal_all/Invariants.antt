@@ -1,7 +1,8 @@
 use Rattle.std.proofs.Common.{◌≡◌, ℕ, ◌+◌, ◌*◌, ◌≤◌, length, take, vec_capacity}
 use Rattle.std.specs.List.{All}
-use Rattle.bng_shard.specs.Protocol.{AreHeld, terms_of}
-use Rattle.bng_shard.specs.Sums.{IsLow}
+use Rattle.bng_steps.specs.Protocol.{terms_of}
+use Rattle.bng_shard.specs.Handling.{AreHeld}
+use Rattle.bng_steps.specs.Sums.{IsLow}
 use Rattle.bng_desk.specs.Counting.{Within}
 use Rattle.bng_desk.specs.Taking.{Deals}
 use Rattle.bng_desk.proofs.round.deal_all.Given as goal

@@ -3,7 +3,7 @@ use Rattle.bng_base.specs.declared.item.Entry.{Entry}
 use Rattle.bng_engine.specs.Calls.{Kept, IsReady}
 use Rattle.bng_engine.specs.Views.{ShardView}
 use Rattle.bng_engine.proofs.Walks.{same_at, walk_more, zip_weaker}
-use Rattle.bng_shard.specs.Protocol.{ShardState}
+use Rattle.bng_steps.specs.Protocol.{ShardState}
 use Rattle.bng_desk.specs.Allowing.{allowance_of}
 use Rattle.bng_desk.specs.Taking.{IsEmpty, HasRows}
 use Rattle.bng_desk.proofs.Readying.{IsMadeReady, IsLeft, all_ready, some_ready, all_right, all_onward}

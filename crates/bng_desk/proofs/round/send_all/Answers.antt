@@ -5,8 +5,8 @@ use Rattle.bng_base.specs.declared.item.Entry.{Entry}
 use Rattle.bng_base.specs.declared.item.OutRecord.{OutRecord}
 use Rattle.bng_engine.specs.Views.{ShardView}
 use Rattle.bng_engine.proofs.Walks.{same_at}
-use Rattle.bng_shard.specs.Protocol.{ShardState}
-use Rattle.bng_shard.specs.Sums.{RowsAreLow}
+use Rattle.bng_steps.specs.Protocol.{ShardState}
+use Rattle.bng_steps.specs.Sums.{RowsAreLow}
 use Rattle.bng_desk.specs.Round.{is_failed}
 use Rattle.bng_desk.specs.Taking.{IsLight, joined}
 use Rattle.bng_desk.proofs.Sending.{failed_within}

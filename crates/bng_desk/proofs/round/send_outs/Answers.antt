@@ -7,8 +7,8 @@ use Rattle.bng_engine.specs.Protocol.{IsOwned}
 use Rattle.bng_engine.specs.Showing.{ChargesShown}
 use Rattle.bng_base.specs.declared.item.Entry.{Entry}
 use Rattle.bng_engine.specs.Views.{ShardView, row_keys}
-use Rattle.bng_shard.specs.Protocol.{ShardState, pppoe}
-use Rattle.bng_shard.specs.Sums.{AreCovered, charged_as}
+use Rattle.bng_steps.specs.Protocol.{ShardState, pppoe}
+use Rattle.bng_steps.specs.Sums.{AreCovered, charged_as}
 use Rattle.bng_desk.specs.Reading.{sending}
 use Rattle.bng_desk.proofs.Sending.{SendsSome, sends_none, sends_more, sends_all, sent_low, book_has, row_has, still_covered}
 use Rattle.bng_desk.proofs.round.send_outs.Given.{Over}

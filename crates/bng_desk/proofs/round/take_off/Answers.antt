@@ -2,7 +2,7 @@ use Rattle.std.proofs.Common.{◌≡◌, ℕ, Bool, true, false, refl, sym, subs
 use Rattle.bng_base.specs.declared.book.Book.{Book}
 use Rattle.bng_base.specs.Books.{octets_in, packets_in, taken_off}
 use Rattle.bng_engine.specs.Quantities.{Octets, Packets, in_book}
-use Rattle.bng_shard.specs.Sums.{Has, IsMore}
+use Rattle.bng_steps.specs.Sums.{Has, IsMore}
 use Rattle.bng_desk.proofs.round.take_off.Goals as goal
 
 octets_same : (input : Bool) (b : Book) → octets_in input b ≡ in_book Octets input b

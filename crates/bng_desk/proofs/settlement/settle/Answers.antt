@@ -2,7 +2,7 @@ use Rattle.std.proofs.Common.{◌≡◌, ℕ, List, length, map, sym, ap, subst,
 use Rattle.std.specs.Vec.{with_items}
 use Rattle.std.proofs.lemmas.List.{length-map, with_items_is}
 use Rattle.bng_base.specs.declared.item.Loose.{Loose}
-use Rattle.bng_shard.specs.Interims.{Reports}
+use Rattle.bng_steps.specs.Interims.{Reports}
 use Rattle.bng_desk.specs.declared.accounts.Stopped.{Stopped}
 use Rattle.bng_desk.specs.declared.coa.Repeated.{Repeated}
 use Rattle.bng_desk.specs.declared.line.Line.{Line}

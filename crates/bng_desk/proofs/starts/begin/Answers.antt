@@ -1,8 +1,8 @@
 use Rattle.std.proofs.Common.{[], refl, sym, subst, arith}
 use Rattle.bng_base.specs.declared.item.Entry.{Entry}
 use Rattle.bng_engine.specs.Views.{ShardView}
-use Rattle.bng_shard.specs.Lasting.{IsTenureOf}
-use Rattle.bng_shard.specs.Protocol.{ShardState, key_of}
+use Rattle.bng_steps.specs.Lasting.{IsTenureOf}
+use Rattle.bng_steps.specs.Protocol.{ShardState, key_of}
 use Rattle.bng_desk.specs.Taking.{BeginsShard}
 use Rattle.bng_desk.proofs.Begun.{begins_begin, begins_on, begins_shard, begun_alone, begun_settling, fewer_new, told_admitted, told_once}
 use Rattle.bng_desk.proofs.Booking.{leaver_says}

@@ -6,8 +6,8 @@ use Rattle.bng_acct.specs.declared.facts.StatusType.TheVariants.{Start}
 use Rattle.bng_acct.specs.declared.held.Held.{Held}
 use Rattle.bng_acct.specs.Spool.{number_of}
 use Rattle.bng_engine.specs.Terms.{Key}
-use Rattle.bng_shard.specs.declared.term.LiveTerm.{LiveTerm}
-use Rattle.bng_shard.specs.Protocol.{key_of}
+use Rattle.bng_steps.specs.declared.term.LiveTerm.{LiveTerm}
+use Rattle.bng_steps.specs.Protocol.{key_of}
 use Rattle.bng_desk.specs.Taking.{BooksStarts}
 use Rattle.bng_desk.proofs.Beginning.{IsNew, MayBegin, next_may}
 use Rattle.bng_desk.proofs.Booking.{starts_more, starts_none}

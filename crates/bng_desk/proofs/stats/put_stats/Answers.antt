@@ -2,7 +2,7 @@ use Rattle.std.proofs.Common.{◌≡◌, ℕ, List, [], ◌∷◌, ◌++◌, cod
 use Rattle.std.specs.List.{range_with_len}
 use Rattle.std.specs.Prelude.{map}
 use Rattle.bng_base.specs.Packet.{Packet}
-use Rattle.bng_shard.specs.declared.sums.Traffic.{Traffic}
+use Rattle.bng_steps.specs.declared.sums.Traffic.{Traffic}
 use Rattle.bng_engine.specs.Quantities.{in_book}
 use Rattle.bng_desk.specs.declared.accounts.Stopped.{Stopped}
 use Rattle.bng_desk.specs.Counting.{by_number}

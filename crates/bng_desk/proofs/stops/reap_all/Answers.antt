@@ -1,5 +1,5 @@
 use Rattle.std.proofs.Common.{◌+◌, ◌<◌, length, map, drop, take, arith}
-use Rattle.bng_shard.specs.Protocol.{key_in}
+use Rattle.bng_steps.specs.Protocol.{key_in}
 use Rattle.bng_desk.specs.Model.{keys_in}
 use Rattle.bng_desk.specs.Round.{news_in}
 use Rattle.bng_desk.specs.Taking.{far, states_of}

@@ -1,7 +1,8 @@
 use Rattle.std.proofs.Common.{[], ◌∷◌, sym, subst, arith}
 use Rattle.bng_pool.specs.Plain.{PlainView}
-use Rattle.bng_shard.specs.Lasting.{IsTenureOf}
-use Rattle.bng_shard.specs.Protocol.{AreHeld, stop_of}
+use Rattle.bng_steps.specs.Lasting.{IsTenureOf}
+use Rattle.bng_steps.specs.Protocol.{stop_of}
+use Rattle.bng_shard.specs.Handling.{AreHeld}
 use Rattle.bng_desk.specs.Round.{IsReturned}
 use Rattle.bng_desk.specs.Taking.{far}
 use Rattle.bng_desk.proofs.Booking.{leaver_says}

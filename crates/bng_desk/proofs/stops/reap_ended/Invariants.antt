@@ -1,5 +1,5 @@
 use Rattle.std.proofs.Common.{length}
-use Rattle.bng_shard.specs.Protocol.{ended_terms}
+use Rattle.bng_steps.specs.Protocol.{ended_terms}
 use Rattle.bng_desk.proofs.Reaping.{ReapsFew}
 use Rattle.bng_desk.proofs.stops.reap_ended.Given as goal
 

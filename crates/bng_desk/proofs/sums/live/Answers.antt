@@ -2,7 +2,7 @@ use Rattle.std.proofs.Common.{◌≡◌, ℕ, ◌+◌, ◌<◌, ◌≤◌, Bool,
 use Rattle.std.proofs.lemmas.List.{take_all}
 use Rattle.std.proofs.lemmas.List.Sums.{sum_by_more, sum_by_more_le}
 use Rattle.bng_engine.specs.Quantities.{Quantity, Octets, Packets, in_book}
-use Rattle.bng_shard.specs.Live.{live_in}
+use Rattle.bng_steps.specs.Live.{live_in}
 use Rattle.bng_desk.specs.Model.{live_of}
 use Rattle.bng_desk.specs.Taking.{Shown, live_by}
 use Rattle.bng_desk.proofs.InAll.{book_is, live_in_all, plus_in}

@@ -1,8 +1,8 @@
 use Rattle.std.proofs.Common.{sym, subst}
 use Rattle.std.proofs.lemmas.Option.{slice_get_within}
-use Rattle.bng_shard.specs.declared.wish.Wish.{Wish}
-use Rattle.bng_shard.specs.Wished.{MayWish}
-use Rattle.bng_shard.specs.Wishes.{IsAnswerTo}
+use Rattle.bng_steps.specs.declared.wish.Wish.{Wish}
+use Rattle.bng_steps.specs.Wished.{MayWish}
+use Rattle.bng_steps.specs.Wishes.{IsAnswerTo}
 use Rattle.bng_shard.proofs.AskedPool.{has_address, claim_answers, scan_answers}
 use Rattle.bng_shard.proofs.claim.ask.Goals as goal
 

@@ -1,6 +1,6 @@
 use Rattle.std.proofs.Common.{ℕ, Option, arith, refl, subst, sym}
-use Rattle.bng_shard.specs.declared.whose.Whose.TheVariants.{Loose, Stands}
-use Rattle.bng_shard.specs.Whose.{IsHeldOr}
+use Rattle.bng_steps.specs.declared.whose.Whose.TheVariants.{Loose, Stands}
+use Rattle.bng_steps.specs.Whose.{IsHeldOr}
 use Rattle.bng_shard.proofs.Holding.{held_inside}
 use Rattle.bng_shard.proofs.holder.held_or.Goals as goal
 

@@ -1,6 +1,6 @@
 use Rattle.std.proofs.Common.{◌^◌, ◌∙◌, subst}
 use Rattle.bng_base.specs.declared.book.Book.{Book}
-use Rattle.bng_shard.specs.Sums.{IsLow}
+use Rattle.bng_steps.specs.Sums.{IsLow}
 use Rattle.bng_shard_tests.proofs.Benches.{all_low}
 use Rattle.bng_shard_tests.proofs.shard.has_low_books.Goals as goal
 

@@ -2,7 +2,7 @@ use Rattle.std.proofs.Common.{[], sym, subst, arith}
 use Rattle.bng_base.specs.declared.item.Entry.{Entry}
 use Rattle.bng_engine.specs.Views.{ShardView}
 use Rattle.bng_pool.specs.Plain.{PlainView}
-use Rattle.bng_shard.specs.Protocol.{ShardState, opened}
+use Rattle.bng_steps.specs.Protocol.{ShardState, opened}
 use Rattle.bng_shard_tests.proofs.Benches.{Stands, held_opened, pools_of_one}
 use Rattle.bng_shard_tests.proofs.shard.open_bench.Goals as goal
 

@@ -1,6 +1,6 @@
 //! Requests in hexadecimal digits.
 use bng_base::Fate;
-use bng_shard::Whose;
+use bng_steps::Whose;
 
 // CoA-Requests for the term of session 1025 by its Acct-Session-Id: to bronze, and to gold.
 pub(super) const TO_BRONZE: &str =

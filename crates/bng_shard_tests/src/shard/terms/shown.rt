@@ -1,7 +1,7 @@
 //! The terms of circuits, as a shard shows them and lets them leave.
 use crate::shard::{Bench, NOTHING};
 use bng_base::{Book, Circuit, Ip4, Mac, SessionNo, TermId};
-use bng_shard::{EndedTerm, LiveTerm};
+use bng_steps::{EndedTerm, LiveTerm};
 
 // Which term is the circuit's of this host.
 fn term(host: u8, session: u16, serial: u64, address: u32) -> (TermId, Circuit, Ip4) {

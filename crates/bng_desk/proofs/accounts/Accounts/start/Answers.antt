@@ -1,5 +1,5 @@
 use Rattle.std.proofs.Common.{[], ◌∷◌, refl, subst}
-use Rattle.bng_shard.specs.Protocol.{key_of}
+use Rattle.bng_steps.specs.Protocol.{key_of}
 use Rattle.bng_desk.specs.Taking.{Accounts, BooksStarts}
 use Rattle.bng_desk.proofs.Booking.{starts_one}
 use Rattle.bng_desk.proofs.accounts.Accounts.start.Goals as goal

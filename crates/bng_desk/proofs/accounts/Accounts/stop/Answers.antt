@@ -1,5 +1,5 @@
 use Rattle.std.proofs.Common.{[], ◌∷◌, refl, subst}
-use Rattle.bng_shard.specs.Protocol.{stop_of}
+use Rattle.bng_steps.specs.Protocol.{stop_of}
 use Rattle.bng_desk.specs.Taking.{Accounts, BooksStops}
 use Rattle.bng_desk.proofs.Booking.{books_one}
 use Rattle.bng_desk.proofs.accounts.Accounts.stop.Goals as goal

@@ -19,12 +19,13 @@ use Rattle.bng_engine.specs.Terms.{Key, keys}
 use Rattle.bng_engine.specs.Views.{ShardView}
 use Rattle.bng_discovery.specs.declared.port.PortRules.{PortRules}
 use Rattle.bng_profile.specs.Books.{AreDifferent, names_of}
-use Rattle.bng_shard.specs.declared.rules.Rules.{Rules}
-use Rattle.bng_shard.specs.Interims.{Reports, no_reports}
-use Rattle.bng_shard.specs.Lasting.{AreTenures}
-use Rattle.bng_shard.specs.Protocol.{HasPools, ShardState, opened, terms_of}
-use Rattle.bng_shard.proofs.RowLaws.{new_keys}
-use Rattle.bng_shard.specs.Questions.{none_handed}
+use Rattle.bng_steps.specs.declared.rules.Rules.{Rules}
+use Rattle.bng_steps.specs.Interims.{Reports, no_reports}
+use Rattle.bng_steps.specs.Lasting.{AreTenures}
+use Rattle.bng_steps.specs.Protocol.{ShardState, opened, terms_of}
+use Rattle.bng_shard.specs.Handling.{HasPools}
+use Rattle.bng_steps.proofs.RowLaws.{new_keys}
+use Rattle.bng_steps.specs.Questions.{none_handed}
 use Rattle.bng_desk.specs.declared.accounts.Stopped.{Stopped}
 use Rattle.bng_desk.specs.declared.line.Line.{Line}
 use Rattle.bng_desk.specs.Accounting.{AreBilled, IsStartOf, KnowsBegun}

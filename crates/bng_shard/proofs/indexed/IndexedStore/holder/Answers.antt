@@ -1,5 +1,5 @@
 use Rattle.std.proofs.Common.{sym, refl, ◌∙◌}
-use Rattle.bng_shard.proofs.Scanning.{holder_is, holder_none}
+use Rattle.bng_steps.proofs.Scanning.{holder_is, holder_none}
 use Rattle.bng_shard.proofs.indexed.IndexedStore.holder.Goals as goal
 
 pub returns-in_err-number : goal.returns-in_err-number

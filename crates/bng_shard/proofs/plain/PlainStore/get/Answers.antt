@@ -2,7 +2,7 @@ use Rattle.std.proofs.Common.{◌≡◌, ◌<◌, ◌∙◌, ℕ, List, Some, No
 use Rattle.std.specs.Cmp.{nat_cmp_total}
 use Rattle.std.specs.FinMap.{get-from_sorted}
 use Rattle.std.specs.Ordering.{nat_cmp}
-use Rattle.bng_shard.specs.declared.session.Session.{Session}
+use Rattle.bng_steps.specs.declared.session.Session.{Session}
 use Rattle.bng_sessions.proofs.Entries.{found_here, not_here}
 use Rattle.bng_shard.proofs.plain.PlainStore.get.Goals as goal
 

@@ -1,8 +1,8 @@
 use Rattle.std.proofs.Common.{◌≤◌, sym, ap, subst, ◌∙◌, arith}
 use Rattle.std.specs.List.{All}
-use Rattle.bng_shard.specs.declared.terms.Running.{Running}
-use Rattle.bng_shard.specs.Running.{AreTied, TermsView}
-use Rattle.bng_shard.proofs.SameKeys.{same_apart, same_keys, same_numbered}
+use Rattle.bng_steps.specs.declared.terms.Running.{Running}
+use Rattle.bng_steps.specs.Running.{AreTied, TermsView}
+use Rattle.bng_steps.proofs.SameKeys.{same_apart, same_keys, same_numbered}
 use Rattle.bng_shard.proofs.shard.Shard.charge.Goals as goal
 
 pub invariant_of-self : goal.invariant_of-self

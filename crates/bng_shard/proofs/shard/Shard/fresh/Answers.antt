@@ -1,8 +1,8 @@
 use Rattle.std.proofs.Common.{◌≤◌, ◌≢◌, false, List, sym, ap, subst, arith}
 use Rattle.std.specs.List.{All, AllPairs}
-use Rattle.bng_shard.specs.declared.terms.Running.{Running}
-use Rattle.bng_shard.specs.Running.{AreTied, TermsView, tenure_in, tenures_in}
-use Rattle.bng_shard.proofs.LeavingFirst.{left_all}
+use Rattle.bng_steps.specs.declared.terms.Running.{Running}
+use Rattle.bng_steps.specs.Running.{AreTied, TermsView, tenure_in, tenures_in}
+use Rattle.bng_steps.proofs.LeavingFirst.{left_all}
 use Rattle.bng_shard.proofs.Reaping.{tells_so, told_shown}
 use Rattle.bng_shard.proofs.shard.Shard.fresh.Goals as goal
 

@@ -1,8 +1,8 @@
 use Rattle.std.proofs.Common.{◌≡◌, [], sym, subst}
 use Rattle.bng_base.specs.declared.item.Entry.{Entry}
 use Rattle.bng_engine.specs.Views.{ShardView}
-use Rattle.bng_shard.specs.Protocol.{ShardState}
-use Rattle.bng_shard.proofs.Idle.{no_rows}
+use Rattle.bng_steps.specs.Protocol.{ShardState}
+use Rattle.bng_steps.proofs.Idle.{no_rows}
 use Rattle.bng_shard.proofs.shard.Shard.has_news.Goals as goal
 
 pub returns-clause-some : goal.returns-clause-some

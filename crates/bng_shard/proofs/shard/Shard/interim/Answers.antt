@@ -3,10 +3,10 @@ use Rattle.std.specs.Prelude.{drop, slice_get}
 use Rattle.bng_base.specs.declared.item.Entry.{Entry}
 use Rattle.bng_engine.specs.Views.{Row, ShardView}
 use Rattle.bng_sessions.specs.Sessions.{value_at}
-use Rattle.bng_shard.specs.Interims.{Reports, owed, reported_at, row_in, row_told}
-use Rattle.bng_shard.specs.Protocol.{ShardState}
-use Rattle.bng_shard.specs.Running.{rows_in}
-use Rattle.bng_shard.proofs.Owing.{first_owing, first_part, none_owing}
+use Rattle.bng_steps.specs.Interims.{Reports, owed, reported_at, row_in, row_told}
+use Rattle.bng_steps.specs.Protocol.{ShardState}
+use Rattle.bng_steps.specs.Running.{rows_in}
+use Rattle.bng_steps.proofs.Owing.{first_owing, first_part, none_owing}
 use Rattle.bng_shard.proofs.shard.Shard.interim.Goals as goal
 
 pub returns-then-not-may_report-clause-first : goal.returns-then-not-may_report-clause-first

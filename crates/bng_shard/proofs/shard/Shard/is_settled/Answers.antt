@@ -1,10 +1,10 @@
 use Rattle.std.proofs.Common.{◌≡◌, [], sym, subst}
 use Rattle.bng_base.specs.declared.item.Entry.{Entry}
 use Rattle.bng_engine.specs.Views.{ShardView}
-use Rattle.bng_shard.specs.Protocol.{ShardState, ended_terms}
-use Rattle.bng_shard.proofs.Idle.{rows_none_over, whole_settled}
-use Rattle.bng_shard.proofs.LeavingFirst.{none_over}
-use Rattle.bng_shard.proofs.Wishing.{not_false, not_so}
+use Rattle.bng_steps.specs.Protocol.{ShardState, ended_terms}
+use Rattle.bng_steps.proofs.Idle.{rows_none_over, whole_settled}
+use Rattle.bng_steps.proofs.LeavingFirst.{none_over}
+use Rattle.bng_steps.proofs.Wishing.{not_false, not_so}
 use Rattle.bng_shard.proofs.shard.Shard.is_settled.Goals as goal
 
 pub returns-then-not-has_over-clause-settled : goal.returns-then-not-has_over-clause-settled

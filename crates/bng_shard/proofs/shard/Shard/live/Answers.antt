@@ -2,8 +2,8 @@ use Rattle.std.proofs.Common.{◌<◌, ◌^◌, true, false, sym, subst}
 use Rattle.bng_base.specs.declared.item.Entry.{Entry}
 use Rattle.bng_engine.specs.Quantities.{Octets, Packets, in_book}
 use Rattle.bng_engine.specs.Views.{ShardView}
-use Rattle.bng_shard.specs.Live.{live_in}
-use Rattle.bng_shard.specs.Protocol.{ShardState}
+use Rattle.bng_steps.specs.Live.{live_in}
+use Rattle.bng_steps.specs.Protocol.{ShardState}
 use Rattle.bng_shard.proofs.shard.Shard.live.Goals as goal
 
 pub live-requires-clause-input : goal.live-requires-clause-input

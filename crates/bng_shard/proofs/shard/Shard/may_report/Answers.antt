@@ -1,5 +1,5 @@
 use Rattle.std.proofs.Common.{sym, ◌∙◌}
-use Rattle.bng_shard.proofs.Owing.{no_answers, none_owing, not_come, once_due}
+use Rattle.bng_steps.proofs.Owing.{no_answers, none_owing, not_come, once_due}
 use Rattle.bng_shard.proofs.shard.Shard.may_report.Goals as goal
 
 pub returns-else-answered-clause-awaits : goal.returns-else-answered-clause-awaits

@@ -4,12 +4,12 @@ use Rattle.std.proofs.lemmas.List.{length-replicate}
 use Rattle.bng_base.specs.declared.book.Profile.{Profile}
 use Rattle.bng_base.specs.declared.item.Entry.{Entry}
 use Rattle.bng_engine.specs.Quantities.{empty_book}
-use Rattle.bng_shard.specs.declared.terms.Running.{Running}
+use Rattle.bng_steps.specs.declared.terms.Running.{Running}
 use Rattle.bng_shard.specs.Fits.{begun_in}
-use Rattle.bng_shard.specs.Opening.{opened_slots}
-use Rattle.bng_shard.specs.Running.{rows_in, whole}
-use Rattle.bng_shard.specs.State.{State}
-use Rattle.bng_shard.proofs.Opened.{opened_numbered, opened_placed, opened_rows_apart, opened_tied, opened_view, opened_whole}
+use Rattle.bng_steps.specs.Opening.{opened_slots}
+use Rattle.bng_steps.specs.Running.{rows_in, whole}
+use Rattle.bng_steps.specs.State.{State}
+use Rattle.bng_steps.proofs.Opened.{opened_numbered, opened_placed, opened_rows_apart, opened_tied, opened_view, opened_whole}
 use Rattle.bng_shard.proofs.shard.Shard.open.Goals as goal
 
 pub invariant_of-result : goal.invariant_of-result

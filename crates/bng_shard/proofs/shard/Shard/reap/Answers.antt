@@ -3,15 +3,16 @@ use Rattle.std.specs.List.{All, AllPairs}
 use Rattle.bng_base.specs.declared.item.Entry.{Entry}
 use Rattle.bng_engine.specs.Views.{ShardView}
 use Rattle.bng_sessions.specs.Sessions.{Sessions}
-use Rattle.bng_shard.specs.declared.session.Session.{Session}
-use Rattle.bng_shard.specs.declared.terms.Running.{Running}
-use Rattle.bng_shard.specs.Fits.{ArePlaced}
-use Rattle.bng_shard.specs.Protocol.{AreHeld, ShardState, terms_of}
-use Rattle.bng_shard.specs.Running.{AreTied, TermsView, tenures_in}
-use Rattle.bng_shard.specs.State.{State, leaves}
-use Rattle.bng_shard.proofs.LeavingFirst.{left_all, left_pairs, none_over}
+use Rattle.bng_steps.specs.declared.session.Session.{Session}
+use Rattle.bng_steps.specs.declared.terms.Running.{Running}
+use Rattle.bng_steps.specs.Placed.{ArePlaced}
+use Rattle.bng_steps.specs.Protocol.{ShardState, terms_of}
+use Rattle.bng_shard.specs.Handling.{AreHeld}
+use Rattle.bng_steps.specs.Running.{AreTied, TermsView, tenures_in}
+use Rattle.bng_steps.specs.State.{State, leaves}
+use Rattle.bng_steps.proofs.LeavingFirst.{left_all, left_pairs, none_over}
 use Rattle.bng_shard.proofs.Reaping.{ended_said, ended_so, held_here, held_still, placed_kept, reaped_shown, tied_kept, tied_left}
-use Rattle.bng_shard.proofs.Values.{kept}
+use Rattle.bng_steps.proofs.Values.{kept}
 use Rattle.bng_shard.proofs.shard.Shard.reap.Goals as goal
 
 pub invariant_of-self : goal.invariant_of-self

@@ -8,11 +8,12 @@ use Rattle.bng_base.specs.declared.item.OutRecord.{OutRecord}
 use Rattle.bng_engine.specs.Books.{BooksRise}
 use Rattle.bng_engine.specs.Views.{ShardView}
 use Rattle.bng_shard.specs.Fits.{begun_in, owed}
-use Rattle.bng_shard.specs.Protocol.{AreHeld, AnswersClaim, Handles, HasPools, ShardState, entry_of, entry_with, terms_of}
+use Rattle.bng_steps.specs.Protocol.{ShardState, entry_of, entry_with, terms_of}
+use Rattle.bng_shard.specs.Handling.{AreHeld, AnswersClaim, Handles, HasPools}
 use Rattle.bng_shard.specs.Room.{is_tick, is_end, has_tick, has_end}
-use Rattle.bng_shard.specs.Running.{rows_in, whole}
-use Rattle.bng_shard.specs.Sums.{AreLow, Rises}
-use Rattle.bng_shard.specs.Wished.{IsAnswered}
+use Rattle.bng_steps.specs.Running.{rows_in, whole}
+use Rattle.bng_steps.specs.Sums.{AreLow, Rises}
+use Rattle.bng_steps.specs.Wished.{IsAnswered}
 use Rattle.bng_shard.proofs.AskedPool.{claimed_within, wished_may}
 use Rattle.bng_shard.proofs.KeyLaws.{are_tied, fit_rows, keys_of_rows, news_numbered, rows_apart, rows_free, rows_numbered}
 use Rattle.bng_shard.proofs.Stepping.{begun_more, claimed_free, few_answers, fit_after, handles, held_after, moved_begun, moved_held, moved_holds, moved_placed, owed_more, slice_after, view}

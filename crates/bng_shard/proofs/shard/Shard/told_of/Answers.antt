@@ -2,12 +2,12 @@ use Rattle.std.proofs.Common.{◌≡◌, option_map, ap, sym, ◌∙◌}
 use Rattle.bng_base.specs.declared.item.Entry.{Entry}
 use Rattle.bng_engine.specs.Views.{Row, ShardView}
 use Rattle.bng_sessions.specs.Sessions.{value_at}
-use Rattle.bng_shard.specs.declared.session.Lease.{Lease}
-use Rattle.bng_shard.specs.declared.session.Session.{Session}
-use Rattle.bng_shard.specs.Interims.{row_told}
-use Rattle.bng_shard.specs.Protocol.{ShardState}
-use Rattle.bng_shard.proofs.RowsByNumber.{row_of_lease}
-use Rattle.bng_shard.proofs.Values.{none_some, same_some}
+use Rattle.bng_steps.specs.declared.session.Lease.{Lease}
+use Rattle.bng_steps.specs.declared.session.Session.{Session}
+use Rattle.bng_steps.specs.Interims.{row_told}
+use Rattle.bng_steps.specs.Protocol.{ShardState}
+use Rattle.bng_steps.proofs.RowsByNumber.{row_of_lease}
+use Rattle.bng_steps.proofs.Values.{none_some, same_some}
 use Rattle.bng_shard.proofs.shard.Shard.told_of.Goals as goal
 
 pub unreachable-requires-in_default-told_of : goal.unreachable-requires-in_default-told_of

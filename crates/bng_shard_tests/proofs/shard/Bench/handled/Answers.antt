@@ -1,7 +1,7 @@
 use Rattle.std.proofs.Common.{◌≡◌, length, sym, ap, subst, ◌∙◌}
 use Rattle.bng_base.specs.declared.item.Entry.{Entry}
 use Rattle.bng_engine.specs.Views.{ShardView}
-use Rattle.bng_shard.specs.Protocol.{ShardState, entry_of}
+use Rattle.bng_steps.specs.Protocol.{ShardState, entry_of}
 use Rattle.bng_shard_tests.proofs.Benches.{handled, remains}
 use Rattle.bng_shard_tests.proofs.shard.Bench.handled.Goals as goal
 

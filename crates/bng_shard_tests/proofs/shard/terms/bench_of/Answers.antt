@@ -1,5 +1,6 @@
 use Rattle.std.proofs.Common.{◌≡◌, ℕ, length, true, sym, ap, subst, ◌∙◌, arith}
-use Rattle.bng_shard.specs.Protocol.{ShardState, AreHeld, HasPools, terms_of}
+use Rattle.bng_steps.specs.Protocol.{ShardState, terms_of}
+use Rattle.bng_shard.specs.Handling.{AreHeld, HasPools}
 use Rattle.bng_shard_tests.proofs.Benches.{held_opened, no_pools}
 use Rattle.bng_shard_tests.proofs.shard.terms.bench_of.Goals as goal
 

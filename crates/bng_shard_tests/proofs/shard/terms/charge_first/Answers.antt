@@ -2,8 +2,8 @@ use Rattle.std.proofs.Common.{◌^◌, true, [], sym, subst}
 use Rattle.bng_base.specs.declared.item.Entry.{Entry}
 use Rattle.bng_engine.specs.Protocol.{IsOwned}
 use Rattle.bng_engine.specs.Views.{ShardView, row_keys}
-use Rattle.bng_shard.specs.Protocol.{ShardState}
-use Rattle.bng_shard.specs.Sums.{RowsAreLow}
+use Rattle.bng_steps.specs.Protocol.{ShardState}
+use Rattle.bng_steps.specs.Sums.{RowsAreLow}
 use Rattle.bng_shard_tests.proofs.OneCircuit.{row_low, row_owned}
 use Rattle.bng_shard_tests.proofs.shard.terms.charge_first.Goals as goal
 

@@ -1,5 +1,0 @@
-use Rattle.bng_shard.proofs.ClaimedTerms.{step_by_claims}
-use Rattle.bng_shard.proofs.laws.terms_begin_by_claims.Goals as goal
-
-pub returns : goal.returns
-returns c = step_by_claims

@@ -1,0 +1,20 @@
+use Rattle.std.proofs.Common.{rules, tests, ◌≡◌, sym, ◌∙◌}
+use Rattle.std.specs.List.{position}
+use Rattle.std.proofs.lemmas.Iterator.{YieldsList-from_slice}
+use Rattle.std.proofs.lemmas.Iterator.Search.{position_from_yields_List}
+use Rattle.bng_steps.specs.Metered.{is_called}
+use Rattle.bng_steps.proofs.meters.place_for.Goals as goal
+
+pub returns-in_err-place : goal.returns-in_err-place
+returns-in_err-place c =
+    let test = is_called c.in-Some.name.now in
+    let first : c.position.result ≡ position test c.args.profiles.now =
+    position_from_yields_List test _ _ c.position.result c.position.ensures.ran (YieldsList-from_slice c.args.profiles.now cc) (λ x b q k. search (rules, tests)) in
+    rw c.in-Some.is (c.from_residual.ensures ∙ sym c.in_err-place.was ∙ first)
+
+pub returns : goal.returns
+returns c =
+    let test = is_called c.in-Some.name.now in
+    let first : c.position.result ≡ position test c.args.profiles.now =
+    position_from_yields_List test _ _ c.position.result c.position.ensures.ran (YieldsList-from_slice c.args.profiles.now cc) (λ x b q k. search (rules, tests)) in
+    rw c.in-Some.is (sym c.in_ok-place.was ∙ first)

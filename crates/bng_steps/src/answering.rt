@@ -1,0 +1,58 @@
+ghost use Rattle.std.specs.Prelude.{◌≡◌, ◌⊎◌, ◌≤◌, List, Some, None as Nothing, length};
+ghost use Rattle.bng_base.specs.declared.address.SessionNo.{SessionNo as Number};
+ghost use Rattle.bng_base.specs.PppoeGrammar.{PppoeTag, AreTags};
+ghost use Rattle.bng_pppoe_wire.specs.View.{frame_of};
+ghost use Rattle.bng_steps.specs.Discovery.{IsVacancy};
+ghost use Rattle.bng_steps.specs.Replying.{IsReply};
+
+use crate::store::Store;
+use crate::host_uniq::host_uniq;
+use crate::served::Served;
+use bng_base::SessionNo;
+use bng_discovery::{Answer, ErrorTag, PortRules, answer};
+use bng_pppoe_wire::Pppoe;
+
+/// What a discovery frame is answered.
+#[derive(Clone, Copy)]
+pub enum Reply {
+    /// A PADO.
+    Offer,
+    /// A session is made with this number, and its PADS sent.
+    Make(SessionNo),
+    /// The PADS of the session with this number.
+    Again(SessionNo),
+    /// A PADS that gives no session.
+    Refuse(ErrorTag),
+    Nothing,
+}
+
+// A new session, where there may be one more.
+fn make_or_refuse<S: Store>(served: &Served<S>) -> Reply
+    ensures make { (n : Number) → result ≡ Reply.Make n → IsVacancy served.now (Some n.0) }
+    ensures refuse { (result ≡ Reply.Refuse ErrorTag.AcSystemError × IsVacancy served.now Nothing) ⊎ ((n : Number) × (result ≡ Reply.Make n)) }
+{
+    match served.vacant() {
+        Some(number) => Reply::Make(number),
+        None => Reply::Refuse(ErrorTag::AcSystemError),
+    }
+}
+
+/// What a frame that came to the port with this number is answered (RFC 2516 section 5).
+pub fn reply_to<S: Store>(served: &Served<S>, number: u8, offers: &PortRules, frame: &Pppoe<'_>) -> Reply
+    requires { (ts : List PppoeTag) × AreTags ts frame.now.payload.now × (length ts ≤ 64) }
+    ensures { (ts : List PppoeTag) → AreTags ts frame.now.payload.now → IsReply result served.now number offers.now (frame_of frame.now) ts }
+{
+    let found = served.repeated(number, frame.src, host_uniq(frame));
+    match answer(frame, offers, found.is_some(), true) {
+        Answer::Offer => Reply::Offer,
+        Answer::Make => make_or_refuse(served),
+        Answer::Again => match found {
+            Some(session) => Reply::Again(session),
+            None => Reply::Nothing,
+        },
+        Answer::Refuse(error) => Reply::Refuse(error),
+        Answer::Ended => Reply::Nothing,
+        Answer::NoSession => Reply::Nothing,
+        Answer::Ignore => Reply::Nothing,
+    }
+}
