@@ -3,4 +3,3 @@ pub mod KeyLaws
 pub mod Stepping
 pub mod Reaping
 pub mod AskedPool
-pub mod PlainLaws

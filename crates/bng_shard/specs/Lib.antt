@@ -1,4 +1,3 @@
 pub mod Room
 pub mod Fits
-pub mod Plain
 pub mod Handling

@@ -9,8 +9,6 @@
 mod claim;
 mod holder;
 mod indexed;
-mod plain;
-mod plain_step;
 mod shard;
 mod showing;
 

@@ -21,15 +21,9 @@ ghost use Rattle.bng_sessions.specs.Sessions.{IsNumberOf, value_at};
 ghost use Rattle.bng_steps.specs.Serving.{KeepsLease};
 ghost use Rattle.bng_steps.specs.State.{with_session};
 
-use bng_steps::Answer;
-use bng_steps::hear_core;
-use bng_steps::hear;
-use bng_steps::Incoming;
 use crate::plain::Plain;
-use bng_steps::Served;
-use bng_steps::Session;
-use bng_steps::Terms;
 use bng_base::{Batch, Claim, Fate, OutRecord};
+use bng_steps::{Answer, Incoming, Served, Session, Terms, hear, hear_core};
 
 /// Puts a session at a number that is not used, whoever has its address.
 pub(crate) fn put_plainly(served: &mut Served<Plain>, session: Session)

@@ -3,8 +3,8 @@ use Rattle.std.proofs.lemmas.Iterator.{YieldsList-from_slice}
 use Rattle.std.proofs.lemmas.Iterator.Search.{find_from_yields_List}
 use Rattle.bng_steps.specs.declared.session.Session.{Session}
 use Rattle.bng_steps.specs.State.{leases}
-use Rattle.bng_shard.proofs.PlainLaws.{holder_seen}
-use Rattle.bng_shard.proofs.plain.PlainStore.holder.Goals as goal
+use Rattle.bng_steps_tests.proofs.PlainLaws.{holder_seen}
+use Rattle.bng_steps_tests.proofs.plain.PlainStore.holder.Goals as goal
 
 pub returns-in-Some : goal.returns-in-Some
 returns-in-Some c =

@@ -5,9 +5,9 @@ use Rattle.std.specs.Ordering.{nat_cmp}
 use Rattle.bng_steps.specs.declared.session.Session.{Session}
 use Rattle.bng_sessions.proofs.Entries.{Removed, found_here, not_here, nothing_leaves, remove_leaves}
 use Rattle.bng_steps.specs.Serving.{AreOfShard}
-use Rattle.bng_shard.proofs.PlainLaws.{take_seen}
+use Rattle.bng_steps_tests.proofs.PlainLaws.{take_seen}
 use Rattle.bng_steps.proofs.Serves.{of_shard_take}
-use Rattle.bng_shard.proofs.plain.PlainStore.remove.Goals as goal
+use Rattle.bng_steps_tests.proofs.plain.PlainStore.remove.Goals as goal
 
 leaves : (c : goal.After-remove) → Removed nat_cmp nat_cmp_total c.self.inside.sessions.items c.remove.new.self.items c.args.number.0
 leaves c =

@@ -8,12 +8,11 @@ ghost use Rattle.bng_steps.specs.State.{leases};
 ghost use Rattle.bng_steps.specs.Timers.{deadline_of};
 ghost use Rattle.bng_steps.specs.declared.session.Session.{Session as Seen};
 ghost use Rattle.bng_sessions.specs.Sessions.{Sessions, read_at};
-ghost use Rattle.bng_shard.specs.Plain.{IsBest};
+ghost use Rattle.bng_steps_tests.specs.Plain.{IsBest};
 
-use bng_steps::Session;
-use bng_steps::Store;
 use bng_base::{Ip4, SessionNo};
 use bng_sessions::Slotted;
+use bng_steps::{Session, Store};
 use std::cmp::Ordering;
 use std::marker::Model;
 
@@ -34,7 +33,7 @@ impl Model for Plain {
 
     ghost coded = { sessions_code the_row.coded };
 
-    ghost use Rattle.bng_shard.specs.Plain.{IsPlain, seen};
+    ghost use Rattle.bng_steps_tests.specs.Plain.{IsPlain, seen};
 
     ghost view = { λ a. seen a.shard a.sessions.items };
 

@@ -6,9 +6,9 @@ use Rattle.bng_steps.specs.declared.session.Session.{Session}
 use Rattle.bng_sessions.specs.Sessions.{Sessions}
 use Rattle.bng_sessions.proofs.Entries.{Inserted, found_some, insert_leaves}
 use Rattle.bng_steps.specs.Serving.{AreOfShard}
-use Rattle.bng_shard.proofs.PlainLaws.{few, put_seen}
+use Rattle.bng_steps_tests.proofs.PlainLaws.{few, put_seen}
 use Rattle.bng_steps.proofs.Serves.{of_shard_put}
-use Rattle.bng_shard.proofs.plain.PlainStore.put.Goals as goal
+use Rattle.bng_steps_tests.proofs.plain.PlainStore.put.Goals as goal
 
 pub unreachable-requires : goal.unreachable-requires
 unreachable-requires c =

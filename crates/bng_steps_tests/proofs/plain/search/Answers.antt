@@ -3,7 +3,7 @@ use Rattle.std.proofs.lemmas.Fn.{always_returns_same}
 use Rattle.std.specs.Cmp.{nat_cmp_total}
 use Rattle.std.specs.Ordering.{nat_cmp}
 use Rattle.bng_sessions.proofs.Entries.{searched}
-use Rattle.bng_shard.proofs.plain.search.Goals as goal
+use Rattle.bng_steps_tests.proofs.plain.search.Goals as goal
 
 pub returns : goal.returns
 returns c =

@@ -4,7 +4,7 @@ use Rattle.std.specs.FinMap.{get-from_sorted}
 use Rattle.std.specs.Ordering.{nat_cmp}
 use Rattle.bng_steps.specs.declared.session.Session.{Session}
 use Rattle.bng_sessions.proofs.Entries.{found_here, not_here}
-use Rattle.bng_shard.proofs.plain.PlainStore.get.Goals as goal
+use Rattle.bng_steps_tests.proofs.plain.PlainStore.get.Goals as goal
 
 pub returns-in-Ok : goal.returns-in-Ok
 returns-in-Ok c =

@@ -1,6 +1,6 @@
 use Rattle.std.proofs.Common.{◌∙◌, sym, arith}
-use Rattle.bng_shard.proofs.PlainLaws.{few, used_seen}
-use Rattle.bng_shard.proofs.plain.PlainStore.count.Goals as goal
+use Rattle.bng_steps_tests.proofs.PlainLaws.{few, used_seen}
+use Rattle.bng_steps_tests.proofs.plain.PlainStore.count.Goals as goal
 
 pub overflow_cast-result : goal.overflow_cast-result
 overflow_cast-result c =

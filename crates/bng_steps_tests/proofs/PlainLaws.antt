@@ -10,7 +10,7 @@ use Rattle.bng_sessions.specs.Sessions.{Sessions, used, value_at, with_value, wi
 use Rattle.bng_sessions.specs.Listed.{values}
 use Rattle.bng_sessions.proofs.Entries.{Inserted, Removed}
 use Rattle.bng_steps.specs.declared.session.Session.{Session}
-use Rattle.bng_shard.specs.Plain.{seen}
+use Rattle.bng_steps_tests.specs.Plain.{seen}
 use Rattle.bng_steps.specs.Serving.{AreOfShard}
 use Rattle.bng_steps.proofs.Listing.{passing_most}
 use Rattle.bng_steps.proofs.Values.{used_is}

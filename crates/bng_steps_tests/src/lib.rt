@@ -1,0 +1,7 @@
+//! The step of a shard over a plain store: worked examples of `bng_steps`.
+#![tactic(auto)]
+
+#[cfg(test)]
+mod plain;
+#[cfg(test)]
+mod plain_step;
