@@ -6,10 +6,9 @@ ghost use Rattle.bng_shard.specs.Handling.{AnswersClaim, HasPools};
 ghost use Rattle.bng_steps.specs.Wished.{MayWish};
 ghost use Rattle.bng_steps.specs.Wishes.{IsAnswerTo};
 
-use bng_steps::Rules;
-use bng_steps::Wish;
 use bng_base::Claim;
 use bng_pool::PlainPool;
+use bng_steps::{Rules, Wish};
 
 /// What the pool answers to a wish of the shard with this number. Its ranges are those of the rules' pools, at the same places.
 pub(crate) fn ask(pool: &mut PlainPool, _rules: &Rules, shard: u16, wish: Wish) -> Claim

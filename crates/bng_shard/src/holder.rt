@@ -3,11 +3,9 @@ ghost use Rattle.std.specs.Prelude.{◌≡◌, ◌<◌, ◌≤◌, ℕ};
 ghost use Rattle.bng_pool.specs.Tables.{entry};
 ghost use Rattle.bng_steps.specs.Whose.{IsHeldOr, IsWhose};
 
-use bng_steps::{Destination, destination_of};
-use bng_steps::Rules;
-use bng_steps::Whose;
 use bng_base::{Fate, Ip4, Item};
 use bng_pool::PlainPool;
+use bng_steps::{Destination, Rules, Whose, destination_of};
 
 /// Where an item is handled: where it leads, by the table of addresses where it leads to a holder.
 pub fn whose_is(rules: &Rules, pool: &PlainPool, item: &Item) -> Whose

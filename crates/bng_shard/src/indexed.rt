@@ -2,10 +2,9 @@
 ghost use Rattle.std.specs.Prelude.{◌≡◌, ◌≤◌, IfOk};
 ghost use Rattle.std.specs.FinMap.{empty};
 
-use bng_steps::Session;
-use bng_steps::Store;
 use bng_base::{Ip4, SessionNo};
 use bng_slots::{SlotError, Slots};
+use bng_steps::{Session, Store};
 use std::alloc::Global;
 
 /// The sessions of a shard by number, found by their addresses too. No two of them have one address.

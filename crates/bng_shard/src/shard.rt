@@ -1,5 +1,5 @@
 //! One shard.
-ghost use Rattle.std.specs.Prelude.{ℕ, Some, IsSome, ◌⊎◌, drop, slice_get, IfSome, IfNone, ◌≡◌, ◌≢◌, ◌≤◌, ◌<◌, ◌+◌, ◌*◌, ◌^◌, [], true, IfOk, OnOk, length, option_map, replicate};
+ghost use Rattle.std.specs.Prelude.{ℕ, Some, drop, slice_get, IfSome, IfNone, ◌≡◌, ◌≢◌, ◌≤◌, ◌<◌, ◌+◌, ◌^◌, [], IfOk, OnOk, length, option_map, replicate};
 ghost use Rattle.bng_engine.specs.Calls.{Kept, IsReady};
 ghost use Rattle.bng_engine.specs.Protocol.{IsOwned};
 ghost use Rattle.bng_engine.specs.Quantities.{empty_book};
@@ -20,24 +20,16 @@ ghost use Rattle.bng_steps.specs.State.{reaped};
 ghost use Rattle.bng_steps.specs.Tenures.{LeavesTerms, Tenure};
 ghost use Rattle.bng_steps.specs.Sums.{charged_as, AreCovered, AreLow, IsLow, RowsAreLow};
 
-use bng_steps::Answer;
-use bng_steps::ShardError;
-use crate::indexed::Indexed;
 use crate::claim::{ask, left_after};
-use bng_steps::hear;
-use bng_steps::Incoming;
-use bng_steps::Reports;
-use bng_steps::Rules;
-use bng_steps::{Served, Survey};
-use bng_steps::{Charged, book, charged_as, tally};
-use bng_steps::{EndedTerm, LiveTerm, ReportedTerm};
-use bng_steps::stop_from;
-use bng_steps::Terms;
-use bng_steps::wish_for;
+use crate::indexed::Indexed;
 use bng_base::{At, Batch, Book, Entry, Fate, Item, LONGEST, OutRecord, SessionNo, Static};
 use bng_coa::ChangeVerdict;
 use bng_pool::PlainPool;
 use bng_profile::Profiles;
+use bng_steps::{
+    Answer, Charged, EndedTerm, Incoming, LiveTerm, ReportedTerm, Reports, Rules, Served,
+    ShardError, Survey, Terms, book, charged_as, hear, stop_from, tally, wish_for,
+};
 use std::alloc::{AllocError, Global};
 use std::marker::Model;
 use std::mem;
@@ -100,59 +92,6 @@ impl Model for Shard {
     ghost invariant = { Fits };
 }
 
-/// How many outs an item has at most, a Tick and an End aside.
-const OUTS: usize = 10;
-/// How many a Tick and an End have in all, and the last session of a Tick might have beside them.
-const TIMED_OUTS: usize = 645;
-
-/// For how many items a round makes room at first: as many as a turn of the desk has at most, so that no later round makes the lists
-/// anew. Of the room only what is used is touched.
-const ITEMS_AT_FIRST: usize = 736;
-
-// Makes room for a round of so many items in lists that are empty, and says whether there is.
-fn reserve(journal: &mut Batch<Entry>, outs: &mut Batch<OutRecord>, items: usize) -> bool
-    requires few { items < 2 ^ 16 }
-    requires none { (journal.old.items ≡ []) × (outs.old.items ≡ []) }
-    ensures none_still { (journal.new.items ≡ []) × (outs.new.items ≡ []) }
-    ensures journal { result ≡ true → items ≤ journal.new.room }
-    ensures outs { result ≡ true → 10 * items + 645 ≤ outs.new.room }
-{
-    if journal.reserve(items).is_err() {
-        return false;
-    }
-    outs.reserve(OUTS * items + TIMED_OUTS).is_ok()
-}
-
-// The same, with room for a full round where there is memory for that.
-fn reserve_amply(journal: &mut Batch<Entry>, outs: &mut Batch<OutRecord>, items: usize) -> bool
-    requires few { items < 2 ^ 16 }
-    requires none { (journal.old.items ≡ []) × (outs.old.items ≡ []) }
-    ensures none_still { (journal.new.items ≡ []) × (outs.new.items ≡ []) }
-    ensures journal { result ≡ true → items ≤ journal.new.room }
-    ensures outs { result ≡ true → 10 * items + 645 ≤ outs.new.room }
-{
-    if items < ITEMS_AT_FIRST && reserve(journal, outs, ITEMS_AT_FIRST) {
-        return true;
-    }
-    reserve(journal, outs, items)
-}
-
-// Hands out what is on a list. Its memory goes along, but stays where nothing was on it.
-fn handed_out<T: Drop>(list: &mut Batch<T>, alloc: Global) -> Batch<T>
-    ensures items { result.items ≡ list.old.items }
-    ensures none { list.new.items ≡ [] }
-{
-    if list.len() == 0 {
-        return Batch::new(alloc);
-    }
-    mem::replace(list, Batch::new(alloc))
-}
-
-// Whether a journal was handed out with its memory, after one more.
-fn is_lent(lent: bool, journal: &Batch<Entry>) -> bool {
-    lent || journal.len() > 0
-}
-
 // A book for each profile of these rules, in which nothing stands.
 fn books_of(alloc: Global, rules: &Rules) -> Result<Profiles, ShardError>
     requires some_profile { 0 < length rules.now.profiles }
@@ -199,8 +138,14 @@ impl Shard {
         let Ok(sessions) = Indexed::open(alloc, number) else {
             return Err(ShardError::OutOfMemory);
         };
-        let Ok(served) = Served::open(alloc, sessions, number, rules.profiles.as_slice(), circuits, now)
-        else {
+        let Ok(served) = Served::open(
+            alloc,
+            sessions,
+            number,
+            rules.profiles.as_slice(),
+            circuits,
+            now,
+        ) else {
             return Err(ShardError::OutOfMemory);
         };
         prove!(served.count() <= 1022);
@@ -373,58 +318,6 @@ impl Shard {
         }
         let answer = self.changed.remove(0);
         Some((answer.ask, answer.verdict))
-    }
-
-    /// Hands out the live term of the lowest session number whose Interim (RFC 2869 section 5.16) is due at this moment, in milliseconds, and
-    /// takes that Interim: the next one counts from this moment. None exactly where none is due. Which were taken is kept in `reports`, which
-    /// is this shard's alone. Until one may be due it looks at no session, unless requests for changes were answered that were not told yet:
-    /// they may have brought one forward. It is called once the Stops of a round were formed.
-    pub fn interim(&self, reports: &mut Reports, now: u64) -> Option<ReportedTerm>
-        requires moment { now < 2 ^ 60 }
-        requires awaits { self.now.state.changed ≡ [] → AwaitsInterims self.now.state.slots reports.old }
-        ensures first { option_map row_told result ≡ slice_get (owed self.now reports.old.last now) 0 }
-        ensures rest { owed self.now reports.new.last now ≡ drop 1 (owed self.now reports.old.last now) }
-        ensures taken { IfSome result (λ t. reports.new.last ≡ with_report reports.old.last now t.term.term.session) }
-        ensures kept { IfNone result (reports.new.last ≡ reports.old.last) }
-        ensures says { IfSome result (λ t. AnyOf (SaysOf t.term.user.items t.term.class.items t.term.began (key_of t.term)) self.now.state.slots.terms) }
-        ensures awaits { self.now.state.changed ≡ [] → AwaitsInterims self.now.state.slots reports.new }
-        ensures all { IfNone result (AwaitsInterims self.now.state.slots reports.new) }
-        ensures soon { (reports.new.next ≡ reports.old.next) ⊎ (reports.new.next ≤ now + 60000) }
-    {
-        if !self.may_report(reports, now) {
-            return None;
-        }
-        match self.served.survey(reports, now) {
-            Survey::Owes(number) => {
-                let told = self.told_of(number);
-                reports.note(number, now);
-                Some(told)
-            }
-            Survey::None { until } => {
-                reports.wait_until(until);
-                None
-            }
-        }
-    }
-
-    // The live term of the session with this number, which has one, and what it carried so far.
-    fn told_of(&self, number: SessionNo) -> ReportedTerm
-        requires { (x : Seen) × (value_at self.now.state.slots.sessions number.0 ≡ Some x) × (x.number ≡ number) × IsSome x.lease }
-        ensures row { (x : Seen) → value_at self.now.state.slots.sessions number.0 ≡ Some x → row_in self.now.rows x ≡ Some (row_told result) }
-        ensures session { result.term.term.session ≡ number }
-        ensures says { AnyOf (SaysOf result.term.user.items result.term.class.items result.term.began (key_of result.term)) self.now.state.slots.terms }
-    {
-        let Some(session) = self.served.get(number) else {
-            unreachable!();
-        };
-        let Some(lease) = session.lease() else {
-            unreachable!();
-        };
-        self.terms.are_rising();
-        let Some(told) = self.terms.told_of(lease.serial) else {
-            unreachable!();
-        };
-        told
     }
 
     /// Keeps an empty list for the journals of the rounds to come, as one that `drain` handed out: its places serve again. No round

@@ -12,12 +12,9 @@ ghost use Rattle.bng_steps.specs.State.{reaped};
 ghost use Rattle.bng_steps.specs.Sums.{traffic_in};
 ghost use Rattle.bng_sessions.specs.Sessions.{IsNumberOf};
 
-use bng_steps::Reports;
-use bng_steps::Handed;
 use crate::shard::Shard;
-use bng_steps::Traffic;
-use bng_steps::LiveTerm;
 use bng_base::{Book, Ip4};
+use bng_steps::{Handed, LiveTerm, Reports, Traffic};
 use bng_verdict::AuthAsk;
 
 impl Shard {

@@ -5,9 +5,9 @@ ghost use Rattle.bng_pppoe_wire.specs.View.{frame_of};
 ghost use Rattle.bng_steps.specs.Discovery.{IsVacancy};
 ghost use Rattle.bng_steps.specs.Replying.{IsReply};
 
-use crate::store::Store;
 use crate::host_uniq::host_uniq;
 use crate::served::Served;
+use crate::store::Store;
 use bng_base::SessionNo;
 use bng_discovery::{Answer, ErrorTag, PortRules, answer};
 use bng_pppoe_wire::Pppoe;
@@ -38,7 +38,12 @@ fn make_or_refuse<S: Store>(served: &Served<S>) -> Reply
 }
 
 /// What a frame that came to the port with this number is answered (RFC 2516 section 5).
-pub fn reply_to<S: Store>(served: &Served<S>, number: u8, offers: &PortRules, frame: &Pppoe<'_>) -> Reply
+pub fn reply_to<S: Store>(
+    served: &Served<S>,
+    number: u8,
+    offers: &PortRules,
+    frame: &Pppoe<'_>,
+) -> Reply
     requires { (ts : List PppoeTag) × AreTags ts frame.now.payload.now × (length ts ≤ 64) }
     ensures { (ts : List PppoeTag) → AreTags ts frame.now.payload.now → IsReply result served.now number offers.now (frame_of frame.now) ts }
 {

@@ -23,13 +23,13 @@ ghost use Rattle.bng_steps.specs.State.{beside_at, call_of, is_port, with_tunnel
 ghost use Rattle.bng_steps.specs.Timed.{TurnedOnce};
 ghost use Rattle.bng_steps.specs.Timers.{does_live, lives_at};
 
-use crate::store::Store;
 use crate::cutting::LOST_CARRIER;
 use crate::drive::drive;
 use crate::in_turn::send_datagrams;
 use crate::incoming::Incoming;
 use crate::served::Served;
 use crate::session::{Made, Service, Session};
+use crate::store::Store;
 use crate::terms::Terms;
 use crate::way::{Called, Way};
 use bng_base::{Batch, OutRecord, SessionNo, TunnelNo, TunnelStep};
@@ -292,7 +292,12 @@ fn take_for_none<S: Store>(
 }
 
 // Whether a message is for the call of a session that lives.
-fn is_for_call<S: Store>(served: &Served<S>, incoming: &Incoming<'_>, number: TunnelNo, session: u16) -> bool
+fn is_for_call<S: Store>(
+    served: &Served<S>,
+    incoming: &Incoming<'_>,
+    number: TunnelNo,
+    session: u16,
+) -> bool
     ensures { result ≡ does_live (call_of served.now incoming.now.item.now.from number.0 session) }
 {
     match served.call_of(incoming.item.from, number.0, SessionNo(session)) {

@@ -16,13 +16,13 @@ ghost use Rattle.bng_steps.specs.Timers.{stays_at};
 ghost use Rattle.bng_steps.specs.declared.changes.Answer.{Answer as AnswerOf};
 ghost use Rattle.bng_steps.specs.declared.session.Session.{Session as Seen};
 
-use crate::store::Store;
 use crate::incoming::Incoming;
 use crate::lapsing::end_term;
 use crate::meters::{Meters, plan_at};
 use crate::rules::Rules;
 use crate::served::Served;
 use crate::session::{Lease, Session};
+use crate::store::Store;
 use crate::terms::Terms;
 use bng_base::{Batch, Fate, OutRecord, SessionNo, TermId};
 use bng_coa::{ChangeVerdict, Wanted, first_refusal, request_in, wanted_by};
@@ -99,7 +99,12 @@ fn lease_for(session: &Session, serial: u64) -> Option<Lease>
 }
 
 // The live term that a request names.
-fn found_by<S: Store>(served: &Served<S>, terms: &Terms, rules: &Rules, request: &Radius<'_>) -> Option<Meant>
+fn found_by<S: Store>(
+    served: &Served<S>,
+    terms: &Terms,
+    rules: &Rules,
+    request: &Radius<'_>,
+) -> Option<Meant>
     ensures { result ≡ option_map meant_of (found_by rules.now (whole served.now terms.now) (packet_of request.now).attributes) }
 {
     let asked = terms.asked_for(rules, request)?;
@@ -113,7 +118,13 @@ fn found_by<S: Store>(served: &Served<S>, terms: &Terms, rules: &Rules, request:
 }
 
 // The meters of a term that is under another profile start full; those of one that is under the same stay.
-fn change_meters<S: Store>(served: &mut Served<S>, number: SessionNo, rules: &Rules, places: (u8, u8), now: u64)
+fn change_meters<S: Store>(
+    served: &mut Served<S>,
+    number: SessionNo,
+    rules: &Rules,
+    places: (u8, u8),
+    now: u64,
+)
     ensures { served.new ≡ record served.old { meters = meters_after rules.now served.old number now places.0 places.1 } }
 {
     let (old, new) = places;

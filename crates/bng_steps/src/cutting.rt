@@ -5,8 +5,8 @@ ghost use Rattle.bng_steps.specs.Cutting.{cut_at, cut_if as cut_where, cut_off a
 ghost use Rattle.bng_steps.specs.Placed.{ArePlaced};
 ghost use Rattle.bng_steps.specs.Running.{whole, KeepSums};
 
-use crate::store::Store;
 use crate::served::{NUMBERS, SPAN, Served};
+use crate::store::Store;
 use crate::terms::Terms;
 use bng_base::{SessionNo, TunnelNo};
 

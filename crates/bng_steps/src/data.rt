@@ -13,7 +13,6 @@ ghost use Rattle.bng_steps.specs.Running.{AreTied, tenures_in, whole};
 ghost use Rattle.bng_steps.specs.State.{session_at, session_of};
 ghost use Rattle.bng_steps.specs.Tenures.{has_kept};
 
-use crate::store::Store;
 use crate::drive::port_of;
 use crate::incoming::Incoming;
 use crate::meters::Meters;
@@ -21,6 +20,7 @@ use crate::rules::Rules;
 use crate::sending::push_out;
 use crate::served::Served;
 use crate::session::{Lease, PPPOE_MRU, Session};
+use crate::store::Store;
 use crate::terms::Terms;
 use crate::way::Way;
 use bng_base::{

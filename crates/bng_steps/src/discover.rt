@@ -15,7 +15,6 @@ ghost use Rattle.bng_steps.specs.Serving.{KeepsLease};
 ghost use Rattle.bng_steps.specs.State.{beside_at, port_at, with_driven, Beside};
 ghost use Rattle.bng_sessions.specs.Sessions.{IsLowestVacant};
 
-use crate::store::Store;
 use crate::answering::{Reply, reply_to};
 use crate::drive::{drive, offers_of, port_of};
 use crate::host_uniq::host_uniq;
@@ -23,6 +22,7 @@ use crate::incoming::Incoming;
 use crate::replies::{send_offer, send_refusal, send_session};
 use crate::served::Served;
 use crate::session::{Made, Service, Session};
+use crate::store::Store;
 use crate::way::Way;
 use arrayvec::ArrayVec;
 use bng_base::{Batch, Fate, Mac, OutRecord, SessionNo};

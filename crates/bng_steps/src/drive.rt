@@ -13,13 +13,13 @@ ghost use Rattle.bng_steps.specs.Placed.{IsPlaced};
 ghost use Rattle.bng_steps.specs.Link.{call_outs, data_outs, message_outs, ppp_outs, SaysOn};
 ghost use Rattle.bng_steps.specs.Driven.{Driven, LastsOver};
 
-use crate::store::Store;
 use crate::incoming::Incoming;
 use crate::parting::part;
 use crate::rules::Rules;
 use crate::sending::push_out;
 use crate::served::Served;
 use crate::session::Session;
+use crate::store::Store;
 use crate::way::{Called, Way};
 use bng_base::{
     AccessPort, At, Batch, Frame, HEADROOM, LONGEST, Mac, OutRecord, Peer, Role, SessionNo, Written,

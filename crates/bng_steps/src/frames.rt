@@ -15,10 +15,10 @@ ghost use Rattle.bng_steps.specs.State.{beside_at, session_of, with_driven, with
 ghost use Rattle.bng_steps.specs.Timers.{lives_at};
 ghost use Rattle.bng_sessions.specs.Sessions.{value_at};
 
-use crate::store::Store;
 use crate::drive::drive;
 use crate::incoming::Incoming;
 use crate::served::Served;
+use crate::store::Store;
 use crate::terms::Terms;
 use bng_base::{Batch, DropCause, Fate, OutRecord, SessionNo};
 use bng_ppp::WholeInput;

@@ -16,7 +16,6 @@ ghost use Rattle.bng_steps.specs.Running.{AreTied, KeepSums, MayBegin, SumsStay,
 ghost use Rattle.bng_steps.specs.Step.{Step};
 ghost use Rattle.bng_steps.specs.Wished.{IsAnswered};
 
-use crate::store::Store;
 use crate::changes::{Answer, hear_change};
 use crate::data::{hear_core, hear_data};
 use crate::discover::hear_discovery;
@@ -24,6 +23,7 @@ use crate::frames::hear_control;
 use crate::incoming::Incoming;
 use crate::l2tp::hear_tunnel;
 use crate::served::Served;
+use crate::store::Store;
 use crate::terms::Terms;
 use crate::timers::{end, tick};
 use crate::verdicts::hear_verdict;

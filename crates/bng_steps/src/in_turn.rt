@@ -9,10 +9,10 @@ ghost use Rattle.bng_steps.specs.Running.{whole, KeepSums};
 ghost use Rattle.bng_steps.specs.State.{with_tunnels};
 ghost use Rattle.bng_steps.specs.Timed.{RemindedAt, RemindedInTurn, ToldInTurn, ToldOnce};
 
-use crate::store::Store;
 use crate::cutting::cut_if;
 use crate::sending::push_out;
 use crate::served::Served;
+use crate::store::Store;
 use crate::terms::Terms;
 use bng_base::{At, Batch, Frame, OutRecord, Peer, Role};
 use bng_lns::TUNNELS_MOST;
@@ -77,7 +77,13 @@ pub fn remind_tunnels<S: Store>(
 }
 
 // The tunnel at this place tells its peer that the gateway shuts down.
-fn stop_one<S: Store>(served: &mut Served<S>, at: At, place: usize, now: u64, outs: &mut Batch<OutRecord>)
+fn stop_one<S: Store>(
+    served: &mut Served<S>,
+    at: At,
+    place: usize,
+    now: u64,
+    outs: &mut Batch<OutRecord>,
+)
     requires room { length outs.old.items < outs.old.room }
     ensures told { ToldOnce at (stopped now served.old.tunnels place) served.new.tunnels outs.old.items outs.new.items }
     ensures others { served.new ≡ with_tunnels served.old served.new.tunnels }

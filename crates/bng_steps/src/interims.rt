@@ -3,8 +3,8 @@ ghost use Rattle.std.specs.Prelude.{◌≡◌, ◌<◌, ◌^◌, nat_le, IfOk};
 ghost use Rattle.bng_steps.specs.Interims.{interim_at, interim_in, no_reports, reported_at, with_report};
 ghost use Rattle.bng_steps.specs.Surveying.{AreSpaced};
 
-use crate::session::{Lease, Session};
 use crate::error::ShardError;
+use crate::session::{Lease, Session};
 use bng_base::SessionNo;
 use std::alloc::Global;
 use std::marker::Model;

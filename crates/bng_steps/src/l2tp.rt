@@ -13,7 +13,6 @@ ghost use Rattle.bng_steps.specs.Frames.{HearsData};
 ghost use Rattle.bng_steps.specs.Running.{tenures_in, whole, AreTied, KeepSums};
 ghost use Rattle.bng_steps.specs.State.{call_of};
 
-use crate::store::Store;
 use crate::calls::hear_call;
 use crate::cutting::cut_if;
 use crate::data::pass_up;
@@ -21,6 +20,7 @@ use crate::frames::{Control as Hearing, drive_at};
 use crate::in_turn::send_datagrams;
 use crate::incoming::Incoming;
 use crate::served::Served;
+use crate::store::Store;
 use crate::terms::Terms;
 use bng_base::{Batch, DropCause, Fate, Frame, OutRecord, Peer, SessionNo, TunnelNo, TunnelStep};
 use bng_l2tp_wire::{Control, Data};

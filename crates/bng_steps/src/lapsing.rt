@@ -5,11 +5,11 @@ ghost use Rattle.bng_steps.specs.Serving.{KeepsLease};
 ghost use Rattle.bng_steps.specs.State.{beside_at, with_tunnels};
 ghost use Rattle.bng_steps.specs.Timed.{ClosedLink, LostTerm};
 
-use crate::store::Store;
 use crate::drive::drive;
 use crate::incoming::Incoming;
 use crate::served::Served;
 use crate::session::{Service, Session};
+use crate::store::Store;
 use crate::terms::Terms;
 use bng_base::{Batch, OutRecord};
 use bng_ppp::WholeInput;

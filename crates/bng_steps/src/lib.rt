@@ -60,7 +60,10 @@ pub use crate::error::ShardError;
 pub use crate::hear::hear;
 pub use crate::incoming::Incoming;
 pub use crate::interims::Reports;
-pub use crate::laws::{interims_are_awaited, questions_are_heard, steps_meet_laws, terms_of_circuits_are_apart, yeses_are_granted};
+pub use crate::laws::{
+    interims_are_awaited, questions_are_heard, steps_meet_laws, terms_of_circuits_are_apart,
+    yeses_are_granted,
+};
 pub use crate::questions::Handed;
 pub use crate::rules::Rules;
 pub use crate::served::{Served, Survey};

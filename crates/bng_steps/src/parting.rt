@@ -10,13 +10,13 @@ ghost use Rattle.bng_steps.specs.Deed.{frame_outs};
 ghost use Rattle.bng_steps.specs.Placed.{IsPlaced};
 ghost use Rattle.bng_steps.specs.Link.{EndsWith, HangsUp, PartsOn, parted_way};
 
-use crate::store::Store;
 use crate::drive::{between, offers_of, port_of, push_written};
 use crate::in_turn::send_datagrams;
 use crate::incoming::Incoming;
 use crate::rules::Rules;
 use crate::served::Served;
 use crate::session::Session;
+use crate::store::Store;
 use crate::way::{Called, Way};
 use bng_base::{AccessPort, At, Batch, Frame, Mac, OutRecord, SessionNo};
 use bng_discovery::{PortRules, terminate};

@@ -5,9 +5,9 @@ ghost use Rattle.bng_steps.specs.Listing.{with_listed, without_listed};
 ghost use Rattle.bng_steps.specs.Questions.{IsLowestWaiting, handed_after, none_handed, place_of, waits_at};
 ghost use Rattle.bng_steps.specs.Serving.{asks};
 
-use crate::store::Store;
-use crate::session::Session;
 use crate::error::ShardError;
+use crate::session::Session;
+use crate::store::Store;
 use arrayvec::ArrayVec;
 use bng_auth::{Credentials, Proof};
 use bng_base::SessionNo;

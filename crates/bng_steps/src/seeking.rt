@@ -13,11 +13,11 @@ ghost use Rattle.bng_steps.specs.Cutting.{is_cut};
 ghost use Rattle.bng_steps.specs.Listing.{does_pass};
 ghost use Rattle.bng_steps.specs.Timers.{IsFirstDue, IsLowest, NoneIsDue, NoneStays};
 
-use crate::store::Store;
 use crate::interims::{LEAST, Reports, interim_at};
 use crate::questions::{Handed, copied, lowest_waiting};
 use crate::served::{NUMBERS, Served, Survey};
 use crate::session::Session;
+use crate::store::Store;
 use crate::young::lowest_repeated;
 use bng_base::{Ip4, Mac, Peer, SessionNo, TunnelNo};
 use bng_verdict::{AuthAsk, QuestionNo};
@@ -119,12 +119,7 @@ impl<S: Store> Served<S> {
     }
 
     /// The number of that session, if it is there.
-    pub fn numbered_over(
-        &self,
-        from: Peer,
-        tunnel: u16,
-        number: SessionNo,
-    ) -> Option<SessionNo>
+    pub fn numbered_over(&self, from: Peer, tunnel: u16, number: SessionNo) -> Option<SessionNo>
         ensures { session_at self.now result ≡ call_of self.now from tunnel number.0 }
     {
         match self.call_of(from, tunnel, number) {

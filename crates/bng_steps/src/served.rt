@@ -14,10 +14,10 @@ ghost use Rattle.bng_steps.specs.Timers.{stays_at};
 
 use crate::leaving::list_leaving;
 use crate::limited::NO_LIMITS;
-use crate::store::Store;
 use crate::meters::{Meters, opened_meters};
 use crate::questions::{list, unlist};
 use crate::session::{Lease, Service, Session};
+use crate::store::Store;
 use crate::way::Way;
 use crate::young::{list_young, unlist_young};
 use bng_base::{Profile, SessionNo, Static};

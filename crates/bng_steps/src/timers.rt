@@ -12,7 +12,6 @@ ghost use Rattle.bng_steps.specs.Running.{closed_rows, whole, KeepSums};
 ghost use Rattle.bng_steps.specs.State.{beside_at, made_one, with_tunnels};
 ghost use Rattle.bng_steps.specs.Timers.{TellsEnd, TellsOn, at_once};
 
-use crate::store::Store;
 use crate::drive::drive;
 use crate::in_turn::{remind_tunnels, stop_tunnels};
 use crate::incoming::Incoming;
@@ -21,6 +20,7 @@ use crate::parting::send_padt;
 use crate::rules::Rules;
 use crate::served::Served;
 use crate::session::{Service, Session};
+use crate::store::Store;
 use crate::terms::Terms;
 use crate::way::Way;
 use bng_base::{At, Batch, OutRecord};

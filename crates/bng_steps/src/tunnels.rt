@@ -15,10 +15,10 @@ ghost use Rattle.bng_steps.specs.Calls.{call_after, call_step};
 ghost use Rattle.bng_steps.specs.State.{with_tunnels};
 ghost use Rattle.bng_steps.specs.Timers.{NoneStays};
 
-use crate::store::Store;
 use crate::rules::Rules;
 use crate::served::Served;
 use crate::session::earlier;
+use crate::store::Store;
 use crate::way::Called;
 use bng_base::{Peer, SessionNo, TunnelNo, TunnelStep};
 use bng_l2tp_call::Call;
@@ -27,12 +27,7 @@ use bng_lns::{Came, Taken, Told};
 
 impl<S: Store> Served<S> {
     /// A control message came: the tunnel that it is for takes it, or it asks for a tunnel.
-    pub fn take_message(
-        &mut self,
-        rules: &Rules,
-        came: &Came,
-        message: &Control<'_>,
-    ) -> Taken
+    pub fn take_message(&mut self, rules: &Rules, came: &Came, message: &Control<'_>) -> Taken
         ensures answer { answer_of result ≡ (heard_of rules.now.link.name.items rules.now.lacs self.old.tunnels came.now (control_of message.now)).answer }
         ensures after { self.new ≡ with_tunnels self.old (heard_of rules.now.link.name.items rules.now.lacs self.old.tunnels came.now (control_of message.now)).after }
         ensures taken { IsTaken (answer_of result) self.new.tunnels }
@@ -92,12 +87,7 @@ impl<S: Store> Served<S> {
 
     /// Ends a call of the tunnel with this number by a CDN (RFC 2661 section 6.12). None comes exactly where the tunnel does not stand, and
     /// the call has ended all the same.
-    pub fn hang_up(
-        &mut self,
-        number: TunnelNo,
-        call: &mut Call,
-        now: u64,
-    ) -> Option<TunnelStep>
+    pub fn hang_up(&mut self, number: TunnelNo, call: &mut Call, now: u64) -> Option<TunnelStep>
         ensures none { IfNone result ((tunnel_at self.old.tunnels number.0 ≡ Nothing) × (self.new ≡ self.old)) }
         ensures told { IfSome result (λ step. (t : TunnelState) × (tunnel_at self.old.tunnels number.0 ≡ Some t) × (said step ≡ (parted t call.old now).said)
             × (self.new ≡ with_tunnels self.old (with_step now self.old.tunnels number.0 (parted t call.old now).after))) }

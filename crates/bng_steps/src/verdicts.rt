@@ -24,7 +24,6 @@ ghost use Rattle.bng_steps.specs.declared.wish.Wish.{Wish as Asks};
 ghost use Rattle.bng_sessions.specs.Sessions.{value_at};
 ghost use Rattle.bng_term.specs.Lifetimes.{HasAllowedInterval};
 
-use crate::store::Store;
 use crate::drive::drive;
 use crate::incoming::Incoming;
 use crate::limited::{NO_LIMITS, limits_of};
@@ -32,6 +31,7 @@ use crate::meters::{Meters, Plan, UNMETERED, plan_for};
 use crate::rules::Rules;
 use crate::served::Served;
 use crate::session::{Lease, Session};
+use crate::store::Store;
 use crate::term_rows::copied;
 use crate::terms::{Running, Terms};
 use crate::wish::pool_for;

@@ -6,10 +6,10 @@ ghost use Rattle.bng_grant.specs.Grants.{gift};
 ghost use Rattle.bng_steps.specs.Wished.{IsWished, WishesVerdict};
 ghost use Rattle.bng_steps.specs.Wishes.{is_named, is_within, pool_for, wish_among, wish_in, wish_of, Wishes};
 
-use crate::store::Store;
 use crate::meters::plan_for;
 use crate::rules::Rules;
 use crate::served::Served;
+use crate::store::Store;
 use bng_base::{Ip4, Item, ItemKind, NamedRange, SessionNo};
 use bng_grant::{Grant, grant_of};
 use bng_verdict::verdict_of;

@@ -6,9 +6,9 @@ ghost use Rattle.bng_steps.specs.Discovery.{is_repeated};
 ghost use Rattle.bng_steps.specs.Listing.{IsLowestPassing, does_pass, with_listed, without_listed};
 ghost use Rattle.bng_steps.specs.Serving.{is_young};
 
-use crate::store::Store;
 use crate::questions::{lower, take_off};
 use crate::session::Session;
+use crate::store::Store;
 use bng_base::{Mac, SessionNo};
 
 // Lists the number of a young session.

@@ -77,7 +77,13 @@ fn better(
         return best;
     };
     match best {
-        Some(e) => { if e.0 <= moment { Some(e) } else { Some((moment, number)) } }
+        Some(e) => {
+            if e.0 <= moment {
+                Some(e)
+            } else {
+                Some((moment, number))
+            }
+        }
         None => Some((moment, number)),
     }
 }
