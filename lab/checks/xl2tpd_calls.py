@@ -72,6 +72,13 @@ def brings_up(checks, command, address, challenge, what):
     return err
 
 
+def attempt_emulated(command, checks):
+    """Both of them, one after the other."""
+    for kind in (CallCable, SecretCallCable):
+        print(f"\nA session over L2TP in an emulated machine, {kind.place}")
+        qemu_subscriber.attempt(command, checks, kind)
+
+
 def attempt(checks, command):
     """Both of them, here and in the machine. What the gateway said on standard error here."""
     said = brings_up(checks, command, LOOPBACK, "no", "an xl2tpd without a secret")
@@ -113,10 +120,3 @@ if __name__ == "__main__":
     except (RuntimeError, OSError, subprocess.SubprocessError) as error:
         print(f"xl2tpd: {error}", file=sys.stderr)
         sys.exit(1)
-
-
-def attempt_emulated(command, checks):
-    """Both of them, one after the other."""
-    for kind in (CallCable, SecretCallCable):
-        print(f"\nA session over L2TP in an emulated machine, {kind.place}")
-        qemu_subscriber.attempt(command, checks, kind)
