@@ -47,7 +47,7 @@ impl Model for Channel {
 
 impl Channel {
     ghost use Rattle.bng_l2tp_reliable.specs.ChannelState.{IsChannel, begun, in_flight, waiting, with_window};
-    ghost use Rattle.bng_l2tp_reliable.specs.Calls.{queued_of, queued, received, after_next};
+    ghost use Rattle.bng_l2tp_reliable.specs.Calls.{queued_of, queued, received, after_next, is_full};
     ghost use Rattle.bng_l2tp_reliable.specs.Timers.{due_of, after_due, deadline_of};
 
     /// A channel that nothing was sent over, to a peer with that Receive Window Size (RFC 2661 section 4.4.3), at that
@@ -75,6 +75,15 @@ impl Channel {
         ensures sound { IsChannel self.new }
     {
         self.window = (window as usize).min(IN_FLIGHT_MOST);
+    }
+
+    /// Whether 64 messages wait, so that [`Channel::send`] would leave one more out.
+    pub fn is_full(&self) -> bool
+        ensures full { IsTrue result ↔ (length (waiting self.now) ≡ 64) }
+        ensures answer { result ≡ is_full self.now }
+        ensures sound { IsChannel self.now }
+    {
+        self.messages.len() - self.sends.len() >= WAITING_MOST
     }
 
     /// Hands a message of at most 512 octets to the channel. It waits until [`Channel::next`] lets it out. Where 64
