@@ -1,5 +1,5 @@
-mod Placing
+pub mod Placing
 pub mod Table
-mod Codes
-mod Soundness
-mod Told
+pub mod Codes
+pub mod Soundness
+pub mod Told

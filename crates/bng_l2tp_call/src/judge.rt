@@ -16,7 +16,8 @@ use bng_l2tp_wire::kind::{
 };
 use bng_l2tp_wire::message::{CDN, ICCN, ICRQ, SLI, WEN};
 
-fn is_type(found: Option<u16>, wanted: u16) -> bool
+/// Whether a message of this type is of the wanted one.
+pub fn is_type(found: Option<u16>, wanted: u16) -> bool
     ensures { result ≡ is_of_type found wanted }
 {
     match found {
@@ -26,7 +27,7 @@ fn is_type(found: Option<u16>, wanted: u16) -> bool
 }
 
 /// Whether a call takes a message of this type in this phase (RFC 2661 section 7.4.2).
-pub(crate) fn is_taken(phase: Phase, found: Option<u16>) -> bool
+pub fn is_taken(phase: Phase, found: Option<u16>) -> bool
     ensures { result ≡ is_taken_in phase found }
 {
     match phase {
@@ -50,7 +51,7 @@ fn must_be_known(avp: &Avp<'_>) -> bool
 }
 
 /// Whether a message has an AVP that is not known and must be (RFC 2661 section 4.1).
-pub(crate) fn has_unknown(avps: &[Avp<'_>]) -> bool
+pub fn has_unknown(avps: &[Avp<'_>]) -> bool
     ensures { result ≡ has_one_unknown (avps_of avps.now) }
 {
     let mut left = avps;
@@ -63,7 +64,8 @@ pub(crate) fn has_unknown(avps: &[Avp<'_>]) -> bool
     false
 }
 
-fn has_right_length(kind: u16, value: &[u8]) -> bool
+/// Whether a value has the right length for its Attribute Type (RFC 2661 section 4.4).
+pub fn has_right_length(kind: u16, value: &[u8]) -> bool
     ensures { result ≡ is_right_length kind value.now }
 {
     match kind {
@@ -73,8 +75,8 @@ fn has_right_length(kind: u16, value: &[u8]) -> bool
     }
 }
 
-// An AVP of this Attribute Type is not there, or its value has a wrong length.
-fn is_wrong(avps: &[Avp<'_>], secret: &Option<ArrayVec<u8, 64>>, kind: u16) -> bool
+/// Whether an AVP of this Attribute Type is not there, or its value has a wrong length.
+pub fn is_wrong(avps: &[Avp<'_>], secret: &Option<ArrayVec<u8, 64>>, kind: u16) -> bool
     ensures { result ≡ is_wrong_value kind (value_in_message (octets_of secret.now) kind (avps_of avps.now)) }
 {
     match value_of(avps, secret, kind) {
@@ -103,7 +105,7 @@ fn lacks_needed(avps: &[Avp<'_>], secret: &Option<ArrayVec<u8, 64>>, found: Opti
 }
 
 /// Whether a message has not each AVP that it must have, or has a hidden one that cannot be read.
-pub(crate) fn has_wrong_avp(
+pub fn has_wrong_avp(
     avps: &[Avp<'_>],
     secret: &Option<ArrayVec<u8, 64>>,
     found: Option<u16>,
@@ -114,14 +116,14 @@ pub(crate) fn has_wrong_avp(
 }
 
 /// Whether a message is an ICCN that wants sequence numbers in the data of its call (RFC 2661 section 4.4.6).
-pub(crate) fn asks_for_sequencing(avps: &[Avp<'_>], found: Option<u16>) -> bool
+pub fn asks_for_sequencing(avps: &[Avp<'_>], found: Option<u16>) -> bool
     ensures { result ≡ wants_sequencing found (avps_of avps.now) }
 {
     is_type(found, ICCN) && has(avps, SEQUENCING_REQUIRED)
 }
 
 /// Whether a message is an ICRQ for which no session may be taken.
-pub(crate) fn lacks_slot(session: u16, found: Option<u16>) -> bool
+pub fn lacks_slot(session: u16, found: Option<u16>) -> bool
     ensures { result ≡ lacks_a_slot session found }
 {
     is_type(found, ICRQ) && session == 0

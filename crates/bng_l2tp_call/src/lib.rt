@@ -19,3 +19,12 @@ mod step;
 mod values;
 
 pub use crate::call::Call;
+pub use crate::judge::{has_right_length, has_unknown, has_wrong_avp, is_type, is_wrong};
+pub use crate::phase::Phase;
+pub use crate::placed::{Placed, has, has_unreadable, is_of, place_of};
+pub use crate::refusal::{
+    Refusal, ResultCode, administrative, code_of, general_error, result_only,
+};
+pub use crate::spelling::{avp, cdn, code_octets, icrp, spelled};
+pub use crate::step::{ended, nothing, opened, sends};
+pub use crate::values::{VALUE_MOST, Value, number_at, type_in, value_of};

@@ -12,13 +12,15 @@ use bng_l2tp_wire::kind::RANDOM_VECTOR;
 
 /// An AVP of a message, and the last Random Vector before it (RFC 2661 section 4.3).
 #[derive(Clone, Copy)]
-pub(crate) struct Placed<'a> {
-    pub(crate) avp: Avp<'a>,
-    pub(crate) vector: Option<Avp<'a>>,
+pub struct Placed<'a> {
+    /// The AVP.
+    pub avp: Avp<'a>,
+    /// The last Random Vector before it, if any.
+    pub vector: Option<Avp<'a>>,
 }
 
 /// Whether an AVP is of this Attribute Type, of Vendor ID 0.
-pub(crate) fn is_of(avp: &Avp<'_>, kind: u16) -> bool
+pub fn is_of(avp: &Avp<'_>, kind: u16) -> bool
     ensures { result ≡ is_avp_of kind (avp_of avp.now) }
 {
     avp.vendor == 0 && avp.reserved == 0 && avp.kind == kind
@@ -31,7 +33,7 @@ fn is_vector(avp: &Avp<'_>) -> bool
 }
 
 /// The first AVP of this Attribute Type.
-pub(crate) fn place_of<'a>(avps: &[Avp<'a>], kind: u16) -> Option<Placed<'a>>
+pub fn place_of<'a>(avps: &[Avp<'a>], kind: u16) -> Option<Placed<'a>>
     ensures first { option_map placed_of result ≡ find (λ p. is_avp_of kind p.avp) (placed (avps_of avps.now)) }
     ensures vector { IfSome result (λ p. IsPlaced (avps_of avps.now) (placed_of p)) }
 {
@@ -50,7 +52,7 @@ pub(crate) fn place_of<'a>(avps: &[Avp<'a>], kind: u16) -> Option<Placed<'a>>
 }
 
 /// Whether an AVP of this Attribute Type is there.
-pub(crate) fn has(avps: &[Avp<'_>], kind: u16) -> bool
+pub fn has(avps: &[Avp<'_>], kind: u16) -> bool
     ensures { result ≡ list_any (is_avp_of kind) (avps_of avps.now) }
 {
     let mut left = avps;
@@ -70,7 +72,7 @@ fn is_unreadable(avp: &Avp<'_>, vector: &Option<Avp<'_>>, secret: &Option<ArrayV
 }
 
 /// Whether a hidden AVP cannot be read: one has no Random Vector before it, or there is no secret.
-pub(crate) fn has_unreadable(avps: &[Avp<'_>], secret: &Option<ArrayVec<u8, 64>>) -> bool
+pub fn has_unreadable(avps: &[Avp<'_>], secret: &Option<ArrayVec<u8, 64>>) -> bool
     ensures { result ≡ has_one_unreadable (octets_of secret.now) (avps_of avps.now) }
 {
     let mut vector = None;

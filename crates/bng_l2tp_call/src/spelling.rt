@@ -12,8 +12,8 @@ use bng_l2tp_wire::kind::{ASSIGNED_SESSION_ID, MESSAGE_TYPE, RESULT_CODE};
 use bng_l2tp_wire::message::{CDN, ICRP};
 use bng_l2tp_wire::{Avp, Control};
 
-// An AVP that the peer must know, and that is not hidden.
-fn avp<'a>(kind: u16, value: &'a [u8]) -> Avp<'a>
+/// An AVP that the peer must know, and that is not hidden (RFC 2661 section 4.1).
+pub fn avp<'a>(kind: u16, value: &'a [u8]) -> Avp<'a>
     ensures { avp_of result ≡ must_avp kind value.now }
 {
     Avp {
@@ -26,8 +26,8 @@ fn avp<'a>(kind: u16, value: &'a [u8]) -> Avp<'a>
     }
 }
 
-// The text of a message for a session of the peer that is known to fit. Its tunnel fills in Tunnel ID, Ns and Nr.
-fn spelled(session: u16, avps: ArrayVec<Avp<'_>, 64>) -> Frame
+/// The text of a message for a session of the peer that is known to fit. Its tunnel fills in Tunnel ID, Ns and Nr.
+pub fn spelled(session: u16, avps: ArrayVec<Avp<'_>, 64>) -> Frame
     requires fit { AllByRecursion AvpFits (avps_of avps.items) }
     requires short { 12 + length (avps_text (avps_of avps.items)) ≤ LONGEST }
     ensures { result.payload ≡ control_text (unsent session (avps_of avps.entry.items)) }
@@ -47,7 +47,7 @@ fn spelled(session: u16, avps: ArrayVec<Avp<'_>, 64>) -> Frame
 }
 
 /// The ICRP of the call with this number, for a session of the peer (RFC 2661 section 6.7).
-pub(crate) fn icrp(session: u16, number: u16) -> Frame
+pub fn icrp(session: u16, number: u16) -> Frame
     ensures { result.payload ≡ control_text (icrp_of session number) }
 {
     let message = ICRP.to_be_bytes();
@@ -58,8 +58,8 @@ pub(crate) fn icrp(session: u16, number: u16) -> Frame
     spelled(session, avps)
 }
 
-// The octets of a Result Code AVP.
-fn code_octets(code: ResultCode) -> ArrayVec<u8, 4>
+/// The octets of a Result Code AVP (RFC 2661 section 4.4.2).
+pub fn code_octets(code: ResultCode) -> ArrayVec<u8, 4>
     ensures { result.items ≡ octets_of_code code }
 {
     let mut octets = ArrayVec::new();
@@ -75,7 +75,7 @@ fn code_octets(code: ResultCode) -> ArrayVec<u8, 4>
 }
 
 /// The CDN of the call with this number, 0 where none was made, for a session of the peer (RFC 2661 section 6.12).
-pub(crate) fn cdn(session: u16, number: u16, code: ResultCode) -> Frame
+pub fn cdn(session: u16, number: u16, code: ResultCode) -> Frame
     ensures { result.payload ≡ control_text (cdn_of session number code) }
 {
     let message = CDN.to_be_bytes();

@@ -6,7 +6,7 @@ use arrayvec::ArrayVec;
 use bng_base::{Frame, TunnelStep};
 
 /// A step that does nothing.
-pub(crate) fn nothing() -> TunnelStep
+pub fn nothing() -> TunnelStep
     ensures { said result ≡ says_to_send [] }
 {
     TunnelStep {
@@ -21,7 +21,7 @@ pub(crate) fn nothing() -> TunnelStep
 }
 
 /// A step that sends this message, and tells nothing else.
-pub(crate) fn sends(message: Frame) -> TunnelStep
+pub fn sends(message: Frame) -> TunnelStep
     ensures { said result ≡ says_to_send (message.payload ∷ []) }
 {
     let mut step = nothing();
@@ -30,7 +30,7 @@ pub(crate) fn sends(message: Frame) -> TunnelStep
 }
 
 /// The same step, in which the call came to be established.
-pub(crate) fn opened(mut step: TunnelStep) -> TunnelStep
+pub fn opened(mut step: TunnelStep) -> TunnelStep
     ensures { said result ≡ record (said step) { opened = true } }
 {
     step.opened = true;
@@ -38,7 +38,7 @@ pub(crate) fn opened(mut step: TunnelStep) -> TunnelStep
 }
 
 /// The same step, in which the call ended, or none was made.
-pub(crate) fn ended(mut step: TunnelStep) -> TunnelStep
+pub fn ended(mut step: TunnelStep) -> TunnelStep
     ensures { said result ≡ record (said step) { ended = true } }
 {
     step.ended = true;

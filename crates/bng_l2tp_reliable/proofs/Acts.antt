@@ -1,5 +1,5 @@
 -- Each act of an end that hears nothing keeps what holds of the messages in both directions.
-use Rattle.std.proofs.Common.{◌≡◌, ℕ, ◌+◌, ◌-◌, ◌%◌, ◌<◌, Bool, true, false, List, [], ◌∷◌, ◌++◌, Option, Some, None, length, drop, refl, sym, ap, subst, ◌∙◌, arith, length-append, length-drop}
+use Rattle.std.proofs.Common.{◌≡◌, ℕ, ◌+◌, ◌-◌, ◌%◌, ◌<◌, ◌≤◌, Bool, true, false, List, [], ◌∷◌, ◌++◌, Option, Some, None, length, drop, refl, sym, ap, subst, ◌∙◌, arith, length-append, length-drop}
 use Rattle.std.specs.Prelude.{nat_lt, if◌then◌else◌, option_map}
 use Rattle.std.specs.List.{slice_get}
 use Rattle.std.proofs.lemmas.Bool.{ltb-true}
@@ -9,17 +9,17 @@ use Rattle.bng_l2tp_reliable.specs.declared.answers.Due.{Due}
 use Rattle.bng_l2tp_reliable.specs.declared.answers.Due.TheVariants.{Nothing, Resend, Hello, GiveUp}
 use Rattle.bng_l2tp_reliable.specs.declared.outgoing.Outgoing.{Outgoing}
 use Rattle.bng_l2tp_reliable.specs.Numbers.{steps_on}
-use Rattle.bng_l2tp_reliable.specs.ChannelState.{ChannelState, Message, waiting, in_flight}
+use Rattle.bng_l2tp_reliable.specs.ChannelState.{ChannelState, Message, waiting, in_flight, with_window}
 use Rattle.bng_l2tp_reliable.specs.Flight.{sent_first, sent_again}
 use Rattle.bng_l2tp_reliable.specs.Calls.{next_out, after_next, flight_at, numbered, oldest_ns}
 use Rattle.bng_l2tp_reliable.specs.Timers.{after_due, due_of}
-use Rattle.bng_l2tp_reliable.specs.World.{End, Packet, acts, Sends, LetsOut, SendsAgain, Acknowledges, IsDue, gone_out, with_sent, sends_out}
+use Rattle.bng_l2tp_reliable.specs.World.{End, Packet, acts, SetsWindow, Sends, LetsOut, SendsAgain, Acknowledges, IsDue, gone_out, with_sent, sends_out}
 use Rattle.bng_l2tp_reliable.proofs.Items.{IsAt, at_place, at_dropped, at_taken}
 use Rattle.bng_l2tp_reliable.proofs.Packets.{IsOf, IsNumbered, all_sent, all_on, all_and}
 use Rattle.bng_l2tp_reliable.proofs.Flows.{Both, acked, gone_out-is, back_as_before}
 
--- The channel is as before, but for its moments and for how often its messages in flight went out.
-pub moved : (e other : End) (c : ChannelState) → c.window ≡ e.channel.window → c.messages ≡ e.channel.messages → length c.sends ≡ length e.channel.sends → c.ns ≡ e.channel.ns → c.nr ≡ e.channel.nr → Both e other → Both (record e { channel = c }) other
+-- The channel is as before, but for its window, its moments and for how often its messages in flight went out.
+pub moved : (e other : End) (c : ChannelState) → c.window ≤ 8 → c.messages ≡ e.channel.messages → length c.sends ≡ length e.channel.sends → c.ns ≡ e.channel.ns → c.nr ≡ e.channel.nr → Both e other → Both (record e { channel = c }) other
 moved e other c window messages sends ns nr h =
     let t = h.there in
     let lengths = ap length messages in
@@ -30,7 +30,7 @@ moved e other c window messages sends ns nr h =
     record {
       there = record {
         sound = record {
-          window = omega (arith, t.sound.window);
+          window = window;
           flying = omega (arith, t.sound.flying);
           known = omega (arith, t.sound.known);
           few = omega (arith, t.sound.few);
@@ -51,7 +51,7 @@ moved e other c window messages sends ns nr h =
 
 -- a message is handed to the channel
 sends_by : (e other : End) (message : Message) (moment : ℕ) (b : Bool) → nat_lt (length (waiting e.channel)) 64 ≡ b → Both e other → Both (record e { channel = record e.channel { messages = if b then e.channel.messages ++ message ∷ [] else e.channel.messages; moment = moment }; sent = with_sent e.sent message (if b then Ok else WindowQueueFull) }) other
-sends_by e other message moment false is h = moved e other (record e.channel { moment = moment }) refl refl refl refl refl h
+sends_by e other message moment false is h = moved e other (record e.channel { moment = moment }) h.there.sound.window refl refl refl refl h
 sends_by e other message moment true is h =
     let t = h.there in
     let c = e.channel in
@@ -88,10 +88,10 @@ sends_by e other message moment true is h =
 
 -- what is due is told
 due_by : (e other : End) (moment : ℕ) (due : Due) → Both e other → Both (record e { channel = after_due e.channel moment due }) other
-due_by e other moment Nothing h = moved e other _ refl refl refl refl refl h
-due_by e other moment Resend h = moved e other _ refl refl (length-map e.channel.sends (sent_again moment)) refl refl h
-due_by e other moment Hello h = moved e other _ refl refl refl refl refl h
-due_by e other moment GiveUp h = moved e other _ refl refl refl refl refl h
+due_by e other moment Nothing h = moved e other _ h.there.sound.window refl refl refl refl h
+due_by e other moment Resend h = moved e other _ h.there.sound.window refl (length-map e.channel.sends (sent_again moment)) refl refl h
+due_by e other moment Hello h = moved e other _ h.there.sound.window refl refl refl refl h
+due_by e other moment GiveUp h = moved e other _ h.there.sound.window refl refl refl refl h
 
 -- A packet goes out that has the numbers of the world; the messages and the channel are as before.
 packet_out : (e other : End) (p : Packet) → IsNumbered e.sent p p.message → p.from_sender ≡ gone_out e → p.from_other ≡ gone_out other → p.nr ≡ e.channel.nr → Both e other → Both (record e { packets = e.packets ++ p ∷ [] }) other
@@ -142,7 +142,7 @@ one_more_out e other out next h =
       there = record {
         sound = record {
           window = t.sound.window;
-          flying = omega (arith, next.window);
+          flying = omega (arith, next.window, t.sound.window);
           known = omega arith;
           few = omega (arith, t.sound.few);
           ns = omega arith;
@@ -224,6 +224,9 @@ sends_again_by e other place (Some out) again h =
       gone = omega (arith, again.below);
       late = omega (arith, h.there.sound.flying, h.there.sound.window);
     }) refl refl again.nr h
+
+pub sets_window : (e other : End) (window : ℕ) → Both e other → Both (acts e other (SetsWindow window)) other
+sets_window e other window h = moved e other (with_window e.channel window) (omega arith) refl refl refl refl h
 
 pub sends : (e other : End) (message : Message) (moment : ℕ) → Both e other → Both (acts e other (Sends message moment)) other
 sends e other message moment h = sends_by e other message moment (nat_lt (length (waiting e.channel)) 64) refl h

@@ -1,12 +1,13 @@
 -- What holds of two ends holds after every run.
 use Rattle.std.proofs.Common.{ℕ, ◌<◌, length, List, [], ◌∷◌}
-use Rattle.bng_l2tp_reliable.specs.World.{World, End, Act, Event, Sends, LetsOut, SendsAgain, Acknowledges, IsDue, Hears, AtLeft, AtRight, acts, happens, run, start, exchange, acknowledged_of, IsRecent, ArriveRecently, IsReliable}
+use Rattle.bng_l2tp_reliable.specs.World.{World, End, Act, Event, SetsWindow, Sends, LetsOut, SendsAgain, Acknowledges, IsDue, Hears, AtLeft, AtRight, acts, happens, run, start, exchange, acknowledged_of, IsRecent, ArriveRecently, IsReliable}
 use Rattle.bng_l2tp_reliable.proofs.Flows.{Both, turned, new, reliable}
-use Rattle.bng_l2tp_reliable.proofs.Acts.{sends, lets_out, sends_again, acknowledges, is_due}
+use Rattle.bng_l2tp_reliable.proofs.Acts.{sets_window, sends, lets_out, sends_again, acknowledges, is_due}
 use Rattle.bng_l2tp_reliable.proofs.Hearing.{heard}
 use Rattle.bng_l2tp_reliable.proofs.Progress.{acknowledged_more}
 
 after_act : (e other : End) (act : Act) → IsRecent e other act → Both e other → Both (acts e other act) other
+after_act e other (SetsWindow window) recent h = sets_window e other window h
 after_act e other (Sends message moment) recent h = sends e other message moment h
 after_act e other LetsOut recent h = lets_out e other h
 after_act e other (SendsAgain place) recent h = sends_again e other place h

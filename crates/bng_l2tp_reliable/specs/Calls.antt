@@ -9,6 +9,10 @@ use Rattle.bng_l2tp_reliable.specs.Numbers.{steps_on, steps_to, steps_back}
 use Rattle.bng_l2tp_reliable.specs.ChannelState.{ChannelState, Message, in_flight, waiting}
 use Rattle.bng_l2tp_reliable.specs.Flight.{sent_first}
 
+-- 64 messages wait
+abbrev pub is_full : ChannelState → Bool
+is_full c = not (nat_lt (length (waiting c)) 64)
+
 -- whether a message is taken: 64 may wait
 abbrev pub queued_of : ChannelState → Queued
 queued_of c = if nat_lt (length (waiting c)) 64 then Ok else WindowQueueFull

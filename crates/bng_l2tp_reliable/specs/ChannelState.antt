@@ -36,10 +36,14 @@ abbrev pub begun : ℕ → ℕ → ChannelState
 begun window moment =
     record { window = min window 8; messages = []; sends = []; ns = 0; nr = 0; heard = moment; greeted = false; moment = moment }
 
--- what holds of every channel
+-- the channel to a peer that turned out to have that Receive Window Size
+abbrev pub with_window : ChannelState → ℕ → ChannelState
+with_window c window = record c { window = min window 8 }
+
+-- What holds of every channel. A window that was made smaller may be below what is in flight.
 pub record IsChannel (c : ChannelState) : Type 0 where
   pub window : c.window ≤ 8
-  pub flying : length c.sends ≤ c.window
+  pub flying : length c.sends ≤ 8
   pub known : length c.sends ≤ length c.messages
   pub few : length (waiting c) ≤ 64
   pub ns : c.ns < 65536

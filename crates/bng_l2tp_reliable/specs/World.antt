@@ -8,7 +8,7 @@ use Rattle.bng_l2tp_reliable.specs.declared.answers.Queued.TheVariants.{Ok, Wind
 use Rattle.bng_l2tp_reliable.specs.declared.answers.Heard.{Heard}
 use Rattle.bng_l2tp_reliable.specs.declared.answers.Heard.TheVariants.{Deliver, Repeat, Ahead, Acked}
 use Rattle.bng_l2tp_reliable.specs.declared.outgoing.Outgoing.{Outgoing}
-use Rattle.bng_l2tp_reliable.specs.ChannelState.{ChannelState, Message, begun, waiting}
+use Rattle.bng_l2tp_reliable.specs.ChannelState.{ChannelState, Message, begun, waiting, with_window}
 use Rattle.bng_l2tp_reliable.specs.Calls.{queued_of, queued, heard_of, received, next_out, after_next, flight_at}
 use Rattle.bng_l2tp_reliable.specs.Timers.{due_of, after_due}
 
@@ -46,6 +46,8 @@ acknowledged_of e = take (length e.sent - length e.channel.messages) e.sent
 
 -- what an end may do next, or what may happen to it. A packet that never arrives is lost.
 pub data Act : Type 0 where
+  -- the other end's Receive Window Size comes to be known
+  SetsWindow : ℕ → Act
   -- a message is handed to the channel
   Sends : Message → ℕ → Act
   -- the next message that the window lets out goes out
@@ -98,6 +100,7 @@ hears e (Some p) moment =
 
 -- an end after an act, beside the other end
 abbrev pub acts : End → End → Act → End
+acts e other (SetsWindow window) = record e { channel = with_window e.channel window }
 acts e other (Sends message moment) =
     record e { channel = queued e.channel message moment; sent = with_sent e.sent message (queued_of e.channel) }
 acts e other LetsOut = sends_out e other (after_next e.channel (next_out e.channel)) (next_out e.channel)
@@ -135,6 +138,7 @@ IsRecentPacket e other None = Unit {0}
 IsRecentPacket e other (Some p) = (gone_out other ≤ p.from_sender + 32767) × (gone_out e ≤ p.from_other + 32767)
 
 abbrev pub IsRecent : End → End → Act → Type 0
+IsRecent e other (SetsWindow window) = Unit {0}
 IsRecent e other (Sends message moment) = Unit {0}
 IsRecent e other LetsOut = Unit {0}
 IsRecent e other (SendsAgain place) = Unit {0}

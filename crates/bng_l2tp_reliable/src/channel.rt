@@ -46,8 +46,8 @@ impl Model for Channel {
 }
 
 impl Channel {
-    ghost use Rattle.bng_l2tp_reliable.specs.ChannelState.{IsChannel, begun, in_flight, waiting};
-    ghost use Rattle.bng_l2tp_reliable.specs.Calls.{queued_of, queued, received, after_next};
+    ghost use Rattle.bng_l2tp_reliable.specs.ChannelState.{IsChannel, begun, in_flight, waiting, with_window};
+    ghost use Rattle.bng_l2tp_reliable.specs.Calls.{queued_of, queued, received, after_next, is_full};
     ghost use Rattle.bng_l2tp_reliable.specs.Timers.{due_of, after_due, deadline_of};
 
     /// A channel that nothing was sent over, to a peer with that Receive Window Size (RFC 2661 section 4.4.3), at that
@@ -66,6 +66,24 @@ impl Channel {
             greeted: false,
             moment: now,
         }
+    }
+
+    /// Makes that the peer's Receive Window Size (RFC 2661 section 4.4.3), and changes nothing else. The window is the peer's,
+    /// and 8 at most. Messages in flight beyond it stay in flight, and none goes out for the first time while they do.
+    pub fn set_window(&mut self, window: u16)
+        ensures after { self.new ≡ with_window self.old window }
+        ensures sound { IsChannel self.new }
+    {
+        self.window = (window as usize).min(IN_FLIGHT_MOST);
+    }
+
+    /// Whether 64 messages wait, so that [`Channel::send`] would leave one more out.
+    pub fn is_full(&self) -> bool
+        ensures full { IsTrue result ↔ (length (waiting self.now) ≡ 64) }
+        ensures answer { result ≡ is_full self.now }
+        ensures sound { IsChannel self.now }
+    {
+        self.messages.len() - self.sends.len() >= WAITING_MOST
     }
 
     /// Hands a message of at most 512 octets to the channel. It waits until [`Channel::next`] lets it out. Where 64
@@ -132,7 +150,7 @@ impl Channel {
     /// The next message that the window lets out, which counts as sent at the last moment that the channel was given.
     pub fn next(&mut self) -> Option<Outgoing>
         ensures answer { result ≡ next_out self.old }
-        ensures none { IsNone result ↔ ((length self.old.sends ≡ self.old.window) ⊎ (waiting self.old ≡ [])) }
+        ensures none { IsNone result ↔ ((self.old.window ≤ length self.old.sends) ⊎ (waiting self.old ≡ [])) }
         ensures after { self.new ≡ after_next self.old result }
         ensures sound { IsChannel self.new }
     {
@@ -205,7 +223,7 @@ impl Channel {
     // The next message that the window lets out.
     fn next_out(&self) -> Option<Outgoing>
         ensures answer { result ≡ next_out self.now }
-        ensures none { IsNone result ↔ ((length self.now.sends ≡ self.now.window) ⊎ (waiting self.now ≡ [])) }
+        ensures none { IsNone result ↔ ((self.now.window ≤ length self.now.sends) ⊎ (waiting self.now ≡ [])) }
         ensures room { IsSome result
             → (length self.now.sends < self.now.window) × (length self.now.sends < length self.now.messages) }
     {

@@ -29,7 +29,7 @@ use Rattle.bng_l2tp_tunnel.specs.Spelling.{sccrp, stop_ccn, hello, code_of, shut
 use Rattle.bng_l2tp_tunnel.specs.Outs.{datagram, let_out, after_out, flight_before, flight_most, zlb, with_zlb}
 use Rattle.bng_l2tp_tunnel.specs.Sound.{IsTunnel}
 use Rattle.bng_l2tp_tunnel.specs.Steps.{Step, nothing, stands, is_established, to_peer, flushed, queued_text, answered, clears, turned_away, made, opened_by, begins, opening, handed_over, ended, established, accepted, judged, delivered, heard, heard_by, having_heard, in_phase, message_step, reminded, due_step, send_step, stop_step}
-use Rattle.bng_l2tp_tunnel.proofs.Spelled.{after_out-keeps}
+use Rattle.bng_l2tp_tunnel.proofs.Texts.{after_out-keeps}
 use Rattle.bng_l2tp_tunnel.proofs.Waiting.{IsNext, next_some}
 
 at_most_one : (out : Option Outgoing) → length (option_to_list out) ≤ 1

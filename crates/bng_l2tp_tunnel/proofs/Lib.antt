@@ -1,12 +1,12 @@
-mod Sizes
-mod Placing
-mod Waiting
-mod Flights
-mod Answering
-pub mod Spelled
-mod Refused
+pub mod Sizes
+pub mod Placing
+pub mod Waiting
+pub mod Flights
+pub mod Answering
+pub mod Texts
+pub mod Refused
 pub mod Soundness
-mod Answered
-mod Authentic
-mod Kept
+pub mod Answered
+pub mod Authentic
+pub mod Kept
 pub mod Few

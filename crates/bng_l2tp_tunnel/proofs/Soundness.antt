@@ -30,7 +30,7 @@ use Rattle.bng_l2tp_tunnel.specs.Spelling.{sccrp, stop_ccn, hello, code_of, shut
 use Rattle.bng_l2tp_tunnel.specs.Steps.{Step, sends, nothing, stands, is_established, to_peer, flushed, queued_text, answered, clears, turned_away, made, replied, opened_by, begins, opening, handed_over, ended, established, accepted, judged, delivered, heard, is_zlb, heard_by, having_heard, hearing, in_phase, message_step, reminded, due_step, send_step, stop_step}
 use Rattle.bng_l2tp_tunnel.proofs.Refused.{passed, replied_if, has_tunnel, has_number}
 use Rattle.bng_l2tp_tunnel.specs.Sound.{is_replied, is_cleared, IsSpelled, AreSpelled, IsTunnel, IsSentTo, IsSound}
-use Rattle.bng_l2tp_tunnel.proofs.Spelled.{AllByRecursion-append, AllByRecursion-drop, after_out-keeps, let_out_sent, flight_sent}
+use Rattle.bng_l2tp_tunnel.proofs.Texts.{AllByRecursion-append, AllByRecursion-drop, after_out-keeps, let_out_sent, flight_sent}
 use Rattle.bng_l2tp_tunnel.proofs.Flights.{after_out-window, drained}
 
 -- what is known of a tunnel whose channel just took a message's numbers

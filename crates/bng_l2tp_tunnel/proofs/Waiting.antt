@@ -8,7 +8,7 @@ use Rattle.bng_l2tp_reliable.specs.Flight.{sent_first}
 use Rattle.bng_l2tp_reliable.specs.Numbers.{steps_on}
 use Rattle.bng_l2tp_reliable.specs.Calls.{numbered, next_out, after_next}
 use Rattle.bng_l2tp_tunnel.specs.Outs.{let_out, after_out, numbered_on, AreFirstWaiting}
-use Rattle.bng_l2tp_tunnel.proofs.Spelled.{after_out-keeps}
+use Rattle.bng_l2tp_tunnel.proofs.Texts.{after_out-keeps}
 
 take-more : (ms : List Message) (l : ℕ) (m : Message) → slice_get ms l ≡ Some m → take (suc l) ms ≡ take l ms ++ m ∷ []
 take-more [] l m e = absurd cc

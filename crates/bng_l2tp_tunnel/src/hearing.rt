@@ -32,8 +32,8 @@ fn begins(message: &Control<'_>) -> bool
     is_type(type_in(message.avps.as_slice()), SCCRQ) && message.ns == 0
 }
 
-// Whether a message has no AVPs, and so only acknowledges.
-fn is_zlb(message: &Control<'_>) -> bool
+/// Whether a message has no AVPs, and so only acknowledges (RFC 2661 section 5.8).
+pub fn is_zlb(message: &Control<'_>) -> bool
     ensures { result ≡ has_no_avps (control_of message.now).avps }
 {
     message.avps.is_empty()

@@ -18,16 +18,17 @@ use bng_l2tp_wire::kind::{
 use bng_l2tp_wire::message::{CDN, HELLO, ICCN, ICRQ, SCCCN, SCCRQ, SLI, STOP_CCN, WEN};
 
 /// Version 1 and Revision 0 (RFC 2661 section 4.4.3).
-pub(crate) const VERSION: [u8; 2] = [1, 0];
+pub const VERSION: [u8; 2] = [1, 0];
 
 /// Whether a message of this type is one of a call (RFC 2661 section 3.2).
-pub(crate) fn is_of_call(found: Option<u16>) -> bool
+pub fn is_of_call(found: Option<u16>) -> bool
     ensures { result ≡ belongs_to_call found }
 {
     matches!(found, Some(ICRQ | ICCN | CDN | WEN | SLI))
 }
 
-pub(crate) fn is_type(found: Option<u16>, wanted: u16) -> bool
+/// Whether a message of this type is of the wanted one.
+pub fn is_type(found: Option<u16>, wanted: u16) -> bool
     ensures { result ≡ is_of_type found wanted }
 {
     match found {
@@ -37,7 +38,7 @@ pub(crate) fn is_type(found: Option<u16>, wanted: u16) -> bool
 }
 
 /// Whether a tunnel takes a message of this type in this phase (RFC 2661 section 7.2).
-pub(crate) fn is_taken(phase: Phase, found: Option<u16>) -> bool
+pub fn is_taken(phase: Phase, found: Option<u16>) -> bool
     ensures { result ≡ is_taken_in phase found }
 {
     match phase {
@@ -60,8 +61,8 @@ fn must_be_known(avp: &Avp<'_>) -> bool
     avp.mandatory && !is_known(avp)
 }
 
-// An AVP is not known and must be.
-fn has_unknown(avps: &[Avp<'_>]) -> bool
+/// Whether an AVP is not known and must be (RFC 2661 section 4.1).
+pub fn has_unknown(avps: &[Avp<'_>]) -> bool
     ensures { result ≡ has_one_unknown (avps_of avps.now) }
 {
     let mut left = avps;
@@ -74,8 +75,8 @@ fn has_unknown(avps: &[Avp<'_>]) -> bool
     false
 }
 
-// A Protocol Version is there that is not 1.0.
-fn has_other_version(avps: &[Avp<'_>], secret: &Option<ArrayVec<u8, 64>>) -> bool
+/// Whether a Protocol Version is there that is not 1.0 (RFC 2661 section 4.4.3).
+pub fn has_other_version(avps: &[Avp<'_>], secret: &Option<ArrayVec<u8, 64>>) -> bool
     ensures { result ≡ is_of_other_version (octets_of secret.now) (avps_of avps.now) }
 {
     match value_of(avps, secret, PROTOCOL_VERSION) {
@@ -84,7 +85,8 @@ fn has_other_version(avps: &[Avp<'_>], secret: &Option<ArrayVec<u8, 64>>) -> boo
     }
 }
 
-fn has_right_length(kind: u16, value: &[u8]) -> bool
+/// Whether a value has the right length for its Attribute Type (RFC 2661 section 4.4).
+pub fn has_right_length(kind: u16, value: &[u8]) -> bool
     ensures { result ≡ is_right_length kind value.now }
 {
     match kind {
@@ -95,8 +97,8 @@ fn has_right_length(kind: u16, value: &[u8]) -> bool
     }
 }
 
-// An AVP of this Attribute Type is not there, or its value has a wrong length.
-fn is_wrong(avps: &[Avp<'_>], secret: &Option<ArrayVec<u8, 64>>, kind: u16) -> bool
+/// Whether an AVP of this Attribute Type is not there, or its value has a wrong length.
+pub fn is_wrong(avps: &[Avp<'_>], secret: &Option<ArrayVec<u8, 64>>, kind: u16) -> bool
     ensures { result ≡ is_wrong_value kind (value_in_message (octets_of secret.now) kind (avps_of avps.now)) }
 {
     match value_of(avps, secret, kind) {
@@ -125,7 +127,7 @@ fn lacks_needed(avps: &[Avp<'_>], secret: &Option<ArrayVec<u8, 64>>, found: Opti
 
 /// The answer to a Challenge in a message of this type (RFC 2661 section 4.4.3): CHAP's value (RFC 1994 section 4.1) with the
 /// type for its Identifier.
-pub(crate) fn challenge_response(message: u16, secret: &[u8], challenge: &[u8]) -> [u8; 16]
+pub fn challenge_response(message: u16, secret: &[u8], challenge: &[u8]) -> [u8; 16]
     requires { message < 256 }
     ensures { result ≡ challenge_response message secret.now challenge.now }
 {
@@ -146,15 +148,15 @@ fn has_answer(avps: &[Avp<'_>], secret: &Option<ArrayVec<u8, 64>>, challenge: &[
     }
 }
 
-// Whether a Challenge is there and no secret.
-fn is_asked_in_vain(avps: &[Avp<'_>], secret: &Option<ArrayVec<u8, 64>>) -> bool
+/// Whether a Challenge is there, and no secret to answer it with (RFC 2661 section 5.1.1).
+pub fn is_asked_in_vain(avps: &[Avp<'_>], secret: &Option<ArrayVec<u8, 64>>) -> bool
     ensures { result ≡ asks_in_vain (octets_of secret.now) (avps_of avps.now) }
 {
     value_of(avps, secret, CHALLENGE).is_some() && secret.is_none()
 }
 
 /// Whether an SCCRQ asks for an answer that cannot be made, or an SCCCN has not the right one.
-pub(crate) fn fails_challenge(
+pub fn fails_challenge(
     avps: &[Avp<'_>],
     secret: &Option<ArrayVec<u8, 64>>,
     challenge: &[u8],
@@ -170,7 +172,7 @@ pub(crate) fn fails_challenge(
 }
 
 /// Whether a tunnel's message has a Protocol Version that is not 1.0.
-pub(crate) fn is_of_wrong_version(
+pub fn is_of_wrong_version(
     avps: &[Avp<'_>],
     secret: &Option<ArrayVec<u8, 64>>,
     found: Option<u16>,
@@ -181,14 +183,14 @@ pub(crate) fn is_of_wrong_version(
 }
 
 /// Whether a tunnel's message has an AVP that is not known and must be (RFC 2661 section 4.1).
-pub(crate) fn has_unknown_avp(avps: &[Avp<'_>], found: Option<u16>) -> bool
+pub fn has_unknown_avp(avps: &[Avp<'_>], found: Option<u16>) -> bool
     ensures { result ≡ has_unknown_one found (avps_of avps.now) }
 {
     !is_of_call(found) && has_unknown(avps)
 }
 
 /// Whether a tunnel's message has not each AVP that it must have, or has a hidden one that cannot be read.
-pub(crate) fn has_wrong_avp(
+pub fn has_wrong_avp(
     avps: &[Avp<'_>],
     secret: &Option<ArrayVec<u8, 64>>,
     found: Option<u16>,
@@ -199,7 +201,7 @@ pub(crate) fn has_wrong_avp(
 }
 
 /// Whether a message is an SCCRQ for which no tunnel number may be taken.
-pub(crate) fn lacks_number(number: u16, found: Option<u16>) -> bool
+pub fn lacks_number(number: u16, found: Option<u16>) -> bool
     ensures { result ≡ lacks_a_number number found }
 {
     is_type(found, SCCRQ) && number == 0

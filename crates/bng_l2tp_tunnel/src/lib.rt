@@ -23,6 +23,23 @@ mod step;
 mod tunnel;
 mod values;
 
+pub use crate::acknowledging::Acknowledging;
+pub use crate::hearing::is_zlb;
+pub use crate::judge::{
+    VERSION, challenge_response, has_other_version, has_right_length, has_unknown,
+    is_asked_in_vain, is_of_call, is_type, is_wrong,
+};
+pub use crate::outs::{Outs, datagram, let_out, outs_of, resent, zlb};
+pub use crate::phase::Phase;
+pub use crate::placed::{Placed, has_unreadable, is_of, place_of};
+pub use crate::refusal::{Refusal, ResultCode, code_of, general_error, result_only, shut_down};
 pub use crate::rules::TunnelRules;
-pub use crate::tunnel::Tunnel;
-pub use crate::values::{assigned_tunnel, message_type};
+pub use crate::spelling::{
+    AvpList, BOTH_FRAMINGS, OWN_WINDOW, avp, code_octets, hello, push_challenge, push_response,
+    spelled, stop_ccn,
+};
+pub use crate::step::{cleared, nothing, sends};
+pub use crate::tunnel::{DEFAULT_WINDOW, Tunnel, copied, copied_secret};
+pub use crate::values::{
+    VALUE_MOST, Value, assigned_tunnel, message_type, number_at, type_in, value_of, window_of,
+};

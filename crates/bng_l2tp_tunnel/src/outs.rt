@@ -12,7 +12,7 @@ use bng_base::Frame;
 use bng_l2tp_reliable::{Channel, IN_FLIGHT_MOST, Outgoing};
 
 /// The datagrams of a step: at most eight that the window lets out, and a ZLB.
-pub(crate) type Outs = ArrayVec<Frame, 10>;
+pub type Outs = ArrayVec<Frame, 10>;
 
 // The octets of a control message header (RFC 2661 section 3.1).
 const HEADER: usize = 12;
@@ -21,9 +21,9 @@ const TUNNEL_AT: usize = 4;
 
 const NS_AT: usize = 8;
 
-// A message of the channel as it goes out to a tunnel of the peer.
+/// A message of the channel as it goes out to a tunnel of the peer (RFC 2661 section 3.1).
 #[tactic(auto, unfolding(crate::specs::Outs::datagram))]
-fn datagram(tunnel: u16, out: &Outgoing) -> Frame
+pub fn datagram(tunnel: u16, out: &Outgoing) -> Frame
     ensures { result.payload ≡ datagram_to tunnel out.now }
 {
     let mut frame = Frame::new();
@@ -48,8 +48,8 @@ fn push_some(outs: &mut Outs, tunnel: u16, out: Option<Outgoing>)
     }
 }
 
-// The messages that the window lets out.
-fn let_out(channel: &mut Channel, tunnel: u16) -> Outs
+/// The messages that the window lets out.
+pub fn let_out(channel: &mut Channel, tunnel: u16) -> Outs
     ensures outs { payloads result.items ≡ map (datagram_to tunnel) (lets_out flight_most channel.old) }
     ensures first { IsChannel channel.old → AreFirstWaiting channel.old (lets_out flight_most channel.old) }
     ensures few { array_vec_len result ≤ 8 }
@@ -64,7 +64,7 @@ fn let_out(channel: &mut Channel, tunnel: u16) -> Outs
 }
 
 /// The messages in flight, oldest first.
-pub(crate) fn resent(channel: &Channel, tunnel: u16) -> Outs
+pub fn resent(channel: &Channel, tunnel: u16) -> Outs
     ensures { payloads result.items ≡ map (datagram_to tunnel) (flight_before flight_most channel.now) }
 {
     let mut outs = ArrayVec::new();
@@ -75,7 +75,7 @@ pub(crate) fn resent(channel: &Channel, tunnel: u16) -> Outs
 }
 
 /// A message without AVPs, which only acknowledges (RFC 2661 section 5.8).
-pub(crate) fn zlb(channel: &Channel, tunnel: u16) -> Frame
+pub fn zlb(channel: &Channel, tunnel: u16) -> Frame
     ensures { result.payload ≡ zlb_of tunnel channel.now }
 {
     let (ns, nr) = channel.numbers();
@@ -101,7 +101,7 @@ fn push_zlb(outs: &mut Outs, channel: &Channel, tunnel: u16, acknowledging: Ackn
 }
 
 /// The datagrams that go out to a tunnel of the peer: the messages that the window lets out, and then the ZLB.
-pub(crate) fn outs_of(channel: &mut Channel, tunnel: u16, acknowledging: Acknowledging) -> Outs
+pub fn outs_of(channel: &mut Channel, tunnel: u16, acknowledging: Acknowledging) -> Outs
     ensures outs { payloads result.items ≡ outs_to acknowledging tunnel channel.old }
     ensures channel { channel.new ≡ after_out flight_most channel.old }
     ensures until { next_out channel.new ≡ None }

@@ -22,9 +22,11 @@ pub enum Refusal {
 
 /// What a Result Code AVP says (RFC 2661 section 4.4.2): a Result Code, and an Error Code where it has one.
 #[derive(Clone, Copy)]
-pub(crate) struct ResultCode {
-    pub(crate) code: u16,
-    pub(crate) error: Option<u16>,
+pub struct ResultCode {
+    /// The Result Code.
+    pub code: u16,
+    /// The Error Code, if it has one.
+    pub error: Option<u16>,
 }
 
 // General error, which the Error Code tells.
@@ -45,13 +47,15 @@ const NO_RESOURCES: u16 = 4;
 // An AVP that must be known is not.
 const UNKNOWN_AVP: u16 = 8;
 
-fn result_only(code: u16) -> ResultCode
+/// A Result Code without an Error Code.
+pub fn result_only(code: u16) -> ResultCode
     ensures { result ≡ only_result code }
 {
     ResultCode { code, error: None }
 }
 
-fn general_error(error: u16) -> ResultCode
+/// Result Code 2, a general error, which the Error Code tells.
+pub fn general_error(error: u16) -> ResultCode
     ensures { result ≡ error_of error }
 {
     ResultCode {
@@ -61,7 +65,7 @@ fn general_error(error: u16) -> ResultCode
 }
 
 /// The code of a StopCCN that tells a refusal.
-pub(crate) fn code_of(refusal: Refusal) -> ResultCode
+pub fn code_of(refusal: Refusal) -> ResultCode
     ensures { result ≡ code_of_refusal refusal }
 {
     match refusal {
@@ -75,7 +79,7 @@ pub(crate) fn code_of(refusal: Refusal) -> ResultCode
 }
 
 /// The code of a StopCCN of a gateway that shuts down.
-pub(crate) fn shut_down() -> ResultCode
+pub fn shut_down() -> ResultCode
     ensures { result ≡ code_of_shut_down }
 {
     result_only(SHUT_DOWN)

@@ -20,15 +20,16 @@ use bng_l2tp_wire::message::{HELLO, SCCRP, STOP_CCN};
 use bng_l2tp_wire::{Avp, Control};
 
 /// How many messages the gateway takes before it acknowledges one (RFC 2661 section 4.4.3).
-const OWN_WINDOW: u16 = 8;
+pub const OWN_WINDOW: u16 = 8;
 
 /// Both synchronous and asynchronous framing (RFC 2661 section 4.4.3).
-const BOTH_FRAMINGS: [u8; 4] = [0, 0, 0, 3];
+pub const BOTH_FRAMINGS: [u8; 4] = [0, 0, 0, 3];
 
-type AvpList<'a> = ArrayVec<Avp<'a>, 64>;
+/// The AVPs of a control message.
+pub type AvpList<'a> = ArrayVec<Avp<'a>, 64>;
 
-// An AVP that the peer must know, and that is not hidden.
-fn avp<'a>(kind: u16, value: &'a [u8]) -> Avp<'a>
+/// An AVP that the peer must know, and that is not hidden (RFC 2661 section 4.1).
+pub fn avp<'a>(kind: u16, value: &'a [u8]) -> Avp<'a>
     ensures { avp_of result ≡ must_avp kind value.now }
 {
     Avp {
@@ -42,7 +43,7 @@ fn avp<'a>(kind: u16, value: &'a [u8]) -> Avp<'a>
 }
 
 /// The text of a control message that is known to fit.
-pub(crate) fn spelled(tunnel: u16, session: u16, ns: u16, nr: u16, avps: AvpList<'_>) -> Frame
+pub fn spelled(tunnel: u16, session: u16, ns: u16, nr: u16, avps: AvpList<'_>) -> Frame
     requires fit { AllByRecursion AvpFits (avps_of avps.items) }
     requires short { 12 + length (avps_text (avps_of avps.items)) ≤ LONGEST }
     ensures text { result.payload ≡ control_text (record { tunnel = tunnel; session = session; ns = ns; nr = nr; avps = avps_of avps.entry.items }) }
@@ -76,7 +77,8 @@ fn response_to(secret: &Option<ArrayVec<u8, 64>>, asked: &Option<Value>) -> Opti
     }
 }
 
-fn push_challenge<'a>(
+/// Adds the gateway's Challenge, where there is a secret (RFC 2661 section 4.4.3).
+pub fn push_challenge<'a>(
     avps: &mut AvpList<'a>,
     secret: &Option<ArrayVec<u8, 64>>,
     challenge: &'a [u8; 16],
@@ -90,7 +92,8 @@ fn push_challenge<'a>(
     }
 }
 
-fn push_response<'a>(avps: &mut AvpList<'a>, response: &'a Option<[u8; 16]>)
+/// Adds the answer to the peer's Challenge, where there is one (RFC 2661 section 4.4.3).
+pub fn push_response<'a>(avps: &mut AvpList<'a>, response: &'a Option<[u8; 16]>)
     requires { array_vec_len avps.old < 64 }
     ensures items { avps_of avps.new.items ≡ avps_of avps.old.items ++ answer_avps response.now }
 {
@@ -100,7 +103,7 @@ fn push_response<'a>(avps: &mut AvpList<'a>, response: &'a Option<[u8; 16]>)
 }
 
 /// The SCCRP of a tunnel with this number, to a peer that sent this Challenge, if one (RFC 2661 section 6.2).
-pub(crate) fn sccrp(
+pub fn sccrp(
     name: &[u8],
     number: u16,
     secret: &Option<ArrayVec<u8, 64>>,
@@ -127,8 +130,8 @@ pub(crate) fn sccrp(
     spelled(0, 0, 0, 0, avps)
 }
 
-// The octets of a Result Code AVP.
-fn code_octets(code: ResultCode) -> ArrayVec<u8, 4>
+/// The octets of a Result Code AVP (RFC 2661 section 4.4.2).
+pub fn code_octets(code: ResultCode) -> ArrayVec<u8, 4>
     ensures { result.items ≡ octets_of_code code }
 {
     let mut octets = ArrayVec::new();
@@ -144,7 +147,7 @@ fn code_octets(code: ResultCode) -> ArrayVec<u8, 4>
 }
 
 /// The StopCCN of the tunnel with this number (RFC 2661 section 6.4), to a tunnel of the peer and with these numbers.
-pub(crate) fn stop_ccn(tunnel: u16, nr: u16, number: u16, code: ResultCode) -> Frame
+pub fn stop_ccn(tunnel: u16, nr: u16, number: u16, code: ResultCode) -> Frame
     ensures text { result.payload ≡ control_text (record (stop_ccn_of number code) { tunnel = tunnel; nr = nr }) }
     ensures size { length result.payload ≤ 512 }
 {
@@ -159,7 +162,7 @@ pub(crate) fn stop_ccn(tunnel: u16, nr: u16, number: u16, code: ResultCode) -> F
 }
 
 /// The HELLO (RFC 2661 section 6.5).
-pub(crate) fn hello() -> Frame
+pub fn hello() -> Frame
     ensures text { result.payload ≡ control_text hello_of }
     ensures size { length result.payload ≤ 512 }
 {

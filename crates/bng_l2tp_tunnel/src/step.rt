@@ -7,7 +7,7 @@ use arrayvec::ArrayVec;
 use bng_base::TunnelStep;
 
 /// A step that sends these datagrams, and tells nothing else.
-pub(crate) fn sends(outs: Outs) -> TunnelStep
+pub fn sends(outs: Outs) -> TunnelStep
     ensures { said result ≡ says_to_send (payloads outs.items) }
 {
     TunnelStep {
@@ -22,14 +22,14 @@ pub(crate) fn sends(outs: Outs) -> TunnelStep
 }
 
 /// A step that does nothing.
-pub(crate) fn nothing() -> TunnelStep
+pub fn nothing() -> TunnelStep
     ensures { said result ≡ says_to_send [] }
 {
     sends(ArrayVec::new())
 }
 
 /// The same step, in which the tunnel was cleared.
-pub(crate) fn cleared(mut step: TunnelStep) -> TunnelStep
+pub fn cleared(mut step: TunnelStep) -> TunnelStep
     ensures { said result ≡ record (said step) { cleared = true } }
 {
     step.cleared = true;

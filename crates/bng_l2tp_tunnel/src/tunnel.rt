@@ -23,7 +23,7 @@ use bng_l2tp_wire::Control;
 use std::marker::Model;
 
 /// The window of a peer that says none (RFC 2661 section 4.4.3).
-pub(crate) const DEFAULT_WINDOW: u16 = 4;
+pub const DEFAULT_WINDOW: u16 = 4;
 
 /// A tunnel of a peer, as its network server sees it (RFC 2661 section 7.2).
 ///
@@ -59,8 +59,8 @@ impl Model for Tunnel {
     } };
 }
 
-// The same text once more.
-fn copied(text: &ArrayVec<u8, 64>) -> ArrayVec<u8, 64>
+/// The same text once more.
+pub fn copied(text: &ArrayVec<u8, 64>) -> ArrayVec<u8, 64>
     ensures { result.items ≡ text.now.items }
 {
     let Ok(list) = ArrayVec::try_from(text.as_slice()) else {
@@ -69,7 +69,8 @@ fn copied(text: &ArrayVec<u8, 64>) -> ArrayVec<u8, 64>
     list
 }
 
-fn copied_secret(secret: &Option<ArrayVec<u8, 64>>) -> Option<ArrayVec<u8, 64>>
+/// The same secret once more.
+pub fn copied_secret(secret: &Option<ArrayVec<u8, 64>>) -> Option<ArrayVec<u8, 64>>
     ensures { octets_of result ≡ octets_of secret.now }
 {
     match secret {

@@ -13,10 +13,10 @@ use bng_l2tp_wire::kind::{ASSIGNED_TUNNEL_ID, MESSAGE_TYPE, RECEIVE_WINDOW_SIZE}
 use bng_l2tp_wire::{Avp, Control};
 
 /// The most octets of the value of an AVP, whose Length has ten bits (RFC 2661 section 4.1).
-pub(crate) const VALUE_MOST: usize = 1017;
+pub const VALUE_MOST: usize = 1017;
 
 /// What an AVP says.
-pub(crate) type Value = ArrayVec<u8, 1017>;
+pub type Value = ArrayVec<u8, 1017>;
 
 // A list of these octets.
 fn listed(octets: &[u8]) -> Value
@@ -76,11 +76,7 @@ fn value_in(placed: &Placed<'_>, secret: &Option<ArrayVec<u8, 64>>) -> Option<Va
 }
 
 /// What a message says by an AVP of this Attribute Type, of which the first counts.
-pub(crate) fn value_of(
-    avps: &[Avp<'_>],
-    secret: &Option<ArrayVec<u8, 64>>,
-    kind: u16,
-) -> Option<Value>
+pub fn value_of(avps: &[Avp<'_>], secret: &Option<ArrayVec<u8, 64>>, kind: u16) -> Option<Value>
     ensures { octets_of result ≡ value_of_kind (octets_of secret.now) kind (avps_of avps.now) }
 {
     match place_of(avps, kind) {
@@ -100,11 +96,7 @@ fn number_of(octets: &[u8]) -> Option<u16>
 }
 
 /// The number that a message says by an AVP of this Attribute Type.
-pub(crate) fn number_at(
-    avps: &[Avp<'_>],
-    secret: &Option<ArrayVec<u8, 64>>,
-    kind: u16,
-) -> Option<u16>
+pub fn number_at(avps: &[Avp<'_>], secret: &Option<ArrayVec<u8, 64>>, kind: u16) -> Option<u16>
     ensures { result ≡ number_in (value_of_kind (octets_of secret.now) kind (avps_of avps.now)) }
 {
     match value_of(avps, secret, kind) {
@@ -114,7 +106,7 @@ pub(crate) fn number_at(
 }
 
 /// What the Message Type of a message says.
-pub(crate) fn type_in(avps: &[Avp<'_>]) -> Option<u16>
+pub fn type_in(avps: &[Avp<'_>]) -> Option<u16>
     ensures { result ≡ type_of (avps_of avps.now) }
 {
     let [first, ..] = avps else {
@@ -128,7 +120,7 @@ pub(crate) fn type_in(avps: &[Avp<'_>]) -> Option<u16>
 }
 
 /// The window of a peer that sent this message.
-pub(crate) fn window_of(avps: &[Avp<'_>], secret: &Option<ArrayVec<u8, 64>>) -> u16
+pub fn window_of(avps: &[Avp<'_>], secret: &Option<ArrayVec<u8, 64>>) -> u16
     ensures { result ≡ size_of_window (octets_of secret.now) (avps_of avps.now) }
 {
     match number_at(avps, secret, RECEIVE_WINDOW_SIZE) {

@@ -9,7 +9,7 @@ use Rattle.bng_l2tp_tunnel.specs.TunnelState.{TunnelState}
 use Rattle.bng_l2tp_tunnel.specs.View.{Said}
 use Rattle.bng_l2tp_tunnel.proofs.Few.{send_one}
 use Rattle.bng_l2tp_tunnel.proofs.Soundness.{send_sound}
-use Rattle.bng_l2tp_tunnel.proofs.Spelled.{AllByRecursion-append}
+use Rattle.bng_l2tp_tunnel.proofs.Texts.{AllByRecursion-append}
 use Rattle.bng_l2tp_wire.specs.Messages.{ControlMessage}
 use Rattle.bng_l2tp_call.specs.CallState.{CallState}
 use Rattle.bng_l2tp_call.specs.Sound.{IsSentTo as IsCallSentTo}
