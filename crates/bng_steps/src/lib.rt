@@ -19,11 +19,11 @@ mod discover;
 mod drive;
 mod error;
 mod frames;
-mod hear;
 mod host_uniq;
 mod in_turn;
 mod incoming;
 mod interims;
+mod item;
 mod l2tp;
 mod lapsing;
 mod laws;
@@ -57,9 +57,9 @@ pub use crate::changes::Answer;
 pub use crate::data::hear_core;
 pub use crate::destination::{Destination, destination_of};
 pub use crate::error::ShardError;
-pub use crate::hear::hear;
 pub use crate::incoming::Incoming;
 pub use crate::interims::Reports;
+pub use crate::item::hear;
 pub use crate::laws::{
     interims_are_awaited, questions_are_heard, steps_meet_laws, terms_of_circuits_are_apart,
     yeses_are_granted,

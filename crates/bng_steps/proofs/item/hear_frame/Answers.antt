@@ -2,7 +2,7 @@ use Rattle.std.proofs.Common.{refl}
 use Rattle.bng_pppoe_wire.specs.View.{frame_of}
 use Rattle.bng_steps.specs.Running.{whole}
 use Rattle.bng_steps.proofs.Arriving.{by_discovery, by_data, by_control}
-use Rattle.bng_steps.proofs.hear.hear_frame.Goals as goal
+use Rattle.bng_steps.proofs.item.hear_frame.Goals as goal
 
 pub hear_data-requires-clause-carries : goal.hear_data-requires-clause-carries
 hear_data-requires-clause-carries g c = (c.in-Some.info.now, c.in-Some.ensures.found, refl)

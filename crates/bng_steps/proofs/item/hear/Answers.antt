@@ -6,7 +6,7 @@ use Rattle.bng_steps.specs.Running.{whole}
 use Rattle.bng_steps.proofs.Arriving.{does_more}
 use Rattle.bng_steps.proofs.ByKind.{answered_so, ended, stepped, stepped_with, ticked, unanswered, unasked}
 use Rattle.bng_steps.proofs.SumsKept.{keeps_stay}
-use Rattle.bng_steps.proofs.hear.hear.Goals as goal
+use Rattle.bng_steps.proofs.item.hear.Goals as goal
 
 pub returns-in-Access-clause-does : goal.returns-in-Access-clause-does
 returns-in-Access-clause-does g c =

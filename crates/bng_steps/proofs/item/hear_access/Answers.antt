@@ -10,7 +10,7 @@ use Rattle.bng_steps.specs.Running.{whole}
 use Rattle.bng_steps.proofs.Arriving.{does_more}
 use Rattle.bng_steps.proofs.Carrying.{nothing_done}
 use Rattle.bng_steps.proofs.NoFrames.{no_frame}
-use Rattle.bng_steps.proofs.hear.hear_access.Goals as goal
+use Rattle.bng_steps.proofs.item.hear_access.Goals as goal
 
 pub returns-in-Some-clause-does : goal.returns-in-Some-clause-does
 returns-in-Some-clause-does g c =
