@@ -9,9 +9,9 @@ use crate::full::{Full, SlotError};
 use crate::index::Index;
 use crate::key::Due;
 use crate::shelf::Shelf;
-use bng_sessions::Slotted;
 use crate::vacancy::{PLACES, Vacancy};
 use bng_base::{Circuit, Ip4, SessionNo, TermId};
+use bng_sessions::Slotted;
 use std::alloc::Global;
 use std::marker::Model;
 
