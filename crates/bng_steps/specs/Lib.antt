@@ -45,3 +45,4 @@ pub mod Interims
 pub mod Surveying
 pub mod Destinations
 pub mod Placed
+pub mod Seats

@@ -215,7 +215,7 @@ fn shard_of(peer: Peer, shards: u16) -> u16
 }
 
 // The sum of the octets of an address, and of a port.
-fn fold_of_peer(peer: Peer) -> u32
+pub fn fold_of_peer(peer: Peer) -> u32
     ensures { result ≡ peer_fold peer }
 {
     let ip = peer.ip.0;

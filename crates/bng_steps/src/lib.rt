@@ -35,6 +35,7 @@ mod parting;
 mod questions;
 mod replies;
 mod rules;
+mod seat;
 mod seeking;
 mod sending;
 mod served;
@@ -66,6 +67,7 @@ pub use crate::laws::{
 };
 pub use crate::questions::Handed;
 pub use crate::rules::Rules;
+pub use crate::seat::seat_of;
 pub use crate::served::{Served, Survey};
 pub use crate::session::Session;
 pub use crate::store::Store;
