@@ -22,6 +22,7 @@ ghost use Rattle.bng_steps.specs.Sums.{charged_as, AreCovered, AreLow, IsLow, Ro
 
 use crate::claim::{ask, left_after};
 use crate::indexed::Indexed;
+use crate::rooms::{handed_out, is_lent, reserve_amply};
 use bng_base::{At, Batch, Book, Entry, Fate, Item, LONGEST, OutRecord, SessionNo, Static};
 use bng_coa::ChangeVerdict;
 use bng_pool::PlainPool;
