@@ -10,7 +10,7 @@ import subprocess
 import sys
 
 from checks import usage
-from machine.gateway import PROGRAM, is_built
+from machine.gateway import PROGRAM, is_built, is_of_try
 
 LIMIT = 65536
 
@@ -26,12 +26,6 @@ def octets(digits):
     """The number of these digits, which is below 0 where the compiler takes less than nothing."""
     number = int(digits, 16)
     return number - 2**64 if number >= 2**63 else number
-
-
-def has_checks(program):
-    """Whether this is a program of `rt try`, with AddressSanitizer."""
-    with open(program, "rb") as file:
-        return b"__asan_init" in file.read()
 
 
 class Function:
@@ -74,7 +68,7 @@ def main(limit=LIMIT, program=PROGRAM):
     if program == PROGRAM and not is_built():
         print("frames: skipped, since the built program is missing or older than its sources")
         return 0
-    if has_checks(program):
+    if is_of_try(program):
         print("frames: skipped, since the program was built by rt try, whose checks of memory have frames of their own")
         return 0
     functions = read_functions(program)
