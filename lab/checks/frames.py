@@ -17,9 +17,9 @@ LIMIT = 65536
 HEAD = re.compile(r"^[0-9a-f]+ <(.*)>:$")
 TAKEN = re.compile(r"\bsub +\$0x([0-9a-f]+),%rsp")
 GIVEN = re.compile(r"\badd +\$0x([0-9a-f]+),%rsp")
-# A frame of more than some pages is touched page by page: its end is reckoned first, and a loop goes there.
+# A large frame is touched step by step: its end is reckoned first, in one instruction or in two, and a loop of steps goes there.
+BEGUN = re.compile(r"\bmov +%rsp,%r11")
 PROBED = re.compile(r"\blea +-0x([0-9a-f]+)\(%rsp\),%r11|\bsub +\$0x([0-9a-f]+),%r11")
-PAGE = 0x1000
 
 
 def octets(digits):
@@ -32,16 +32,18 @@ class Function:
     """A function whose code is read from its first line on: how deep the stack is there, and was at most."""
 
     def __init__(self, name):
-        self.name, self.depth, self.most, self.is_probing = name, 0, 0, False
+        self.name, self.depth, self.most = name, 0, 0
+        self.has_begun = self.is_probing = False
 
     def read(self, code):
-        if found := PROBED.search(code):
+        has_begun, self.has_begun = self.has_begun, bool(BEGUN.search(code))
+        if (found := PROBED.search(code)) and (found.group(1) or has_begun):
             self.depth, self.is_probing = self.depth + octets(found.group(1) or found.group(2)), True
-        elif found := TAKEN.search(code):
+        elif (found := TAKEN.search(code)) and self.is_probing:
             # The step of such a loop is none of its own.
-            size = octets(found.group(1))
-            is_step = self.is_probing and size == PAGE
-            self.depth, self.is_probing = self.depth + size * (not is_step), self.is_probing and not is_step
+            self.is_probing = False
+        elif found:
+            self.depth += octets(found.group(1))
         elif "push " in code:
             self.depth += 8
         elif "pop " in code:
