@@ -20,6 +20,7 @@ from checks.sessions import serves_sessions
 from checks.terms import counts_past_sixteen_bits, ends_a_thousand_terms, ends_by_timeouts, keeps_records_while_nobody_takes_them
 from checks.terms import refuses_where_terms_are_used_up, reports_after_a_minute, shares_three_addresses_among_five
 from checks.tunnels import keeps_a_silent_tunnel, serves_a_call, serves_tunnels
+from checks.watching import watches
 from machine.gateway import CRATE, PROGRAM, USAGE, Lab, is_built, is_of_try, report, run, stats, tried
 from peers.ipv4 import packet
 from peers.loopback import udp
@@ -257,6 +258,7 @@ def try_all(checks):
         reads_the_example(checks)
         says_when_nobody_takes_its_report(checks)
         keeps_an_operators_habits(checks)
+        watches(checks)
     else:
         print("smoke: the built program is missing or older than its sources: runs under rt try, and only three times")
         os.chdir(CRATE)
