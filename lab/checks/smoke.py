@@ -10,6 +10,7 @@ import time
 
 from checks import usage
 from checks.changes import changes_sessions
+from checks.diagnosis import asks_the_doctor
 from checks.example import reads_the_example
 from checks.habits import keeps_an_operators_habits
 from checks.leases import leases_addresses
@@ -243,6 +244,7 @@ def try_all(checks):
         refuses_where_terms_are_used_up(checks, built, 10)
         with concurrent.futures.ThreadPoolExecutor() as together:
             minutes = [together.submit(each, checks, built, 10) for each in MINUTES]
+            minutes.append(together.submit(asks_the_doctor, checks))
         for minute in minutes:
             minute.result()
         ends_a_thousand_terms(checks, built, 10)
