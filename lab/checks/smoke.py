@@ -10,6 +10,7 @@ import time
 
 from checks import usage
 from checks.changes import changes_sessions
+from checks.diagnosis import asks_the_doctor
 from checks.example import reads_the_example
 from checks.habits import keeps_an_operators_habits
 from checks.leases import leases_addresses
@@ -20,7 +21,8 @@ from checks.sessions import serves_sessions
 from checks.terms import counts_past_sixteen_bits, ends_a_thousand_terms, ends_by_timeouts, keeps_records_while_nobody_takes_them
 from checks.terms import refuses_where_terms_are_used_up, reports_after_a_minute, shares_three_addresses_among_five
 from checks.tunnels import keeps_a_silent_tunnel, serves_a_call, serves_tunnels
-from machine.gateway import CRATE, PROGRAM, USAGE, Lab, is_built, report, run, stats, tried
+from checks.watching import watches
+from machine.gateway import CRATE, PROGRAM, USAGE, Lab, is_built, is_of_try, report, run, stats, tried
 from peers.ipv4 import packet
 from peers.loopback import udp
 from peers.pppoe import delivery, frame
@@ -201,11 +203,14 @@ def refuses_bad_beginnings(checks):
         checks.same("more than 1 MiB", run([PROGRAM, "serve", long]), (2, "", "bng: config: C1 text\n"))
         checks.same("no end of text", run([PROGRAM, "serve", "/dev/zero"]), (2, "", "bng: config: C1 text\n"))
         broken = lab.write("broken.toml", "[core\n")
-        for file in (broken, PROGRAM):
+        binary = os.path.join(lab.folder, "binary.toml")
+        with open(PROGRAM, "rb") as program, open(binary, "wb") as file:
+            file.write(program.read(4096))
+        for file in (broken, binary):
             checks.same("no TOML", run([PROGRAM, "serve", file]), (2, "", "bng: config: C2 text\n"))
-        usage = (1, "", USAGE + "\n")
+        unheard_of = (1, "", USAGE + "\n")
         for words in ([], ["--help"], ["serve"], ["serve", "a", "b"], ["serve", b"\xff"]):
-            checks.same(f"the words {words}", run([PROGRAM, *words]), usage)
+            checks.same(f"the words {words}", run([PROGRAM, *words]), unheard_of)
 
 
 def says_when_nobody_takes_its_report(checks):
@@ -239,18 +244,23 @@ def try_all(checks):
         refuses_where_terms_are_used_up(checks, built, 10)
         with concurrent.futures.ThreadPoolExecutor() as together:
             minutes = [together.submit(each, checks, built, 10) for each in MINUTES]
+            minutes.append(together.submit(asks_the_doctor, checks))
         for minute in minutes:
             minute.result()
         ends_a_thousand_terms(checks, built, 10)
         records_a_circuit(checks, built, 10)
         tells_a_stop_that_nobody_acknowledges(checks, built, 10)
-        goes_on_after_memory_was_refused(checks)
+        if is_of_try():
+            print("skipped the want of memory: a program of rt try takes its memory otherwise")
+        else:
+            goes_on_after_memory_was_refused(checks)
         refuses_bad_beginnings(checks)
         refuses_bad_configurations(checks)
         says_which_end_is_taken(checks)
         reads_the_example(checks)
         says_when_nobody_takes_its_report(checks)
         keeps_an_operators_habits(checks)
+        watches(checks)
     else:
         print("smoke: the built program is missing or older than its sources: runs under rt try, and only three times")
         os.chdir(CRATE)

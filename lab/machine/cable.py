@@ -112,9 +112,13 @@ class Cable:
         if self.keep(frame, is_up):
             self.show("subscriber" if is_up else "gateway", pppoe.frame_words(frame))
         if is_up:
-            self.lab.send(octets)
+            self.send_up(octets)
         else:
             self.far.sendto(octets, (LOOPBACK, self.near))
+
+    def send_up(self, octets):
+        """Sends a frame of the machine to the gateway."""
+        self.lab.send(octets)
 
     def keep(self, frame, is_up):
         """Keeps when discovery frames and control packets were first seen, and counts what goes through a PPP interface. Whether

@@ -121,6 +121,12 @@ def is_built():
     return max(newest(*sources), listed) <= os.path.getmtime(PROGRAM)
 
 
+def is_of_try(program=PROGRAM):
+    """Whether this is a program that `rt try` built, with checks of memory (AddressSanitizer)."""
+    with open(program, "rb") as file:
+        return b"__asan_init" in file.read()
+
+
 def tried(configuration, seconds=30):
     """The words that run the program unproved, from the folder of its crate, for so many seconds at most."""
     return ["rt", "try", "--seconds", str(seconds), "--data", f"lab.toml={configuration}", "--", "serve", "lab.toml"]

@@ -50,12 +50,16 @@ static int pass(int in, int out, struct sockaddr_in *peer, char *room, ssize_t f
     return 1;
 }
 
+/* What the loop puts before a packet of the core: the Ethernet, PPPoE and PPP headers of the provisioned circuit. */
+static const char headers[FRONT + 1] = "\2\0\0\0\0\1\2\0\0\0\0\376\x88\x64\x11\0\4\1\0\0\0\x21";
+
 /* loop ACCESS CORE CORE_PEER ACCESS_PEER CONTROL: until a datagram comes at CONTROL */
 static int forward(char **ports) {
     int access = bound(ports[0]), core = bound(ports[1]), control = bound(ports[4]);
     struct sockaddr_in core_peer = end_of(ports[2]), access_peer = end_of(ports[3]);
     struct pollfd waits[3] = {{access, POLLIN, 0}, {core, POLLIN, 0}, {control, POLLIN, 0}};
     static char room[FRONT + LONGEST];
+    memcpy(room, headers, FRONT);
     while (!(waits[2].revents & POLLIN)) {
         int passed = 0;
         while (pass(access, core, &core_peer, room, FRONT))
@@ -74,18 +78,18 @@ static double seconds(void) {
     return (double)now.tv_sec + 1e-9 * (double)now.tv_nsec;
 }
 
-/* load OUT_FD IN_FD END SECONDS, what to send to END on standard input: prints the packets that came back, those that
-   did not, and the seconds */
+/* load OUT_FD IN_FD END SECONDS, what to send to END on standard input, or to where OUT_FD is bound where END is -: prints
+   the packets that came back, those that did not, and the seconds */
 static int load(char **words) {
-    int outward = atoi(words[0]), inward = atoi(words[1]);
-    struct sockaddr_in to = end_of(words[2]);
+    int outward = atoi(words[0]), inward = atoi(words[1]), is_named = strcmp(words[2], "-") != 0;
+    struct sockaddr_in to = end_of(is_named ? words[2] : "0");
     static char frame[LONGEST], rooms[BATCH][LONGEST];
     size_t length = fread(frame, 1, sizeof frame, stdin);
     struct iovec out = {frame, length}, ins[BATCH];
     struct mmsghdr sends[BATCH] = {0}, gets[BATCH] = {0};
     for (int at = 0; at < BATCH; at++) {
         ins[at] = (struct iovec){rooms[at], LONGEST};
-        sends[at].msg_hdr = (struct msghdr){&to, sizeof to, &out, 1, NULL, 0, 0};
+        sends[at].msg_hdr = (struct msghdr){is_named ? &to : NULL, is_named ? sizeof to : 0, &out, 1, NULL, 0, 0};
         gets[at].msg_hdr = (struct msghdr){NULL, 0, &ins[at], 1, NULL, 0, 0};
     }
     long came = 0, lost = 0, away = 0;
