@@ -136,6 +136,6 @@ none_admits v kind h = record {
 pub admits_next : (r : Rules) (table : Table) (moment : ℕ) (done : List Item) (whose : List Whose) (item : Item) (left : List Item) (n : ℕ) (v : ShardView ShardState Entry)
     → AreOnce (done ++ item ∷ left) → AllZip StandsOnce done whose → IsWhose r (entry table) item (Stands n) → map without_claim v.journal ≡ entries_in 0 n 0 moment done whose → Admits v item.kind
 admits_next r table moment done whose item left n v once are is journal = none_admits v item.kind (λ yes.
-    let target : item.target ≡ n = once_target item.kind r table item n is yes in
+    let target : item.target ≡ n = stands_once r table item (Stands n) is n refl yes in
     let low : AllByRecursion (IsLower n) done = subst (λ (m : ℕ). AllByRecursion (IsLower m) done) target (once_before done item left once yes) in
     all_mapped NotOnce without_claim v.journal (subst (λ (es : List Entry). AllByRecursion NotOnce es) (sym journal) (none_once n 0 moment done whose are low)))
