@@ -1,2 +1,3 @@
 pub mod Signing
 pub mod Changes
+pub mod Opening

@@ -3,6 +3,7 @@ use Rattle.std.specs.Prelude.{◌≡◌, ℕ, List, Some, slice_get, length}
 use Rattle.bng_base.specs.Packet.{Packet as Bytes}
 use Rattle.bng_base.specs.declared.address.Peer.{Peer}
 use Rattle.bng_radius_wire.specs.Grammar.{Packet, IsRadius, length_in}
+use Rattle.bng_radius_wire.specs.Digests.{CanBeSigned}
 use Rattle.bng_rad_client.specs.declared.rules.Owner.{Owner}
 use Rattle.bng_rad_client.specs.Asking.{IsAsked}
 use Rattle.bng_rad_client.specs.Table.{Table}
@@ -24,6 +25,7 @@ WhenWaiting Waiting P = P
 pub record Asks (old new : Table) (owner : Owner) (request secret : List ℕ) (now : ℕ) (frame : Bytes) : Type 0 where
   pub packet : Packet
   pub reads : IsRadius packet request
+  pub can : CanBeSigned packet
   pub id : ℕ
   pub asked : IsAsked old new owner packet secret now id frame
   pub size : length frame.payload ≡ length_in request

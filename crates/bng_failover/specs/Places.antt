@@ -1,5 +1,5 @@
 -- What is done at one server of a lane, by its place.
-use Rattle.std.specs.Prelude.{◌≡◌, ◌<◌, ℕ, List, Option, Some, None, slice_get}
+use Rattle.std.specs.Prelude.{◌≡◌, ◌<◌, ℕ, List, Option, Some, None, length, slice_get}
 use Rattle.bng_base.specs.Packet.{Packet as Bytes}
 use Rattle.bng_base.specs.declared.address.Peer.{Peer}
 use Rattle.bng_rad_client.specs.declared.pending.Pending.{Pending}
@@ -8,9 +8,10 @@ use Rattle.bng_rad_client.specs.declared.rules.Lane.{Lane}
 use Rattle.bng_rad_client.specs.Replies.{Answers, WhenIgnored, WhenMatched}
 use Rattle.bng_rad_client.specs.Table.{Table, request_of, taken}
 use Rattle.bng_failover.specs.declared.server.Server.{Server}
-use Rattle.bng_failover.specs.Servers.{with_table, without}
+use Rattle.bng_failover.specs.Servers.{request_at, with_table, without}
 use Rattle.bng_failover.specs.Asking.{IsAskedAt}
 use Rattle.bng_failover.specs.Replies.{TakesOut}
+use Rattle.bng_failover.specs.Due.{goes_to}
 
 -- fewer than 256 requests are in hand at the server at a place
 abbrev pub HasRoomAt : List Server → ℕ → Type 0
@@ -41,3 +42,7 @@ pub record HearsAt (lane : Lane) (old new : List Server) (at : ℕ) (secret byte
   pub matched : WhenMatched result (TakesOut lane server.requests table bytes)
   pub last : table.last ≡ server.requests.last
   pub servers : new ≡ with_table old at server table
+
+-- the server to which the request goes that the server at a place holds under an identifier
+abbrev pub GoesTo : Lane → List Server → (tries at id : ℕ) → Option ℕ → Type 0
+GoesTo lane servers tries at id next = (r : Pending) → request_at servers at id ≡ Some r → next ≡ goes_to lane (length servers) tries at r

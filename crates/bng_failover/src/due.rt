@@ -2,6 +2,7 @@
 ghost use Rattle.std.specs.Prelude.{◌≡◌, ◌+◌, ◌<◌, ◌≤◌, IfSome, IfNone, IsSome, length};
 ghost use Rattle.bng_failover.specs.Servers.{request_at};
 ghost use Rattle.bng_failover.specs.Due.{sought_of, next_of, NoneDue, IsFirstDue, earlier, IsEarliest};
+ghost use Rattle.bng_failover.specs.Places.{GoesTo};
 ghost use Rattle.bng_failover.specs.Replies.{IsStranger, IsSender};
 
 use crate::server::Server;
@@ -27,8 +28,8 @@ fn sought_of(lane: Lane, count: usize, tries: u8, at: usize) -> Sought
     }
 }
 
-/// The server to which a request goes from the server at this place.
-pub(crate) fn next_of(lane: Lane, count: usize, at: usize) -> Option<usize>
+// The server to which a request goes from the server at this place.
+fn next_of(lane: Lane, count: usize, at: usize) -> Option<usize>
     requires { at < count }
     ensures next { result ≡ next_of lane count at }
     ensures there { IfSome result (λ next. next < count) }
@@ -39,6 +40,20 @@ pub(crate) fn next_of(lane: Lane, count: usize, at: usize) -> Option<usize>
     match lane {
         Lane::Acct if 0 < at => Some(0),
         _ => None,
+    }
+}
+
+/// The server to which the request goes that the server at this place holds under an identifier.
+pub(crate) fn goes_to(servers: &[Server], lane: Lane, tries: u8, at: usize, id: u8) -> Option<usize>
+    requires there { at < length servers.now }
+    requires held { IsSome (request_at servers.now at id) }
+    ensures goes { GoesTo lane servers.now tries at id result }
+    ensures there { IfSome result (λ next. next < length servers.now) }
+{
+    match servers[at].requests.get(id) {
+        Some(request) if request.sends < tries => None,
+        Some(_) => next_of(lane, servers.len(), at),
+        None => unreachable!(),
     }
 }
 
@@ -75,10 +90,12 @@ pub(crate) fn place_of(servers: &[Server], from: Peer) -> Option<usize>
 fn earlier(best: Option<u64>, other: Option<Due>) -> Option<u64>
     ensures { result ≡ earlier best other }
 {
-    match (best, other) {
-        (Some(moment), Some(due)) if moment <= due.sent_at => Some(moment),
-        (_, Some(due)) => Some(due.sent_at),
-        (_, None) => best,
+    let Some(due) = other else {
+        return best;
+    };
+    match best {
+        Some(moment) if moment <= due.sent_at => best,
+        _ => Some(due.sent_at),
     }
 }
 

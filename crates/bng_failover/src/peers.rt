@@ -47,7 +47,7 @@ impl Peers {
     pub fn is_full(&self) -> bool
         ensures { IsTrue result ↔ (4 ≤ length self.now) }
     {
-        MOST <= self.used
+        MOST <= self.as_slice().len()
     }
 
     /// One server more, behind the others.

@@ -9,7 +9,7 @@ ghost use Rattle.bng_failover.specs.Replies.{Hears, answered};
 ghost use Rattle.bng_failover.specs.Due.{NoneDue, IsSent, NoneGivenUp, IsGivenUp, IsDeadline};
 ghost use Rattle.bng_failover.specs.Withdrawing.{Withdraws};
 
-use crate::due::{earliest, first_due, next_of, place_of};
+use crate::due::{earliest, first_due, goes_to, place_of};
 use crate::place;
 use crate::rules::FailAsked;
 use crate::server::{Server, opened};
@@ -146,15 +146,7 @@ impl Servers {
     {
         let first = first_due(self.list.as_slice(), lane, tries, now)?;
         let (at, id) = (first.at, first.due.id);
-        let sends = match self.list[at].requests.get(id) {
-            Some(request) => request.sends,
-            None => unreachable!(),
-        };
-        let next = if sends < tries {
-            None
-        } else {
-            next_of(lane, self.list.len(), at)
-        };
+        let next = goes_to(self.list.as_slice(), lane, tries, at, id);
         Some(match next {
             None => place::repeat(&mut self.list, at, id, now, into),
             Some(next) => place::hand_over(&mut self.list, at, id, next, secret, now, into),

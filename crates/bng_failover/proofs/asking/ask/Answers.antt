@@ -5,6 +5,7 @@ pub returns : goal.returns
 returns c = record {
   packet = c.requires.grammar.0;
   reads = c.requires.grammar.1;
+  can = c.requires.grammar.2;
   id = c.in-Some.id;
   asked = record {
     next = c.in-Some.ensures.found;
