@@ -233,3 +233,12 @@ fewer_sound old new owner sound h = record { some = omega (arith, sound.some, h.
 
 pub more_sound : (old new : List Server) (owner : Owner) → AreSound old → in_hand old < 256 → IsGrown old new owner → AreSound new
 more_sound old new owner sound few h = record { some = omega (arith, sound.some, h.size); most = omega (arith, few, h.count); each = h.each }
+
+-- a server in its own place
+set_same : (old : List Server) (at : ℕ) (s : Server) → slice_get old at ≡ Some s → set old at s ≡ old
+set_same [] at s is = refl
+set_same (x ∷ old) zero s is = let one : x ≡ s = cc in ap (λ (y : Server). y ∷ old) (sym one)
+set_same (x ∷ old) (suc at) s is = ap (λ (ys : List Server). x ∷ ys) (set_same old at s is)
+
+pub unchanged : (old : List Server) (at : ℕ) (s : Server) → slice_get old at ≡ Some s → with_table old at s s.requests ≡ old
+unchanged old at s is = set_same old at s is

@@ -2,7 +2,6 @@
 use Rattle.std.proofs.Common.{◌≡◌, ℕ, zero, suc, ◌+◌, ◌≤◌, ◌<◌, Bool, false, cond, List, [], ◌∷◌, length, map, replicate, Option, Some, None, refl, sym, ap, subst, ◌∙◌, arith}
 use Rattle.std.specs.Prelude.{is_some, slice_get, count_by}
 use Rattle.std.specs.Option.{option_map}
-use Rattle.std.proofs.lemmas.List.{length-map}
 use Rattle.std.proofs.lemmas.List.Sums.{sum_by-cons}
 use Rattle.std.proofs.lemmas.Option.{slice_get-map}
 use Rattle.bng_base.specs.declared.address.Peer.{Peer}
@@ -24,7 +23,8 @@ no_request (suc n) (suc id) r e = no_request n id r e
 no_count : (test : Option Pending → Bool) → test None ≡ false → (n : ℕ) → count_by test (none n) ≡ 0
 no_count test e zero = refl
 no_count test e (suc n) =
-    let one : cond (test None) 1 0 ≡ 0 = ap (λ (b : Bool). cond b 1 0) e in
+    let of : Bool → ℕ = λ b. cond b 1 0 in
+    let one : of (test None) ≡ of false = ap of e in
     omega (arith, no_count test e n, one, sum_by-cons (λ (p : Option Pending). cond (test p) 1 0) None (none n))
 
 no_number : (test : Option Pending → Bool) → test None ≡ false → (peers : List Peer) → number test (map new_server peers) ≡ 0
@@ -45,9 +45,13 @@ from_peer : (s : Server) (p : Option Peer) → option_map new_server p ≡ Some 
 from_peer s None e = absurd cc
 from_peer s (Some p) e = let one : new_server p ≡ s = cc in subst IsSoundServer one (new_is_sound p)
 
+new_length : (peers : List Peer) → length (map new_server peers) ≡ length peers
+new_length [] = refl
+new_length (p ∷ peers) = ap suc (new_length peers)
+
 pub opened_sound : (peers : List Peer) → 0 < length peers → AreSound (map new_server peers)
 opened_sound peers some = record {
-  some = omega (arith, some, length-map new_server peers);
+  some = omega (arith, some, new_length peers);
   most = omega (arith, opened_none peers);
   each = λ at s is. from_peer s (slice_get peers at) (sym (slice_get-map new_server peers at) ∙ is);
 }

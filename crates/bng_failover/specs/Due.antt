@@ -75,16 +75,20 @@ abbrev pub NoneGivenUp : List Server → (tries now : ℕ) → Type 0
 NoneGivenUp servers tries now =
     (at : ℕ) (s : Server) → at + 1 ≡ length servers → slice_get servers at ≡ Some s → NoneBelow (is_sought (Timeout tries) now) s.requests.places 256
 
--- of those requests the one that was sent first is out no longer
+-- this is the last server, and of those requests of it the one that was sent first
+pub record HasTimedOut (servers : List Server) (tries now at : ℕ) (due : Due) : Type 0 where
+  pub last : at + 1 ≡ length servers
+  pub server : Server
+  pub is : slice_get servers at ≡ Some server
+  pub oldest : IsOldestBelow (is_sought (Timeout tries) now) server.requests.places 256 due
+
+-- the request of an owner is out no longer, which was sent first of those
 pub record IsGivenUp (old new : List Server) (tries now : ℕ) (owner : Owner) : Type 0 where
   pub at : ℕ
-  pub last : at + 1 ≡ length old
-  pub server : Server
-  pub is : slice_get old at ≡ Some server
   pub due : Due
-  pub oldest : IsOldestBelow (is_sought (Timeout tries) now) server.requests.places 256 due
-  pub owner_is : owner ≡ oldest.request.owner
-  pub servers : new ≡ without old at server due.id
+  pub first : HasTimedOut old tries now at due
+  pub owner_is : owner ≡ first.oldest.request.owner
+  pub servers : new ≡ without old at first.server due.id
 
 -- no request of the servers before a place is in hand
 abbrev pub NoneInHandBelow : List Server → ℕ → Type 0

@@ -1,7 +1,7 @@
 // Which request is due first, and where it goes.
 ghost use Rattle.std.specs.Prelude.{◌≡◌, ◌+◌, ◌<◌, ◌≤◌, IfSome, IfNone, IsSome, length};
 ghost use Rattle.bng_failover.specs.Servers.{request_at};
-ghost use Rattle.bng_failover.specs.Due.{sought_of, next_of, NoneDue, IsFirstDue, earlier, IsEarliest};
+ghost use Rattle.bng_failover.specs.Due.{sought_of, next_of, NoneDue, IsFirstDue, NoneGivenUp, HasTimedOut, earlier, IsEarliest};
 ghost use Rattle.bng_failover.specs.Places.{GoesTo};
 ghost use Rattle.bng_failover.specs.Replies.{IsStranger, IsSender};
 
@@ -70,6 +70,20 @@ pub(crate) fn first_due(servers: &[Server], lane: Lane, tries: u8, now: u64) -> 
         }
     }
     None
+}
+
+/// Of the requests that were sent to the last server as often as they are to be, the one that timed out first.
+pub(crate) fn timed_out(servers: &[Server], tries: u8, now: u64) -> Option<DueAt>
+    requires { 0 < length servers.now }
+    ensures some { IfSome result (λ d. HasTimedOut servers.now tries now d.at d.due) }
+    ensures none { IfNone result (NoneGivenUp servers.now tries now) }
+    ensures there { IfSome result (λ d. d.at < length servers.now) }
+{
+    let at = servers.len() - 1;
+    match servers[at].requests.oldest(now, Sought::Timeout(tries)) {
+        Some(due) => Some(DueAt { at, due }),
+        None => None,
+    }
 }
 
 /// The place of the first of the servers that has this address.

@@ -9,12 +9,12 @@ ghost use Rattle.bng_failover.specs.Replies.{Hears, answered};
 ghost use Rattle.bng_failover.specs.Due.{NoneDue, IsSent, NoneGivenUp, IsGivenUp, IsDeadline};
 ghost use Rattle.bng_failover.specs.Withdrawing.{Withdraws};
 
-use crate::due::{earliest, first_due, goes_to, place_of};
+use crate::due::{earliest, first_due, goes_to, place_of, timed_out};
 use crate::place;
 use crate::rules::FailAsked;
 use crate::server::{Server, opened};
 use bng_base::{Frame, Peer};
-use bng_rad_client::{INTERVAL, Ignored, Lane, Owner, Replied, Sought};
+use bng_rad_client::{INTERVAL, Ignored, Lane, Owner, Replied};
 use std::alloc::{AllocError, Global};
 use std::marker::Model;
 
@@ -159,11 +159,8 @@ impl Servers {
         ensures kept { IfNone result (self.new ≡ self.old) }
         ensures owners { Leaves result self.old self.new }
     {
-        let last = self.list.len() - 1;
-        let due = self.list[last]
-            .requests
-            .oldest(now, Sought::Timeout(tries))?;
-        match place::withdraw(&mut self.list, last, due.id) {
+        let last = timed_out(self.list.as_slice(), tries, now)?;
+        match place::withdraw(&mut self.list, last.at, last.due.id) {
             Some(request) => {
                 self.out -= 1;
                 Some(request.owner)
