@@ -5,3 +5,4 @@ pub mod Earliest
 pub mod Hearing
 pub mod Sending
 pub mod Once
+pub mod Twice
