@@ -6,3 +6,4 @@ pub mod Hearing
 pub mod Sending
 pub mod Once
 pub mod Twice
+pub mod Saying

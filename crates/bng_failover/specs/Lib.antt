@@ -6,3 +6,4 @@ pub mod State
 pub mod Places
 pub mod Withdrawing
 pub mod Calls
+pub mod Laws

@@ -17,6 +17,6 @@ mod server;
 mod servers;
 
 pub use crate::failover::Failover;
-pub use crate::laws::each_is_answered_once;
+pub use crate::laws::{each_is_answered_once, each_send_says_the_same};
 pub use crate::peers::Peers;
 pub use crate::rules::{DueSend, FailAsked, FailoverRules};
