@@ -1,20 +1,19 @@
 -- The servers of a lane of which one changes.
-use Rattle.std.proofs.Common.{◌≡◌, ◌≢◌, ◌⊎◌, inl, inr, ℕ, zero, suc, ◌+◌, ◌≤◌, ◌<◌, Bool, true, false, cond, List, [], ◌∷◌, length, get_or, set, Option, Some, None, refl, sym, ap, subst, ◌∙◌, arith, ⊎_elim}
-use Rattle.std.specs.Prelude.{is_some, slice_get, slice_set, sum_by, count_by}
-use Rattle.std.proofs.lemmas.List.{get_or-set_same, length-set}
+use Rattle.std.proofs.Common.{◌≡◌, ◌⊎◌, inl, inr, ℕ, zero, suc, ◌+◌, ◌<◌, Bool, cond, List, [], ◌∷◌, length, get_or, set, Option, Some, None, refl, sym, ap, subst, ◌∙◌, arith, ⊎_elim}
+use Rattle.std.specs.Prelude.{is_some, slice_get, sum_by, count_by}
+use Rattle.std.proofs.lemmas.List.{length-set}
 use Rattle.std.proofs.lemmas.List.Sums.{sum_by-set, get_or-le-sum_by}
-use Rattle.std.proofs.lemmas.Option.{slice_get_within, get_or_from_slice_get, slice_get-get_or}
+use Rattle.std.proofs.lemmas.Option.{slice_get_within, get_or_from_slice_get}
 use Rattle.bng_base.specs.Packet.{Packet as Bytes}
 use Rattle.bng_base.specs.declared.address.Peer.{Peer}
 use Rattle.bng_radius_wire.specs.Grammar.{IsRadius}
 use Rattle.bng_radius_wire.specs.Digests.{signed_request}
 use Rattle.bng_rad_client.specs.declared.pending.Pending.{Pending}
 use Rattle.bng_rad_client.specs.declared.rules.Owner.{Owner}
-use Rattle.bng_rad_client.specs.Sends.{IsSentAgain}
 use Rattle.bng_rad_client.specs.Table.{Table, request_of, taken}
 use Rattle.bng_failover.specs.declared.server.Server.{Server}
-use Rattle.bng_failover.specs.Servers.{number, in_hand, is_of, held, one_of, Gains, Loses, Keeps, with_table, without, CanBeAsked, IsSoundServer, AreSound}
-use Rattle.bng_failover.specs.Asking.{Asks, IsAskedAt}
+use Rattle.bng_failover.specs.Servers.{number, in_hand, is_of, one_of, Gains, Loses, Keeps, with_table, without, CanBeAsked, IsSoundServer, AreSound}
+use Rattle.bng_failover.specs.Asking.{IsAskedAt}
 use Rattle.bng_failover.specs.Due.{IsRepeatedAt}
 use Rattle.bng_failover.specs.Places.{IsWithdrawnAt, IsHandedOver, HasRoomAt}
 use Rattle.bng_failover.proofs.Signing.{can_again}

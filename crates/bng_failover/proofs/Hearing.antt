@@ -1,8 +1,7 @@
 -- What a datagram of a server is to the requests that are in hand at it.
-use Rattle.std.proofs.Common.{◌≡◌, ℕ, List, set, Option, Some, None, refl, sym, ap, subst, ◌∙◌}
-use Rattle.std.specs.Prelude.{slice_get, slice_set}
+use Rattle.std.proofs.Common.{◌≡◌, ℕ, List, Option, Some, None, refl, sym, ap, subst, ◌∙◌}
+use Rattle.std.specs.Prelude.{slice_set}
 use Rattle.bng_base.specs.declared.address.Peer.{Peer}
-use Rattle.bng_radius_wire.specs.Grammar.{Packet}
 use Rattle.bng_rad_client.specs.declared.pending.Pending.{Pending}
 use Rattle.bng_rad_client.specs.declared.replies.Ignored.{Ignored as Cause}
 use Rattle.bng_rad_client.specs.declared.replies.Ignored.TheVariants.{Stranger, Malformed, NotPending, WrongDigest}

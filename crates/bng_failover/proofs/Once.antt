@@ -1,5 +1,5 @@
 -- Each request is answered once: what a call takes in, answers and gives back, over lists of calls.
-use Rattle.std.proofs.Common.{◌≡◌, ℕ, ◌+◌, ◌≤◌, Bool, List, [], ◌∷◌, map, Option, Some, None, sym, ap, ◌∙◌, arith}
+use Rattle.std.proofs.Common.{◌≡◌, ℕ, ◌+◌, ◌≤◌, Bool, List, [], ◌∷◌, Option, Some, None, ap, ◌∙◌, arith}
 use Rattle.std.specs.Prelude.{sum_by}
 use Rattle.std.proofs.lemmas.List.Sums.{sum_by-cons}
 use Rattle.bng_base.specs.Chain.{Chain}
@@ -11,9 +11,9 @@ use Rattle.bng_failover.specs.declared.rules.FailAsked.{FailAsked}
 use Rattle.bng_failover.specs.declared.rules.FailAsked.TheVariants.{Send, Waiting}
 use Rattle.bng_failover.specs.declared.rules.FailoverRules.{FailoverRules}
 use Rattle.bng_failover.specs.declared.server.Server.{Server}
-use Rattle.bng_failover.specs.Servers.{held, Leaves, new_server}
+use Rattle.bng_failover.specs.Servers.{held, Leaves}
 use Rattle.bng_failover.specs.State.{State, servers_of, ChangesLane, IsOpened, timed_out}
-use Rattle.bng_failover.specs.Calls.{Call, Asked, Heard, Due, Withdrawn, Does, DoesAsk, DoesDue, some_of, in_lane, sent_of, taken_in, answers, gives_back, EachOnce}
+use Rattle.bng_failover.specs.Calls.{Call, Asked, Heard, Due, Withdrawn, Does, DoesAsk, some_of, in_lane, sent_of, taken_in, answers, gives_back, EachOnce}
 use Rattle.bng_failover.specs.Replies.{answered}
 use Rattle.bng_failover.proofs.Opening.{opened_held}
 

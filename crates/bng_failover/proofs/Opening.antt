@@ -1,12 +1,11 @@
 -- Servers with no request.
-use Rattle.std.proofs.Common.{◌≡◌, ℕ, zero, suc, ◌+◌, ◌≤◌, ◌<◌, Bool, false, cond, List, [], ◌∷◌, length, map, replicate, Option, Some, None, refl, sym, ap, subst, ◌∙◌, arith}
+use Rattle.std.proofs.Common.{◌≡◌, ℕ, zero, suc, ◌<◌, Bool, false, cond, List, [], ◌∷◌, length, map, replicate, Option, Some, None, refl, sym, ap, subst, ◌∙◌, arith}
 use Rattle.std.specs.Prelude.{is_some, slice_get, count_by}
 use Rattle.std.specs.Option.{option_map}
 use Rattle.std.proofs.lemmas.List.Sums.{sum_by-cons}
 use Rattle.std.proofs.lemmas.Option.{slice_get-map}
 use Rattle.bng_base.specs.declared.address.Peer.{Peer}
 use Rattle.bng_rad_client.specs.declared.pending.Pending.{Pending}
-use Rattle.bng_rad_client.specs.State.{empty}
 use Rattle.bng_rad_client.specs.Table.{request_of}
 use Rattle.bng_failover.specs.declared.server.Server.{Server}
 use Rattle.bng_failover.specs.Servers.{new_server, number, in_hand, is_of, held, IsSoundServer, AreSound}

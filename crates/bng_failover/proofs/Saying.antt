@@ -15,7 +15,7 @@ use Rattle.bng_rad_client.specs.declared.rules.Owner.{Owner}
 use Rattle.bng_failover.specs.declared.server.Server.{Server}
 use Rattle.bng_failover.specs.Servers.{without}
 use Rattle.bng_failover.specs.Asking.{IsAskedAt}
-use Rattle.bng_failover.specs.Due.{IsFirstDue, IsRepeatedAt, Goes, goes_to, IsSent}
+use Rattle.bng_failover.specs.Due.{IsRepeatedAt, Goes, goes_to, IsSent}
 use Rattle.bng_failover.specs.Laws.{but_for_digest, SaysTheSame, SaysAgain, IsSameOrSays}
 
 -- a Message-Authenticator with this value

@@ -1,6 +1,6 @@
 -- The request that is due first, and where it goes.
 use Rattle.std.proofs.Common.{◌≡◌, ℕ, List, Option, Some, None, refl, sym, ap, subst, ◌∙◌}
-use Rattle.std.specs.Prelude.{length, slice_get}
+use Rattle.std.specs.Prelude.{length}
 use Rattle.bng_base.specs.Packet.{Packet as Bytes}
 use Rattle.bng_base.specs.declared.address.Peer.{Peer}
 use Rattle.bng_rad_client.specs.declared.due.Due.{Due}
@@ -9,7 +9,7 @@ use Rattle.bng_rad_client.specs.declared.rules.Lane.{Lane}
 use Rattle.bng_rad_client.specs.declared.rules.Owner.{Owner}
 use Rattle.bng_rad_client.specs.Table.{request_of}
 use Rattle.bng_failover.specs.declared.server.Server.{Server}
-use Rattle.bng_failover.specs.Servers.{held_by, request_at, without}
+use Rattle.bng_failover.specs.Servers.{held_by, without}
 use Rattle.bng_failover.specs.Asking.{IsAskedAt}
 use Rattle.bng_failover.specs.Due.{IsFirstDue, IsRepeatedAt, Goes, goes_to, IsSent, HasTimedOut, IsGivenUp}
 use Rattle.bng_failover.specs.Places.{IsWithdrawnAt, IsHandedOver, GoesTo}

@@ -1,6 +1,5 @@
 -- Lists of one and of two servers have none twice.
-use Rattle.std.proofs.Common.{◌≡◌, ◌≢◌, ℕ, zero, suc, List, [], ◌∷◌, Some, None, refl}
-use Rattle.std.specs.Prelude.{slice_get}
+use Rattle.std.proofs.Common.{◌≡◌, ◌≢◌, zero, suc, [], ◌∷◌, Some, None, refl}
 use Rattle.bng_base.specs.declared.address.Peer.{Peer}
 use Rattle.bng_failover.specs.State.{NoneTwice}
 

@@ -1,6 +1,5 @@
 -- What all sends of a request say.
 use Rattle.std.specs.Prelude.{◌≡◌, ◌⊎◌, ℕ, false, List, [], map, if◌then◌else◌}
-use Rattle.bng_base.specs.Packet.{Packet as Bytes}
 use Rattle.bng_radius_wire.specs.Attributes.{Field}
 use Rattle.bng_radius_wire.specs.Grammar.{Packet, IsRadius}
 use Rattle.bng_radius_wire.specs.Digests.{is_message_authenticator, has_digest}

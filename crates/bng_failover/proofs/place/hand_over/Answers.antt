@@ -1,5 +1,4 @@
-use Rattle.std.proofs.Common.{◌≡◌, ◌<◌, Some, List, ℕ, sym, subst, ap, ◌∙◌, arith}
-use Rattle.bng_rad_client.specs.declared.pending.Pending.{Pending}
+use Rattle.std.proofs.Common.{◌≡◌, ◌<◌, Some, List, ℕ, sym, subst, ◌∙◌, arith}
 use Rattle.bng_rad_client.specs.Table.{request_of}
 use Rattle.bng_failover.specs.declared.server.Server.{Server}
 use Rattle.bng_failover.specs.Servers.{CanBeAsked, in_hand, without}

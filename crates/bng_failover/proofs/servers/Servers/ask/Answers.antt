@@ -1,6 +1,6 @@
-use Rattle.std.proofs.Common.{◌≡◌, ◌<◌, ◌+◌, List, ap, subst, sym, ◌∙◌, arith}
+use Rattle.std.proofs.Common.{◌<◌, List, subst, arith}
 use Rattle.bng_failover.specs.declared.server.Server.{Server}
-use Rattle.bng_failover.specs.Servers.{in_hand, held, Gains}
+use Rattle.bng_failover.specs.Servers.{in_hand, Gains}
 use Rattle.bng_failover.proofs.Changes.{grown, room_at, more_sound, IsGrown}
 use Rattle.bng_failover.proofs.servers.Servers.ask.Goals as goal
 

@@ -1,5 +1,4 @@
 use Rattle.std.proofs.Common.{List, subst, arith}
-use Rattle.bng_rad_client.specs.declared.rules.Owner.{Owner}
 use Rattle.bng_failover.specs.declared.server.Server.{Server}
 use Rattle.bng_failover.specs.Servers.{Loses}
 use Rattle.bng_failover.specs.Due.{HasTimedOut, IsGivenUp}

@@ -1,4 +1,4 @@
-use Rattle.std.proofs.Common.{◌≡◌, List, Bool, sym, ap, subst, arith}
+use Rattle.std.proofs.Common.{◌≡◌, List, sym, ap, subst, arith}
 use Rattle.bng_rad_client.specs.declared.replies.Replied.{Replied}
 use Rattle.bng_rad_client.specs.declared.rules.Owner.{Owner}
 use Rattle.bng_failover.specs.declared.server.Server.{Server}
