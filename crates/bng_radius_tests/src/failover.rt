@@ -137,11 +137,17 @@ fn go_to_second(rt: &impl Abort, failover: &mut Failover) -> Result<Frame, Fail>
     let frame = ask_first(rt, failover)?;
     assert_holds(rt, failover.deadline(Lane::Auth) == Some(3000));
     assert_holds(rt, none_due(failover, 2999, false));
-    assert_holds(rt, is_sent(failover, Lane::Auth, 3000, FIRST, frame.payload()));
+    assert_holds(
+        rt,
+        is_sent(failover, Lane::Auth, 3000, FIRST, frame.payload()),
+    );
     assert_holds(rt, none_due(failover, 5999, false));
     assert_holds(rt, failover.owner(Lane::Auth, 0, 0) == Some(ASK));
     assert_holds(rt, none_due(failover, 6000, true));
-    assert_holds(rt, is_sent(failover, Lane::Auth, 6000, SECOND, frame.payload()));
+    assert_holds(
+        rt,
+        is_sent(failover, Lane::Auth, 6000, SECOND, frame.payload()),
+    );
     assert_holds(rt, failover.owner(Lane::Auth, 0, 0) == None);
     assert_holds(rt, failover.owner(Lane::Auth, 1, 0) == Some(ASK));
     Ok(frame)
@@ -171,7 +177,13 @@ fn the_second_server_answers_where_the_first_is_silent(rt: HostRuntime) -> Resul
     let stranger = Replied::Ignored(Ignored::Stranger);
     hear(&rt, rt.alloc(), &mut failover, FIRST, late)?;
     hear(&rt, rt.alloc(), &mut failover, STRANGER, stranger)?;
-    hear(&rt, rt.alloc(), &mut failover, SECOND, Replied::Matched(ASK))?;
+    hear(
+        &rt,
+        rt.alloc(),
+        &mut failover,
+        SECOND,
+        Replied::Matched(ASK),
+    )?;
     hear(&rt, rt.alloc(), &mut failover, SECOND, late)?;
     assert_holds(&rt, failover.deadline(Lane::Auth) == None);
     Ok(())
@@ -208,14 +220,23 @@ fn is_record_sent(
 fn an_accounting_request_begins_again_with_the_first_server(rt: HostRuntime) -> Result<(), Fail> {
     let mut failover = opened(rt.alloc(), 1)?;
     let owner = Owner::Record(RecordNo(7));
-    let asked = ask_bare(&mut failover, Lane::Acct, owner, codes::ACCOUNTING_REQUEST, 0);
+    let asked = ask_bare(
+        &mut failover,
+        Lane::Acct,
+        owner,
+        codes::ACCOUNTING_REQUEST,
+        0,
+    );
     assert_holds(&rt, asked.is_some());
     for (now, to, text) in [
         (3000, SECOND, RECORD_0),
         (6000, FIRST, RECORD_1),
         (9000, SECOND, RECORD_1),
     ] {
-        assert_holds(&rt, is_record_sent(rt.alloc(), &mut failover, now, to, text)?);
+        assert_holds(
+            &rt,
+            is_record_sent(rt.alloc(), &mut failover, now, to, text)?,
+        );
         assert_holds(&rt, none_due(&mut failover, now, true));
     }
     assert_holds(&rt, failover.owner(Lane::Acct, 1, 1) == Some(owner));
@@ -239,7 +260,13 @@ fn the_257th_request_of_a_lane_waits(rt: HostRuntime) -> Result<(), Fail> {
     assert_holds(&rt, !failover.room(Lane::Acct));
     assert_holds(&rt, failover.room(Lane::Auth));
     let owner = Owner::Record(RecordNo(5));
-    let asked = ask_bare(&mut failover, Lane::Acct, owner, codes::ACCOUNTING_REQUEST, 0);
+    let asked = ask_bare(
+        &mut failover,
+        Lane::Acct,
+        owner,
+        codes::ACCOUNTING_REQUEST,
+        0,
+    );
     assert_holds(&rt, asked.is_none());
     assert_holds(&rt, failover.withdraw(Lane::Acct, 1, 5) == None);
     assert_holds(&rt, failover.withdraw(Lane::Acct, 0, 5) == Some(owner));
