@@ -13,6 +13,7 @@ from checks.changes import changes_sessions
 from checks.diagnosis import asks_the_doctor
 from checks.example import reads_the_example
 from checks.habits import keeps_an_operators_habits
+from checks.installed import installs
 from checks.leases import leases_addresses
 from checks.logins import authenticates, gives_up_on_a_silent_server
 from checks.metering import meters_profiles
@@ -261,6 +262,7 @@ def try_all(checks):
         says_when_nobody_takes_its_report(checks)
         keeps_an_operators_habits(checks)
         watches(checks)
+        installs(checks)
     else:
         print("smoke: the built program is missing or older than its sources: runs under rt try, and only three times")
         os.chdir(CRATE)

@@ -13,6 +13,15 @@ def udp(address=LOOPBACK, port=0):
     return end
 
 
+def widen(end):
+    """Has a socket wait for nothing, and hold much that comes at once, as far as the system lets it."""
+    try:
+        end.setsockopt(socket.SOL_SOCKET, 33, 1 << 23)  # SO_RCVBUFFORCE, which Linux grants to root
+    except OSError:
+        end.setsockopt(socket.SOL_SOCKET, socket.SO_RCVBUF, 1 << 23)
+    end.setblocking(False)
+
+
 def bound_ports(process="self"):
     """The local UDP ports that are bound in the network of a process, by default here, by the system's own list."""
     with open(f"/proc/{process}/net/udp", encoding="ascii") as table:

@@ -1,4 +1,4 @@
-//! Questions, grants and records: worked examples of `bng_access`, `bng_acct`, `bng_billing`, `bng_coa`, `bng_grant`, `bng_lane`, `bng_rad_client`, `bng_verdict`.
+//! Questions, grants and records: worked examples of `bng_access`, `bng_acct`, `bng_billing`, `bng_coa`, `bng_failover`, `bng_grant`, `bng_lane`, `bng_rad_client`, `bng_verdict`.
 #![tactic(auto)]
 
 #[cfg(test)]
@@ -11,6 +11,8 @@ mod asserts;
 mod billing;
 #[cfg(test)]
 mod coa;
+#[cfg(test)]
+mod failover;
 #[cfg(test)]
 mod grant;
 #[cfg(test)]

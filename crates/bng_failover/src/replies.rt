@@ -1,0 +1,64 @@
+ghost use Rattle.std.specs.Prelude.{◌≡◌, ◌≤◌, length, None, slice_range, slice_set};
+ghost use Rattle.bng_radius_wire.specs.Grammar.{Packet};
+ghost use Rattle.bng_rad_client.specs.Replies.{takes, Answers, WhenIgnored, WhenMatched};
+ghost use Rattle.bng_failover.specs.Replies.{TakesOut};
+
+use bng_base::Peer;
+use bng_rad_client::{Ignored, Lane, Replied, Requests};
+use bng_radius_wire::{Checked, check_reply, codes, read};
+
+// Whether a code answers requests of the lane.
+fn takes(lane: Lane, code: u8) -> bool
+    ensures { result ≡ takes lane code }
+{
+    match lane {
+        Lane::Auth => {
+            code == codes::ACCESS_ACCEPT
+                || code == codes::ACCESS_REJECT
+                || code == codes::ACCESS_CHALLENGE
+        }
+        Lane::Acct => code == codes::ACCOUNTING_RESPONSE,
+    }
+}
+
+// The Request Authenticator of a request.
+fn authenticator_of(octets: &[u8]) -> [u8; 16]
+    requires { 20 ≤ length octets.now }
+    ensures { result ≡ slice_range octets.now 4 20 }
+{
+    let mut authenticator = [0; 16];
+    authenticator.copy_from_slice(&octets[4..20]);
+    authenticator
+}
+
+/// What a datagram of a server is to the requests that are in hand at it. Where it is the reply to one, that request is in
+/// hand no longer.
+pub(crate) fn reply(
+    requests: &mut Requests,
+    lane: Lane,
+    server: Peer,
+    secret: &[u8],
+    bytes: &[u8],
+) -> Replied
+    requires { length secret.now ≤ 64 }
+    ensures answer { Answers server server lane requests.old.places secret.now bytes.now result }
+    ensures last { requests.new.last ≡ requests.old.last }
+    ensures ignored { WhenIgnored result (requests.new.places ≡ requests.old.places) }
+    ensures matched { WhenMatched result (TakesOut lane requests.old requests.new bytes.now) }
+{
+    let id = match read(bytes) {
+        Ok(packet) if takes(lane, packet.code) => packet.id,
+        _ => return Replied::Ignored(Ignored::Malformed),
+    };
+    let authenticator = match requests.get(id) {
+        Some(request) => authenticator_of(request.octets.as_slice()),
+        None => return Replied::Ignored(Ignored::NotPending),
+    };
+    match check_reply(bytes, &authenticator, secret) {
+        Checked::WrongDigest => Replied::Ignored(Ignored::WrongDigest),
+        Checked::Right => match requests.take(id) {
+            Some(request) => Replied::Matched(request.owner),
+            None => Replied::Ignored(Ignored::NotPending),
+        },
+    }
+}
