@@ -1,2 +1,4 @@
 mod Sizes
 mod Placed
+mod CallsKept
+mod Answering

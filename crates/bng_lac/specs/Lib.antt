@@ -8,4 +8,5 @@ pub mod Places
 pub mod CallSteps
 pub mod CallView
 pub mod Steps
+pub mod AskingView
 pub mod Laws

@@ -114,15 +114,17 @@ asks_each a [] now = a
 asks_each a (c ∷ cs) now = asks_each (asks a c now) cs now
 
 -- the channel of a server that has told its window, with the SCCCN
-abbrev pub connecting : LacState → List L2tpAvp → ℕ → Asking
-connecting s avps now =
-    let channel = with_window s.channel (window_of s.secret avps) in
-    record { channel = queue channel (scccn s.secret (value_of s.secret challenge_avp avps)) now; serial = s.serial; left_out = is_full channel }
+abbrev pub connecting : ChannelState → Option (List ℕ) → ℕ → List L2tpAvp → ℕ → Asking
+connecting c secret serial avps now = record {
+  channel = queue (with_window c (window_of secret avps)) (scccn secret (value_of secret challenge_avp avps)) now;
+  serial = serial;
+  left_out = is_full (with_window c (window_of secret avps));
+}
 
 -- an SCCRP that is not refused: an SCCCN goes out, and an ICRQ for each call, all of which waited for the tunnel
 abbrev pub established : LacState → List L2tpAvp → ℕ → Step
 established s avps now =
-    let asking = asks_each (connecting s avps now) s.calls now in
+    let asking = asks_each (connecting s.channel s.secret s.serial avps now) s.calls now in
     let step = flushed ByAny (record s { phase = Established; channel = asking.channel; serial = asking.serial }) in
     record step { said = record step.said { established = true; left_out = asking.left_out } }
 

@@ -1,11 +1,11 @@
 //! What a tunnel does with the server's control messages.
 ghost use Rattle.std.specs.Prelude.{◌≡◌};
 ghost use Rattle.bng_l2tp_wire.specs.View.{avps_of, control_of};
-ghost use Rattle.bng_l2tp_tunnel.specs.View.{said};
+ghost use Rattle.bng_l2tp_tunnel.specs.View.{octets_of, said};
 ghost use Rattle.bng_l2tp_tunnel.specs.Spelling.{stop_ccn as stop_ccn_of, code_of as code_of_refusal};
 ghost use Rattle.bng_lac.specs.Calls.{call_of};
 ghost use Rattle.bng_lac.specs.Refusals.{refusal_of};
-ghost use Rattle.bng_lac.specs.Steps.{answered, clears, cleared as cleared_of, established, ended, accepted, judged, learned, calls_after, heard_by_call, delivered, heard_by, having_heard, heard};
+ghost use Rattle.bng_lac.specs.Steps.{asks_each, connecting, answered, clears, cleared as cleared_of, established, ended, accepted, judged, learned, calls_after, heard_by_call, delivered, heard_by, having_heard, heard};
 
 use crate::call::LacCall;
 use crate::judge::{fails_challenge, has_wrong_avp, is_for_call, is_of_call, is_taken};
@@ -16,7 +16,7 @@ use crate::told::tell;
 use crate::tunnel::LacTunnel;
 use arrayvec::ArrayVec;
 use bng_base::TunnelStep;
-use bng_l2tp_reliable::{Heard, Queued};
+use bng_l2tp_reliable::{Channel, Heard, Queued};
 use bng_l2tp_tunnel::{
     Acknowledging, Refusal, cleared, code_of, has_other_version, has_unknown, is_zlb, number_at,
     sends, stop_ccn, type_in, value_of, window_of, zlb,
@@ -24,6 +24,29 @@ use bng_l2tp_tunnel::{
 use bng_l2tp_wire::kind::{ASSIGNED_TUNNEL_ID, CHALLENGE};
 use bng_l2tp_wire::message::{SCCRP, STOP_CCN};
 use bng_l2tp_wire::{Avp, Control};
+
+// Hands the SCCCN and an ICRQ for each call to the channel of a server that has told its window.
+fn connect(
+    channel: &mut Channel,
+    calls: &[LacCall],
+    serial: u32,
+    secret: &Option<ArrayVec<u8, 64>>,
+    avps: &[Avp<'_>],
+    now: u64,
+) -> Asked
+    ensures channel { channel.new ≡ (asks_each (connecting channel.old (octets_of secret.now) serial (avps_of avps.now) now) calls.now now).channel }
+    ensures serial { result.serial ≡ (asks_each (connecting channel.old (octets_of secret.now) serial (avps_of avps.now) now) calls.now now).serial }
+    ensures left_out { result.left_out ≡ (asks_each (connecting channel.old (octets_of secret.now) serial (avps_of avps.now) now) calls.now now).left_out }
+{
+    let answer = scccn(secret, &value_of(avps, secret, CHALLENGE));
+    channel.set_window(window_of(avps, secret));
+    let queued = channel.send(answer.payload(), now);
+    let before = Asked {
+        serial,
+        left_out: queued == Queued::WindowQueueFull,
+    };
+    ask_each(channel, calls, before, now)
+}
 
 impl LacTunnel {
     // Why a message is refused, where it is.
@@ -82,6 +105,14 @@ impl LacTunnel {
         if is_for_call(self.phase, type_in(avps)) {
             return self.hear_by_call(message.session, avps, now);
         }
+        self.judge(avps, now)
+    }
+
+    // A message of the tunnel.
+    fn judge(&mut self, avps: &[Avp<'_>], now: u64) -> TunnelStep
+        ensures said { said result ≡ (judged (learned self.old (avps_of avps.now)) (avps_of avps.now) now (refusal_of self.old (avps_of avps.now))).said }
+        ensures after { self.new ≡ (judged (learned self.old (avps_of avps.now)) (avps_of avps.now) now (refusal_of self.old (avps_of avps.now))).after }
+    {
         let refusal = self.refusal(avps);
         self.learn(avps);
         match refusal {
@@ -139,14 +170,8 @@ impl LacTunnel {
         ensures after { self.new ≡ (established self.old (avps_of avps.now) now).after }
     {
         let secret = &self.rules.secret;
-        let answer = scccn(secret, &value_of(avps, secret, CHALLENGE));
-        self.channel.set_window(window_of(avps, secret));
-        let queued = self.channel.send(answer.payload(), now);
-        let before = Asked {
-            serial: self.serial,
-            left_out: queued == Queued::WindowQueueFull,
-        };
-        let asked = ask_each(&mut self.channel, self.calls.as_slice(), before, now);
+        let calls = self.calls.as_slice();
+        let asked = connect(&mut self.channel, calls, self.serial, secret, avps, now);
         self.serial = asked.serial;
         self.phase = Phase::Established;
         let mut step = self.flush(Acknowledging::ByAny);

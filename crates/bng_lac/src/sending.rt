@@ -5,7 +5,8 @@ ghost use Rattle.bng_l2tp_reliable.specs.ChannelState.{ChannelState};
 ghost use Rattle.bng_l2tp_reliable.specs.Calls.{next_out, after_next};
 ghost use Rattle.bng_l2tp_tunnel.specs.View.{payloads, said};
 ghost use Rattle.bng_l2tp_tunnel.specs.Outs.{datagram as datagram_to};
-ghost use Rattle.bng_lac.specs.Steps.{Asking, asks_each, flushed, queued_text, replied as replied_with, or_zlb, to_peer};
+ghost use Rattle.bng_lac.specs.AskingView.{asking_of};
+ghost use Rattle.bng_lac.specs.Steps.{asks, asks_each, flushed, queued_text, replied as replied_with, or_zlb, to_peer};
 ghost use Rattle.bng_base.specs.Packet.{Packet};
 
 use crate::call::LacCall;
@@ -42,19 +43,27 @@ pub(crate) struct Asked {
     pub(crate) left_out: bool,
 }
 
+// Hands an ICRQ for a call to the channel.
+fn ask_one(channel: &mut Channel, call: LacCall, before: Asked, now: u64) -> Asked
+    ensures { asking_of channel.new result ≡ asks (asking_of channel.old before) call now }
+{
+    let request = icrq(call.session.0, before.serial);
+    let queued = channel.send(request.payload(), now);
+    let full = queued == Queued::WindowQueueFull;
+    Asked {
+        serial: before.serial.wrapping_add(1),
+        left_out: before.left_out | full,
+    }
+}
+
 /// Hands an ICRQ for each of these calls to the channel, in their order.
 pub(crate) fn ask_each(channel: &mut Channel, calls: &[LacCall], before: Asked, now: u64) -> Asked
-    ensures { asks_each (record { channel = channel.old; serial = before.serial; left_out = before.left_out }) calls.now now ≡ record { channel = channel.new; serial = result.serial; left_out = result.left_out } }
+    ensures { asking_of channel.new result ≡ asks_each (asking_of channel.old before) calls.now now }
 {
     let mut asked = before;
     let mut left = calls;
     while let [call, after @ ..] = left {
-        let request = icrq(call.session.0, asked.serial);
-        let queued = channel.send(request.payload(), now);
-        asked = Asked {
-            serial: asked.serial.wrapping_add(1),
-            left_out: asked.left_out || queued == Queued::WindowQueueFull,
-        };
+        asked = ask_one(channel, *call, asked, now);
         left = after;
     }
     asked

@@ -1,4 +1,4 @@
-ghost use Rattle.std.specs.Prelude.{◌≡◌, ◌≢◌, ◌⊎◌, ◌<◌, ◌≤◌, ◌↔◌, ℕ, length, true, false, IsTrue, IsNone, IfOk, None, Some};
+ghost use Rattle.std.specs.Prelude.{◌≡◌, ◌≢◌, ◌⊎◌, ◌<◌, ◌≤◌, ◌↔◌, ℕ, length, true, false, IsTrue, IsNone, IfOk, None, Some, is_some};
 ghost use Rattle.std.specs.Option.{option_and_then};
 ghost use Rattle.bng_l2tp_reliable.specs.ChannelState.{waiting};
 ghost use Rattle.bng_l2tp_reliable.specs.Timers.{never, due_of, after_due, deadline_of};
@@ -233,6 +233,21 @@ impl LacTunnel {
             Phase::WaitReply | Phase::Established => true,
             Phase::Idle => false,
         }
+    }
+
+    /// Whether a session has a call, which may not be up.
+    pub fn has_call(&self, session: SessionNo) -> bool
+        ensures { result ≡ is_some (call_of session.0 self.now.calls) }
+    {
+        self.calls.find(session.0).is_some()
+    }
+
+    /// The calls, by rising session number.
+    pub fn calls(&self) -> &[LacCall]
+        ensures calls { result.now ≡ self.now.calls }
+        ensures rising { AreRising self.now.calls }
+    {
+        self.calls.as_slice()
     }
 
     /// The server whose tunnel it is, or was last.
