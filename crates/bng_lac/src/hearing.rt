@@ -3,6 +3,7 @@ ghost use Rattle.std.specs.Prelude.{◌≡◌};
 ghost use Rattle.bng_l2tp_wire.specs.View.{avps_of, control_of};
 ghost use Rattle.bng_l2tp_tunnel.specs.View.{octets_of, said};
 ghost use Rattle.bng_l2tp_tunnel.specs.Spelling.{stop_ccn as stop_ccn_of, code_of as code_of_refusal};
+ghost use Rattle.bng_lac.specs.AskingView.{asking_of};
 ghost use Rattle.bng_lac.specs.Calls.{call_of};
 ghost use Rattle.bng_lac.specs.Refusals.{refusal_of};
 ghost use Rattle.bng_lac.specs.Steps.{asks_each, connecting, answered, clears, cleared as cleared_of, established, ended, accepted, judged, learned, calls_after, heard_by_call, delivered, heard_by, having_heard, heard};
@@ -25,8 +26,28 @@ use bng_l2tp_wire::kind::{ASSIGNED_TUNNEL_ID, CHALLENGE};
 use bng_l2tp_wire::message::{SCCRP, STOP_CCN};
 use bng_l2tp_wire::{Avp, Control};
 
-// Hands the SCCCN and an ICRQ for each call to the channel of a server that has told its window.
+// Hands the SCCCN to the channel of a server that has told its window.
 fn connect(
+    channel: &mut Channel,
+    serial: u32,
+    secret: &Option<ArrayVec<u8, 64>>,
+    avps: &[Avp<'_>],
+    now: u64,
+) -> Asked
+    ensures { asking_of channel.new result ≡ connecting channel.old (octets_of secret.now) serial (avps_of avps.now) now }
+{
+    let answer = scccn(secret, &value_of(avps, secret, CHALLENGE));
+    channel.set_window(window_of(avps, secret));
+    let queued = channel.send(answer.payload(), now);
+    let full = queued == Queued::WindowQueueFull;
+    Asked {
+        serial,
+        left_out: full,
+    }
+}
+
+// The SCCCN, and then an ICRQ for each call.
+fn connect_calls(
     channel: &mut Channel,
     calls: &[LacCall],
     serial: u32,
@@ -38,13 +59,7 @@ fn connect(
     ensures serial { result.serial ≡ (asks_each (connecting channel.old (octets_of secret.now) serial (avps_of avps.now) now) calls.now now).serial }
     ensures left_out { result.left_out ≡ (asks_each (connecting channel.old (octets_of secret.now) serial (avps_of avps.now) now) calls.now now).left_out }
 {
-    let answer = scccn(secret, &value_of(avps, secret, CHALLENGE));
-    channel.set_window(window_of(avps, secret));
-    let queued = channel.send(answer.payload(), now);
-    let before = Asked {
-        serial,
-        left_out: queued == Queued::WindowQueueFull,
-    };
+    let before = connect(channel, serial, secret, avps, now);
     ask_each(channel, calls, before, now)
 }
 
@@ -171,7 +186,7 @@ impl LacTunnel {
     {
         let secret = &self.rules.secret;
         let calls = self.calls.as_slice();
-        let asked = connect(&mut self.channel, calls, self.serial, secret, avps, now);
+        let asked = connect_calls(&mut self.channel, calls, self.serial, secret, avps, now);
         self.serial = asked.serial;
         self.phase = Phase::Established;
         let mut step = self.flush(Acknowledging::ByAny);
