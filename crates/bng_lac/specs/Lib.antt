@@ -9,4 +9,3 @@ pub mod CallSteps
 pub mod CallView
 pub mod Steps
 pub mod AskingView
-pub mod Laws

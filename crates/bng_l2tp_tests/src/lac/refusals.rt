@@ -76,9 +76,18 @@ fn answers_first(
     established: bool,
 ) -> Result<(), Fail> {
     let mut lac = opened(rt, alloc, has_secret)?;
-    assert_due(rt, alloc, &mut lac, 0, if has_secret { SCCRQ_ASKS } else { SCCRQ })?;
+    assert_due(
+        rt,
+        alloc,
+        &mut lac,
+        0,
+        if has_secret { SCCRQ_ASKS } else { SCCRQ },
+    )?;
     let step = assert_answer(rt, alloc, &mut lac, datagram, wanted)?;
-    assert_holds(rt, step.established == established && step.cleared != established);
+    assert_holds(
+        rt,
+        step.established == established && step.cleared != established,
+    );
     assert_holds(rt, lac.used() == established);
     Ok(())
 }
@@ -96,7 +105,10 @@ const SESSION: SessionNo = SessionNo(1026);
 // an established tunnel that asked for a call of session 1026
 fn asked(rt: &impl Abort, alloc: Global) -> Result<LacTunnel, Fail> {
     let mut lac = opened(rt, alloc, false)?;
-    assert_holds(rt, lac.used() && !lac.has_call(SESSION) && lac.calls().len() < CALLS_MOST);
+    assert_holds(
+        rt,
+        lac.used() && !lac.has_call(SESSION) && lac.calls().len() < CALLS_MOST,
+    );
     let _ = lac.call(SESSION, 0);
     assert_due(rt, alloc, &mut lac, 0, SCCRQ)?;
     takes(rt, alloc, &mut lac, SCCRP)?;

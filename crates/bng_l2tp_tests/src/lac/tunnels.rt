@@ -32,8 +32,7 @@ const ICRP_LATE: &str = "c802001c0401040600030005800800000000000b80080000000e000
 const ZLB_4: &str = "c802000c0007000000050004 ";
 
 // the gateway's CDN of session 1026
-const CDN_OUT: &str =
-    "c80200240007000900050004800800000000000e80080000000e04028008000000010003 ";
+const CDN_OUT: &str = "c80200240007000900050004800800000000000e80080000000e04028008000000010003 ";
 
 // whether a call of a session is asked for
 fn asks(rt: &impl Abort, lac: &mut LacTunnel, session: SessionNo) -> Called {
@@ -106,7 +105,9 @@ fn a_frame_goes_into_the_call_that_is_up(rt: HostRuntime) -> Result<(), Fail> {
     bring_up(&rt, alloc, &mut lac)?;
     let (tunnel, session) = lac.up(FIRST).ok_or("no call is up")?;
     let mut frame = Frame::new();
-    frame.set(&[0xff, 3, 0xc0, 0x21, 1, 1, 0, 10, 5, 6, 0x11, 0x22, 0x33, 0x44]);
+    frame.set(&[
+        0xff, 3, 0xc0, 0x21, 1, 1, 0, 10, 5, 6, 0x11, 0x22, 0x33, 0x44,
+    ]);
     let header = Data {
         tunnel,
         session,
@@ -137,7 +138,11 @@ fn the_servers_window_counts(rt: HostRuntime) -> Result<(), Fail> {
 fn the_64th_call_finds_no_room(rt: HostRuntime) -> Result<(), Fail> {
     let mut lac = opened(&rt, rt.alloc(), false)?;
     for index in 0..63u16 {
-        assert_same(&rt, &asks(&rt, &mut lac, SessionNo(1025 + index)), &Called::Asked);
+        assert_same(
+            &rt,
+            &asks(&rt, &mut lac, SessionNo(1025 + index)),
+            &Called::Asked,
+        );
     }
     assert_same(&rt, &asks(&rt, &mut lac, SessionNo(2000)), &Called::Full);
     assert_holds(&rt, !lac.has_call(SessionNo(2000)));
