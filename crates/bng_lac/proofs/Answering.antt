@@ -1,12 +1,9 @@
 -- Steps that answer by a text.
-use Rattle.std.proofs.Common.{◌≡◌, ℕ, true, List, sym, ap, ◌∙◌}
-use Rattle.bng_l2tp_reliable.specs.declared.answers.Heard.{Heard}
-use Rattle.bng_l2tp_reliable.specs.declared.answers.Heard.TheVariants.{Deliver}
-use Rattle.bng_l2tp_wire.specs.Messages.{ControlMessage}
+use Rattle.std.proofs.Common.{◌≡◌, ℕ, true, List, ap, ◌∙◌}
 use Rattle.bng_l2tp_tunnel.specs.declared.acknowledging.Acknowledging.{Acknowledging}
 use Rattle.bng_l2tp_tunnel.specs.View.{Said}
 use Rattle.bng_lac.specs.LacState.{LacState}
-use Rattle.bng_lac.specs.Steps.{queued_text, cleared as cleared_of, clears, delivered, heard, heard_by, having_heard}
+use Rattle.bng_lac.specs.Steps.{queued_text, cleared as cleared_of, clears}
 
 module _ (acknowledging : Acknowledging) (s : LacState) (now : ℕ) where
   pub said_by : (text wanted : List ℕ) (said : Said) → said ≡ (queued_text acknowledging s text now).said → text ≡ wanted → said ≡ (queued_text acknowledging s wanted now).said

@@ -2,3 +2,4 @@ mod Sizes
 mod Placed
 mod CallsKept
 mod Answering
+mod Laws

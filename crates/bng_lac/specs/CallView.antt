@@ -1,5 +1,5 @@
 -- What a call tells, without where it lies in memory.
-use Rattle.std.specs.Prelude.{ℕ, List, option_map}
+use Rattle.std.specs.Prelude.{option_map}
 use Rattle.bng_base.specs.Packet.{Packet}
 use Rattle.bng_lac.specs.declared.told.Told.{Told}
 use Rattle.bng_lac.specs.CallSteps.{CallStep}

@@ -1,5 +1,5 @@
 -- The calls of a tunnel, by rising session number.
-use Rattle.std.specs.Prelude.{ℕ, Bool, ◌==◌, not, nat_lt, List, ◌∷◌, ◌++◌, filter, find, Option, Some, None}
+use Rattle.std.specs.Prelude.{ℕ, Bool, ◌==◌, not, nat_lt, List, ◌∷◌, ◌++◌, filter, find, Option, None}
 use Rattle.bng_base.specs.declared.address.SessionNo.{SessionNo}
 use Rattle.bng_lac.specs.declared.call.LacCall.{LacCall}
 

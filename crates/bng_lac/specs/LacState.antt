@@ -2,7 +2,6 @@
 use Rattle.std.specs.Prelude.{ℕ, ◌<◌, Bool, true, false, List, [], Option, None, replicate}
 use Rattle.std.specs.List.{AllPairs}
 use Rattle.bng_base.specs.declared.address.Peer.{Peer}
-use Rattle.bng_base.specs.declared.address.Ip4.{Ip4}
 use Rattle.bng_l2tp_reliable.specs.ChannelState.{ChannelState, begun}
 use Rattle.bng_l2tp_tunnel.specs.Values.{default_window}
 use Rattle.bng_l2tp_tunnel.specs.View.{octets_of}

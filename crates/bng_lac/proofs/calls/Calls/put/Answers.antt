@@ -1,5 +1,5 @@
-use Rattle.std.proofs.Common.{rules, sym, ◌∙◌, arith}
-use Rattle.bng_lac.proofs.Placed.{with_here, with_gap, here_rises, gap_rises, room_left}
+use Rattle.std.proofs.Common.{sym, ◌∙◌, arith}
+use Rattle.bng_lac.proofs.Placed.{with_here, with_gap, room_left}
 use Rattle.bng_lac.proofs.calls.Calls.put.Goals as goal
 
 pub returns-in-Ok : goal.returns-in-Ok
