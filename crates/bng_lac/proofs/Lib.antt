@@ -1,0 +1,5 @@
+mod Sizes
+mod Placed
+mod CallsKept
+mod Answering
+mod Laws

@@ -1,0 +1,19 @@
+use Rattle.std.proofs.Common.{ap, ◌∙◌}
+use Rattle.bng_l2tp_wire.specs.Messages.{control_text}
+use Rattle.bng_l2tp_tunnel.specs.declared.acknowledging.Acknowledging.TheVariants.{ByAny}
+use Rattle.bng_l2tp_tunnel.specs.declared.refusal.ResultCode.{ResultCode}
+use Rattle.bng_l2tp_tunnel.specs.View.{said}
+use Rattle.bng_l2tp_tunnel.specs.Spelling.{stop_ccn, code_of}
+use Rattle.bng_lac.specs.LacState.{LacState}
+use Rattle.bng_lac.proofs.Answering.{clears_said, clears_after}
+use Rattle.bng_lac.proofs.tunnel.LacTunnel.refuse.Goals as goal
+
+pub returns-clause-said : goal.returns-clause-said
+returns-clause-said c =
+    let text = c.payload.ensures.octets ∙ c.stop_ccn-stop.ensures.text ∙ ap (λ (r : ResultCode). control_text (stop_ccn c.self.inside.number.0 r)) c.code_of.ensures ∙ ap (λ (s : LacState). control_text (stop_ccn s.number (code_of c.args.refusal))) c.self.view_is in
+    clears_said ByAny c.args.self.now c.args.now c.payload.result.now (control_text (stop_ccn c.args.self.now.number (code_of c.args.refusal))) (said c.queue-step.result) (said c.cleared.result) c.cleared.ensures c.queue-step.ensures.said text
+
+pub returns-clause-after : goal.returns-clause-after
+returns-clause-after c =
+    let text = c.payload.ensures.octets ∙ c.stop_ccn-stop.ensures.text ∙ ap (λ (r : ResultCode). control_text (stop_ccn c.self.inside.number.0 r)) c.code_of.ensures ∙ ap (λ (s : LacState). control_text (stop_ccn s.number (code_of c.args.refusal))) c.self.view_is in
+    clears_after ByAny c.args.self.now c.args.now c.payload.result.now (control_text (stop_ccn c.args.self.now.number (code_of c.args.refusal))) c.queue-step.new.self c.forget.new.self c.forget.ensures c.queue-step.ensures.after text
