@@ -54,14 +54,15 @@ pub record Part : Type 0 where
   pub above : Heard
   pub below : List Heard
 
--- for a receive of an entry, of a trunk itself, which is never given anything, and of another role
+-- for a receive of a trunk itself, which is never given anything, and of another role
+abbrev pub ReadsOther : Role → Received → List Heard → Bool → Type 0
+ReadsOther role answer below true = (answer ≡ Empty) × (below ≡ [])
+ReadsOther role answer below false = below ≡ Receive role answer ∷ []
+
+-- for a receive of an entry, and of any other role
 abbrev pub ReadsRole : Trunks → Role → Received → List Heard → Option VlanEntry → Type 0
 ReadsRole m role answer below (Some e) = Reads m e answer below
-ReadsRole m role answer below None = ReadsOther (is_trunk m role)
-  where
-    ReadsOther : Bool → Type 0
-    ReadsOther true = (answer ≡ Empty) × (below ≡ [])
-    ReadsOther false = below ≡ Receive role answer ∷ []
+ReadsRole m role answer below None = ReadsOther role answer below (is_trunk m role)
 
 abbrev pub HearsPart : Trunks → Heard → List Heard → Type 0
 HearsPart m (Receive role answer) below = ReadsRole m role answer below (entry_of m role)

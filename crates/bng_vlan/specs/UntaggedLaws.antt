@@ -1,5 +1,5 @@
 -- What a plant over trunks adds, one stretch after another.
-use Rattle.std.proofs.Common.{◌≡◌, ℕ, ◌+◌, ◌^◌, ◌-◌, ◌≤◌, Bool, List, [], ◌∷◌, ◌++◌, None, min, refl, sym, ap, subst, ◌∙◌, append_assoc, append-nil, arith, map, filter}
+use Rattle.std.proofs.Common.{◌≡◌, ℕ, ◌+◌, ◌^◌, ◌-◌, ◌≤◌, Bool, List, [], ◌∷◌, ◌++◌, None, min, refl, not, is_some, sym, ap, subst, ◌∙◌, append_assoc, append-nil, arith, map, filter}
 use Rattle.std.specs.List.{AllByRecursion, flat_map, sum_by, count_by}
 use Rattle.std.proofs.lemmas.List.{map-append}
 use Rattle.std.proofs.lemmas.List.Concat.{flat_map-append}
@@ -11,7 +11,7 @@ use Rattle.bng_base.specs.Told.{PlantTold}
 use Rattle.bng_base.specs.Stretch.{PlantStretch, plant_none, plant_joined, ExtendsPlant}
 use Rattle.bng_vlan.specs.Stretches.{told_over}
 use Rattle.bng_vlan.specs.declared.map.VlanEntry.{VlanEntry}
-use Rattle.bng_vlan.specs.Map.{Trunks, is_trunk}
+use Rattle.bng_vlan.specs.Map.{Trunks, is_trunk, entry_of}
 use Rattle.bng_vlan.specs.Frames.{Came, frames_of, is_of, is_stray, receive_of, datagram_of}
 use Rattle.bng_vlan.specs.Tags.{without}
 use Rattle.bng_vlan.specs.Waiting.{Waiting, counted, frames_at}
@@ -87,7 +87,11 @@ more_at m u v w a b s t x y = record {
       ∙ passes (gifts m e (frames_at i u.frames)) (gifts m e (frames_at i v.frames)) (gifts m e (frames_at i w.frames)) (gifts m e (frames_of m e x.came)) (gifts m e (frames_of m e y.came)) (given_to e s.taken) (given_to e t.taken) (x.each i e stands) (y.each i e stands)
       ∙ ap (λ z. z ++ gifts m e (frames_at i w.frames)) (sym (given_append e s.taken t.taken));
   strays = counts u.strays v.strays w.strays (count_by (is_stray m) x.came) (count_by (is_stray m) y.came) x.strays y.strays ∙ ap (counted u.strays) (sym (strays_append m x.came y.came));
-  others = filter-append _ a.taken b.taken ∙ ap (λ z. z ++ filter _ b.taken) x.others ∙ ap (λ z. filter _ s.taken ++ z) y.others ∙ sym (filter-append _ s.taken t.taken);
+  others =
+      filter-append (λ (d : Datagram). not (is_trunk m d.role)) a.taken b.taken
+      ∙ ap (λ z. z ++ filter (λ (d : Datagram). not (is_trunk m d.role)) b.taken) x.others
+      ∙ ap (λ z. filter (λ (d : Datagram). not (is_some (entry_of m d.role))) s.taken ++ z) y.others
+      ∙ sym (filter-append (λ (d : Datagram). not (is_some (entry_of m d.role))) s.taken t.taken);
   sent = ap (λ z. z ++ b.sent) x.sent ∙ ap (λ z. map (tagged_by m) s.sent ++ z) y.sent ∙ sym (map-append (tagged_by m) s.sent t.sent);
   heard = hears_more m a.heard b.heard s.heard t.heard x.heard y.heard;
   failed = ap (λ n. n + b.failed) x.failed ∙ ap (λ n. s.failed + n) y.failed;

@@ -1,5 +1,6 @@
 //! The frames that wait for one entry.
 ghost use Rattle.std.specs.Prelude.{◌≡◌, ◌+◌, ◌≤◌, ◌<◌, ◌∷◌, [], ◌++◌, length, take, drop, IfOk};
+ghost use Rattle.bng_vlan.specs.Ring.{HaveHeadroom};
 
 use crate::tag::ADDRESSES;
 use bng_base::Frame;
@@ -30,7 +31,10 @@ impl Model for Queue {
 }
 
 /// So many places.
-fn places(alloc: Global) -> Result<Vec<Frame>, AllocError> {
+fn places(alloc: Global) -> Result<Vec<Frame>, AllocError>
+    ensures size { IfOk result (λ v. length v.items ≡ 17) }
+    ensures headroom { IfOk result (λ v. HaveHeadroom v.items) }
+{
     let mut places = Vec::with_capacity(alloc, PLACES)?;
     for _ in 0..PLACES {
         places.push_reserved(Frame::new());
