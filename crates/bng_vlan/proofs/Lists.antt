@@ -89,3 +89,10 @@ nil_push [] all zero = refl
 nil_push [] all (suc i) = refl
 nil_push (x ∷ xs) all zero = all zero
 nil_push (x ∷ xs) all (suc i) = nil_push xs (λ k. all (suc k)) i
+
+-- a search that has come to a place where the test passes
+pub found_place : {X : Type 0} (p : X → Bool) (xs ys : List X) (place : ℕ) (d : X) → ys ≡ xs → find p xs ≡ find p (drop place xs) → place < length ys → p (get_or ys place d) ≡ true → find p xs ≡ slice_get xs place
+found_place {X} p xs ys place d same so_far below passes =
+    let below' : place < length xs = subst (λ (zs : List X). place < length zs) same below in
+    let passes' : p (get_or xs place d) ≡ true = subst (λ (zs : List X). p (get_or zs place d) ≡ true) same passes in
+    so_far ∙ find_here p xs place d below' passes' ∙ sym (get_at xs place d below')

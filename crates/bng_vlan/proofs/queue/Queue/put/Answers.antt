@@ -1,5 +1,5 @@
 use Rattle.std.proofs.Common.{◌≡◌, ◌+◌, ◌-◌, ◌%◌, ◌<◌, ◌≤◌, ◌∷◌, ◌++◌, [], ℕ, List, ap, sym, ◌∙◌, length, take, drop, length-set, arith}
-use Rattle.std.proofs.lemmas.List.{map-append}
+use Rattle.std.proofs.lemmas.List.{map-append, take_rest}
 use Rattle.bng_base.specs.Packet.{Packet}
 use Rattle.bng_vlan.specs.Ring.{window, payloads}
 use Rattle.bng_vlan.proofs.RingLaws.{window_after_push, headroom_set, length-payloads}
@@ -27,4 +27,4 @@ returns c =
     ap payloads (window_after_push 17 q.oldest q.size q.places.items c.self.invariant.0 c.self.invariant.1 c.self.invariant.2 p few)
     ∙ map-append (λ (f : Packet). f.payload) (window q.oldest q.size q.places.items) (p ∷ [])
     ∙ ap (λ (w : List (List ℕ)). w ++ p.payload ∷ []) c.self.view_is
-    ∙ ap (λ (o : List ℕ). c.args.self.now ++ o ∷ []) (c.put_back.ensures.payload ∙ ap (λ (f : Packet). f.payload ++ drop (12 + c.args.width) c.args.octets.now) c.set.ensures)
+    ∙ ap (λ (o : List ℕ). c.args.self.now ++ o ∷ []) (c.put_back.ensures.payload ∙ ap (λ (x : List ℕ). c.set.new.self.payload ++ x) (take_rest c.args.octets.now (12 + c.args.width)) ∙ ap (λ (f : Packet). f.payload ++ drop (12 + c.args.width) c.args.octets.now) c.set.ensures)
