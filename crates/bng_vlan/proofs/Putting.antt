@@ -1,15 +1,16 @@
 -- A frame is put where it belongs, and a frame is taken out.
-use Rattle.std.proofs.Common.{◌≡◌, ℕ, zero, suc, ◌+◌, ◌-◌, ◌^◌, ◌<◌, ◌≤◌, ◌==◌, ◌&&◌, ◌||◌, ◌⊎◌, inl, inr, Bool, true, false, not, cond, min, List, [], ◌∷◌, ◌++◌, Option, Some, None, refl, sym, ap, ap₂, subst, ◌∙◌, append-nil, length, length-append, set, map, arith}
+use Rattle.std.proofs.Common.{◌≡◌, ℕ, zero, suc, ◌+◌, ◌-◌, ◌^◌, ◌<◌, ◌≤◌, ◌==◌, ◌&&◌, ◌||◌, ◌⊎◌, inl, inr, Bool, true, false, not, cond, min, List, [], ◌∷◌, ◌++◌, Option, Some, None, refl, sym, ap, ap₂, subst, ◌∙◌, append-nil, length, length-append, set, map, get_or, filter, nat_le, arith}
 use Rattle.std.specs.List.{slice_get, list_any, count_by}
 use Rattle.std.specs.Option.{unwrap_or}
+use Rattle.std.proofs.lemmas.Bool.Decides.{nat_tests}
 use Rattle.std.proofs.lemmas.Bool.{cases_eq, cases_lt, eqb-true}
 use Rattle.bng_vlan.specs.declared.map.VlanEntry.{VlanEntry}
 use Rattle.bng_vlan.specs.declared.tag.Tags.{Tags}
-use Rattle.bng_vlan.specs.Tags.{tags_of, without}
+use Rattle.bng_vlan.specs.Tags.{tags_of, without, width_of, vlan_at, has_pair, has_one, has_type}
 use Rattle.bng_vlan.specs.Map.{Trunks, IsMap, tags_in}
 use Rattle.bng_vlan.specs.Frames.{Came, has_tags, same_inner, is_of, is_whole, is_stray, frames_of}
 use Rattle.bng_vlan.specs.Waiting.{Waiting, AreFew, Holds, IsHeldAt, Keeps, Gives, counted, frames_at}
-use Rattle.bng_vlan.proofs.Lists.{any_none, any_some, get_below, by_test}
+use Rattle.bng_vlan.proofs.Lists.{any_none, any_some, get_at, get_below, by_test}
 
 -- both parts of a test
 and_left : (a b : Bool) → (a && b) ≡ true → a ≡ true
@@ -67,9 +68,6 @@ module _ (m : Trunks) (c : Came) where
   frames_no d no' = ap (λ b. map (λ (x : Came). without d.inner x.octets) (cond b (c ∷ []) [])) no'
 
   -- a stray is counted
-  counts_one : (n : ℕ) → n ≤ 2 ^ 64 - 1 → min (n + 1) (2 ^ 64 - 1) ≡ counted n 1
-  counts_one n small = omega arith
-
   counts_none : (n : ℕ) → n ≡ counted n 0
   counts_none n = omega arith
 
@@ -79,11 +77,11 @@ module _ (m : Trunks) (c : Came) where
       zero_more : (n : ℕ) → 0 + n ≡ n
       zero_more n = omega arith
 
-  pub keeps_stray : (v : Waiting) (strays : ℕ) → v.strays ≤ 2 ^ 64 - 1 → strays ≡ min (v.strays + 1) (2 ^ 64 - 1)
+  pub keeps_stray : (v : Waiting) (strays : ℕ) → strays ≡ counted v.strays 1
       → ((i : ℕ) (d : VlanEntry) → slice_get m.entries i ≡ Some d → is_of m c d ≡ false) → Keeps m v (c ∷ []) (record { frames = v.frames; strays = strays })
-  keeps_stray v strays small is none = record {
+  keeps_stray v strays is none = record {
     each = λ i d at. ap (λ x. frames_at i v.frames ++ x) (frames_no d (none i d at)) ∙ append-nil (frames_at i v.frames);
-    strays = is ∙ counts_one v.strays small ∙ ap (counted v.strays) (sym (stray_count false (any_none (is_of m c) m.entries none)));
+    strays = is ∙ ap (counted v.strays) (sym (stray_count false (any_none (is_of m c) m.entries none)));
   }
 
   module _ (sound : IsMap m) (place : ℕ) (e : VlanEntry) (stands : slice_get m.entries place ≡ Some e) (of_e : is_of m c e ≡ true) (v : Waiting) (inside : place < length v.frames) where
@@ -137,6 +135,42 @@ module _ (m : Trunks) (c : Came) where
               ]
           ];
         }
+
+-- what waits at a place
+pub frames_at_get : (place : ℕ) (queues : List (List (List ℕ))) (d : List (List ℕ)) → place < length queues → frames_at place queues ≡ get_or queues place d
+frames_at_get place queues d below = ap (λ (o : Option (List (List ℕ))). unwrap_or o []) (get_at queues place d below)
+
+-- the entry at a place
+pub entry_is : (entries : List VlanEntry) (place : ℕ) (d e : VlanEntry) → slice_get entries place ≡ Some e → get_or entries place d ≡ e
+entry_is entries place d e stands = (let both : Some (get_or entries place d) ≡ Some e = sym (get_at entries place d (get_below entries place e stands)) ∙ stands in cc)
+
+le_true : (a b : ℕ) → nat_le a b ≡ true → a ≤ b
+le_true a b e = grind (arith, nat_tests)
+
+-- which tags were read
+choose : (a b c : Bool) (x y t : Tags) → cond a (cond b (Some x) None) (cond c (Some y) None) ≡ Some t → ((a ≡ true) × (b ≡ true) × (x ≡ t)) ⊎ ((c ≡ true) × (y ≡ t))
+choose true true c x y t e = inl (refl, refl, (let same : x ≡ t = cc in same))
+choose true false c x y t e = absurd cc
+choose false b true x y t e = inr (refl, (let same : y ≡ t = cc in same))
+choose false b false x y t e = absurd cc
+
+-- tags that are read stand in the frame whole
+pub whole_tags : (octets : List ℕ) (t : Tags) → tags_of octets ≡ Some t → 12 + width_of t.inner ≤ length octets
+whole_tags octets t is =
+    let pair : Tags = record { outer = vlan_at 14 octets; inner = Some (vlan_at 18 octets) } in
+    let single : Tags = record { outer = vlan_at 14 octets; inner = None } in
+    elim (choose (has_pair octets) (nat_le 20 (length octets)) (has_one octets) pair single t is) [
+      | inl two ↦
+          let long : 20 ≤ length octets = le_true 20 (length octets) two.1 in
+          subst (λ (k : Tags). 12 + width_of k.inner ≤ length octets) two.2 (let l : 12 + 8 ≤ length octets = omega arith in l)
+      | inr one ↦
+          let long : 16 ≤ length octets = le_true 16 (length octets) (and_right (has_type 12 33024 octets) (nat_le 16 (length octets)) one.0) in
+          subst (λ (k : Tags). 12 + width_of k.inner ≤ length octets) one.1 (let l : 12 + 4 ≤ length octets = omega arith in l)
+    ]
+
+-- an entry's frame has its tags whole
+pub whole_frame : (m : Trunks) (c : Came) (e : VlanEntry) → is_of m c e ≡ true → 12 + width_of e.inner ≤ length c.octets
+whole_frame m c e of_e = whole_tags c.octets (tags_in e) (with_tags m c e of_e)
 
 -- the oldest of a queue was taken out
 module _ (entries : List VlanEntry) (v : Waiting) (place : ℕ) (q : List (List ℕ)) (octets : List ℕ) (inside : place < length v.frames) (was : frames_at place v.frames ≡ octets ∷ q) where

@@ -3,7 +3,7 @@ ghost use Rattle.std.specs.Prelude.{◌≡◌, ◌≤◌, ◌<◌, ◌-◌, ◌�
 ghost use Rattle.bng_base.specs.declared.outside.Role.TheVariants.{Access};
 ghost use Rattle.bng_vlan.specs.Map.{IsMap, entry_of, is_trunk};
 ghost use Rattle.bng_vlan.specs.Frames.{Came, is_peer, has_tags, is_of};
-ghost use Rattle.bng_vlan.specs.Waiting.{AreFew, Holds, Keeps, Gives, frames_at};
+ghost use Rattle.bng_vlan.specs.Waiting.{AreFew, Holds, Keeps, Gives, counted, frames_at};
 ghost use Rattle.bng_vlan.specs.Tags.{tags_of};
 
 use crate::map::{VlanEntry, VlanMap};
@@ -34,6 +34,13 @@ fn queues(alloc: Global, number: usize) -> Result<Vec<Queue>, AllocError>
         queues.push(Queue::new(alloc)?)?;
     }
     Ok(queues)
+}
+
+/// One more, unless the count stands at the end of its type.
+fn one_more(strays: u64) -> u64
+    ensures { result ≡ counted strays 1 }
+{
+    strays.saturating_add(1)
 }
 
 /// Whether an entry is one of this trunk with these tags.
@@ -175,7 +182,7 @@ impl Backlog {
     {
         let octets = frame.payload();
         match self.owner(trunk, from, cut, octets) {
-            None => self.strays = self.strays.saturating_add(1),
+            None => self.strays = one_more(self.strays),
             Some(place) => {
                 let width = width_of(self.entries[place].inner);
                 self.queues[place].put(octets, width);
