@@ -4,3 +4,4 @@ pub mod RingLaws
 pub mod TrunkReading
 pub mod EntryReceive
 pub mod Putting
+pub mod TaggedSends
