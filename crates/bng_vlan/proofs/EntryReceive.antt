@@ -1,7 +1,7 @@
 -- What a receive of an entry adds.
 use Rattle.std.proofs.Common.{◌≡◌, ℕ, ◌+◌, ◌-◌, ◌<◌, ◌≤◌, ◌==◌, ◌⊎◌, inl, inr, Bool, true, false, not, is_some, cond, List, [], ◌∷◌, ◌++◌, Option, Some, None, unwrap_or, refl, sym, ap, subst, ◌∙◌, append-nil, length, map, filter, arith}
 use Rattle.std.specs.List.{AllByRecursion, slice_get, find}
-use Rattle.std.proofs.lemmas.Bool.{cases_eq, eqb-true, eq-eqb, ne_eqb}
+use Rattle.std.proofs.lemmas.Bool.{cases_eq, cases_lt, eqb-true, eq-eqb, ne_eqb}
 use Rattle.std.proofs.lemmas.Bool.Decides.{nat_tests}
 use Rattle.std.proofs.lemmas.List.{map-append}
 use Rattle.std.proofs.lemmas.List.Elements.{filter-append}
@@ -22,7 +22,7 @@ use Rattle.bng_vlan.specs.Frames.{Came, frames_of, receive_of, datagram_of}
 use Rattle.bng_vlan.specs.Waiting.{Waiting, Keeps, Gives, frames_at}
 use Rattle.bng_vlan.specs.Hearing.{Hears, HearsPart, Fits, ReadsRole, ending_heard, ending_failed, trunk_heard, trunk_stretch}
 use Rattle.bng_vlan.specs.Untagged.{Untagged, AreOf, took_of_trunk, gift, gifts, given_to}
-use Rattle.bng_vlan.specs.Reading.{IsRead}
+use Rattle.bng_vlan.specs.Reading.{IsRead, Answers}
 
 -- trunks are bound as trunks
 trunk_yes : (m : Trunks) (t : ℕ) → 1 ≤ t → t ≤ length m.peers → is_trunk m (role_of t) ≡ true
@@ -133,3 +133,51 @@ module _ (m : Trunks) (sound : IsMap m) (place : ℕ) (e : VlanEntry) (stands : 
         (sym (ap (λ o. cond (not (is_some o)) (g ∷ []) []) port))
         (refl, refl, peer)
         refl
+
+-- how each of them answers
+module _ (m : Trunks) (place : ℕ) (e : VlanEntry) (v : Waiting) (came : List Came) where
+  none_waits : (ending : Ending) (w : Waiting) → (ending ≡ Stopped → ⊥) → IsRead m place e v came ending w → length (frames_at place w.frames) ≡ 0
+  none_waits ending w not_stopped read = elim (cases_lt 0 (length (frames_at place w.frames))) [
+    | inl some ↦ absurd (not_stopped (read.ended some))
+    | inr none ↦ omega arith
+  ]
+
+  pub answers_dry : (w : Waiting) → IsRead m place e v came Dry w → Answers m place e Empty v (trunk_stretch e.trunk came Dry) w
+  answers_dry w read = record {
+    came = came;
+    ending = Dry;
+    are = refl;
+    up_to = read.up_to;
+    failed = (λ f. absurd cc, λ f. absurd cc);
+    empty = λ _. (none_waits Dry w (λ f. cc) read, inl refl);
+  }
+
+  pub answers_broken : (w : Waiting) → IsRead m place e v came Broken w → Answers m place e Failed v (trunk_stretch e.trunk came Broken) w
+  answers_broken w read = record {
+    came = came;
+    ending = Broken;
+    are = refl;
+    up_to = read.up_to;
+    failed = (λ _. refl, λ _. refl);
+    empty = λ f. absurd cc;
+  }
+
+  pub answers_stopped : (w : Waiting) → length (frames_at place w.frames) ≡ 0 → IsRead m place e v came Stopped w → Answers m place e Empty v (trunk_stretch e.trunk came Stopped) w
+  answers_stopped w none read = record {
+    came = came;
+    ending = Stopped;
+    are = refl;
+    up_to = read.up_to;
+    failed = (λ f. absurd cc, λ f. absurd cc);
+    empty = λ _. (none, elim (read.drained none) [ inl broken ↦ absurd cc | inr drained ↦ drained ]);
+  }
+
+  pub answers_given : (from : Peer) (cut : Bool) (u w : Waiting) → IsRead m place e v came Stopped u → Answers m place e (Got from cut) v (trunk_stretch e.trunk came Stopped) w
+  answers_given from cut u w read = record {
+    came = came;
+    ending = Stopped;
+    are = refl;
+    up_to = read.up_to;
+    failed = (λ f. absurd cc, λ f. absurd cc);
+    empty = λ f. absurd cc;
+  }
