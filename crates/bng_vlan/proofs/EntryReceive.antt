@@ -87,9 +87,9 @@ module _ (m : Trunks) (sound : IsMap m) (place : ℕ) (e : VlanEntry) (stands : 
     sent = refl;
     heard =
         let reads : ReadsRole m (Access e.access) answer (trunk_heard e.trunk came ending) (Some e) =
-            record { came = came; ending = ending; are = refl; of_trunk = read.of_trunk; most = read.up_to.most; fits = fits } in
+        record { came = came; ending = ending; are = refl; of_trunk = read.of_trunk; most = read.up_to.most; fits = fits } in
         let is : HearsPart m (Receive (Access e.access) answer) (trunk_heard e.trunk came ending) =
-            subst (ReadsRole m (Access e.access) answer (trunk_heard e.trunk came ending)) (sym port) reads in
+        subst (ReadsRole m (Access e.access) answer (trunk_heard e.trunk came ending)) (sym port) reads in
         record { parts = record { above = Receive (Access e.access) answer; below = trunk_heard e.trunk came ending } ∷ []; aboves = refl; belows = append-nil (trunk_heard e.trunk came ending); each = (is, tt) };
     failed = failed;
   }
@@ -122,17 +122,17 @@ module _ (m : Trunks) (sound : IsMap m) (place : ℕ) (e : VlanEntry) (stands : 
   untag_given came from octets u w read gives peer =
       let g : Datagram = record { role = Access e.access; peer = from; octets = octets } in
       untag came Stopped (Got from false) octets w u read
-        (λ i d at. elim (cases_eq i place) [
-          | inl here ↦
-              let same : e ≡ d = (let both : Some e ≡ Some d = sym stands ∙ ap (slice_get m.entries) (sym here) ∙ at in cc) in
-              let fronts : frames_at i u.frames ≡ octets ∷ frames_at i w.frames = subst (λ n. frames_at n u.frames ≡ octets ∷ frames_at n w.frames) (sym here) gives.here in
-              ap (gifts m d) fronts ∙ ap (λ (x : List Datagram). x ++ gifts m d (frames_at i w.frames)) (given_here d from octets same peer)
-          | inr other ↦ ap (gifts m d) (sym (gives.others i other)) ∙ ap (λ (x : List Datagram). x ++ gifts m d (frames_at i w.frames)) (given_there i d from octets at other)
-        ])
-        gives.strays
-        (sym (ap (λ o. cond (not (is_some o)) (g ∷ []) []) port))
-        (refl, refl, peer)
-        refl
+      (λ i d at. elim (cases_eq i place) [
+        | inl here ↦
+            let same : e ≡ d = (let both : Some e ≡ Some d = sym stands ∙ ap (slice_get m.entries) (sym here) ∙ at in cc) in
+            let fronts : frames_at i u.frames ≡ octets ∷ frames_at i w.frames = subst (λ n. frames_at n u.frames ≡ octets ∷ frames_at n w.frames) (sym here) gives.here in
+            ap (gifts m d) fronts ∙ ap (λ (x : List Datagram). x ++ gifts m d (frames_at i w.frames)) (given_here d from octets same peer)
+        | inr other ↦ ap (gifts m d) (sym (gives.others i other)) ∙ ap (λ (x : List Datagram). x ++ gifts m d (frames_at i w.frames)) (given_there i d from octets at other)
+      ])
+      gives.strays
+      (sym (ap (λ o. cond (not (is_some o)) (g ∷ []) []) port))
+      (refl, refl, peer)
+      refl
 
 -- how each of them answers
 module _ (m : Trunks) (place : ℕ) (e : VlanEntry) (v : Waiting) (came : List Came) where

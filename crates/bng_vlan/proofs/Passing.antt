@@ -65,10 +65,10 @@ module _ (m : Trunks) (v : Waiting) where
   passes_receive role (Got from cut) octets none other =
       let s = receiving role (Got from cut) octets in
       quiet s s
-        (record { heard = ap (λ b. cond b (Receive role (Got from cut) ∷ []) []) other; taken = ap (λ b. cond b s.taken []) other })
-        (λ i e stands. ap (λ b. cond b s.taken []) (no_port role none i e stands))
-        (ap (λ b. cond (not b) s.taken []) other ∙ ap (λ o. cond (not (is_some o)) s.taken []) (sym none))
-        refl (hears_same role (Got from cut) none other) refl
+      (record { heard = ap (λ b. cond b (Receive role (Got from cut) ∷ []) []) other; taken = ap (λ b. cond b s.taken []) other })
+      (λ i e stands. ap (λ b. cond b s.taken []) (no_port role none i e stands))
+      (ap (λ b. cond (not b) s.taken []) other ∙ ap (λ o. cond (not (is_some o)) s.taken []) (sym none))
+      refl (hears_same role (Got from cut) none other) refl
   passes_receive role Empty octets none other =
       let s = receiving role Empty octets in quiet s s (record { heard = refl; taken = refl }) (λ i e stands. refl) refl refl (hears_same role Empty none other) refl
   passes_receive role Failed octets none other =

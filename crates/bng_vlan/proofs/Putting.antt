@@ -122,17 +122,17 @@ module _ (m : Trunks) (c : Came) where
           ];
           one = λ i j d k at there same held_i held_j. elim (cases_eq i place) [
             | inl is_i ↦ elim (cases_eq j place) [
-                | inl is_j ↦ is_i ∙ sym is_j
-                | inr not_j ↦
-                    let d_is : d ≡ e = (let both : Some d ≡ Some e = sym at ∙ ap (slice_get m.entries) is_i ∙ stands in cc) in
-                    absurd (free (record { place = j; entry = k; stands = there; same = sym same ∙ ap (λ (x : VlanEntry). x.trunk) d_is ∙ of_trunk e of_e; full = subst (λ x. 16 < length x) (frames_at_other j place v.frames q not_j) held_j }))
-              ]
+              | inl is_j ↦ is_i ∙ sym is_j
+              | inr not_j ↦
+                  let d_is : d ≡ e = (let both : Some d ≡ Some e = sym at ∙ ap (slice_get m.entries) is_i ∙ stands in cc) in
+                  absurd (free (record { place = j; entry = k; stands = there; same = sym same ∙ ap (λ (x : VlanEntry). x.trunk) d_is ∙ of_trunk e of_e; full = subst (λ x. 16 < length x) (frames_at_other j place v.frames q not_j) held_j }))
+            ]
             | inr not_i ↦ elim (cases_eq j place) [
-                | inl is_j ↦
-                    let k_is : k ≡ e = (let both : Some k ≡ Some e = sym there ∙ ap (slice_get m.entries) is_j ∙ stands in cc) in
-                    absurd (free (record { place = i; entry = d; stands = at; same = same ∙ ap (λ (x : VlanEntry). x.trunk) k_is ∙ of_trunk e of_e; full = subst (λ x. 16 < length x) (frames_at_other i place v.frames q not_i) held_i }))
-                | inr not_j ↦ few.one i j d k at there same (subst (λ x. 16 < length x) (frames_at_other i place v.frames q not_i) held_i) (subst (λ x. 16 < length x) (frames_at_other j place v.frames q not_j) held_j)
-              ]
+              | inl is_j ↦
+                  let k_is : k ≡ e = (let both : Some k ≡ Some e = sym there ∙ ap (slice_get m.entries) is_j ∙ stands in cc) in
+                  absurd (free (record { place = i; entry = d; stands = at; same = same ∙ ap (λ (x : VlanEntry). x.trunk) k_is ∙ of_trunk e of_e; full = subst (λ x. 16 < length x) (frames_at_other i place v.frames q not_i) held_i }))
+              | inr not_j ↦ few.one i j d k at there same (subst (λ x. 16 < length x) (frames_at_other i place v.frames q not_i) held_i) (subst (λ x. 16 < length x) (frames_at_other j place v.frames q not_j) held_j)
+            ]
           ];
         }
 
@@ -184,9 +184,9 @@ module _ (entries : List VlanEntry) (v : Waiting) (place : ℕ) (q : List (List 
   fewer : (i : ℕ) → length (frames_at i (set v.frames place q)) ≤ length (frames_at i v.frames)
   fewer i = elim (cases_eq i place) [
     | inl same ↦ subst (λ n. length (frames_at n (set v.frames place q)) ≤ length (frames_at n v.frames)) (sym same) (
-          let here : length (frames_at place (set v.frames place q)) ≡ length q = ap length (frames_at_same place v.frames q inside) in
-          let before : length (frames_at place v.frames) ≡ length q + 1 = ap length was ∙ (let s : length (octets ∷ q) ≡ length q + 1 = omega arith in s) in
-          omega arith
+        let here : length (frames_at place (set v.frames place q)) ≡ length q = ap length (frames_at_same place v.frames q inside) in
+        let before : length (frames_at place v.frames) ≡ length q + 1 = ap length was ∙ (let s : length (octets ∷ q) ≡ length q + 1 = omega arith in s) in
+        omega arith
         )
     | inr other ↦ subst (λ x. length x ≤ length (frames_at i v.frames)) (sym (frames_at_other i place v.frames q other)) (let s : length (frames_at i v.frames) ≤ length (frames_at i v.frames) = omega arith in s)
   ]

@@ -31,7 +31,7 @@ pub took_more : (trunk : ℕ) (came : List Came) (from : Peer) (cut : Bool) (oct
 took_more trunk came from cut octets =
     let c : Came = record { trunk = trunk; from = from; cut = cut; octets = octets } in
     let heard : (map receive_of came ++ []) ++ receive_of c ∷ [] ≡ map receive_of (came ++ c ∷ []) ++ [] =
-        ap (λ x. x ++ receive_of c ∷ []) (append-nil (map receive_of came)) ∙ sym (map-append receive_of came (c ∷ [])) ∙ sym (append-nil (map receive_of (came ++ c ∷ []))) in
+    ap (λ x. x ++ receive_of c ∷ []) (append-nil (map receive_of came)) ∙ sym (map-append receive_of came (c ∷ [])) ∙ sym (append-nil (map receive_of (came ++ c ∷ []))) in
     let taken : map datagram_of came ++ datagram_of c ∷ [] ≡ map datagram_of (came ++ c ∷ []) = sym (map-append datagram_of came (c ∷ [])) in
     ap (λ h. let s : PlantStretch = record { heard = h; taken = map datagram_of came ++ datagram_of c ∷ []; sent = []; failed = 0 } in s) heard
     ∙ ap (λ t. let s : PlantStretch = record { heard = map receive_of (came ++ c ∷ []) ++ []; taken = t; sent = []; failed = 0 } in s) taken

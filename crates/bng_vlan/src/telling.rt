@@ -8,6 +8,7 @@ use bng_base::{Frame, Peer, Received, Role};
 use bng_plant::{Bound, Plant, Sending};
 
 /// A plant that tells, under trunks: what a call adds is what it tells more.
+#[derive(Drop)]
 pub struct Telling<'a, P: Plant> {
     pub plant: &'a mut P,
 }

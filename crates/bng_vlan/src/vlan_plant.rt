@@ -27,11 +27,13 @@ use std::alloc::{AllocError, Global};
 /// How many receives of a trunk one receive of an entry makes at most.
 const READ_MOST: usize = 224;
 
-/// A plant over another one, on which access ports are VLANs of trunks.
+/// A plant over another one, on which access ports are VLANs of trunks. `backlog` has the frames that wait, and `text` is the buffer for
+/// what is sent.
+#[derive(Drop)]
 pub struct VlanPlant<'a, P: TrunkPlant> {
     pub plant: &'a mut P,
     pub backlog: Backlog,
-    text: Vec<u8>,
+    pub text: Vec<u8>,
     pub ghost room: { 4168 ≤ vec_capacity text },
 }
 

@@ -19,8 +19,7 @@ returns-in-Empty-clause-reads g c =
     let none : length (frames_at c.args.place (waiting_of c.loop.backlog).frames) ≡ 0 = omega arith in
     let few : length inv.came < 224 = omega arith in
     let one = subst (λ (r : Role). g.P.TrunkPlant.adds c.loop.plant (receiving r Empty c.recv.new.into.payload) c.recv.new.self) c.role_of.ensures c.in-Empty.ensures.adds in
-    let both = g.met.P.TrunkPlant.more c.args.plant.now c.loop.plant c.recv.new.self (trunk_stretch t inv.came Stopped) (receiving (role_of t) Empty c.recv.new.into.payload) inv.adds one in
-    (
+    let both = g.met.P.TrunkPlant.more c.args.plant.now c.loop.plant c.recv.new.self (trunk_stretch t inv.came Stopped) (receiving (role_of t) Empty c.recv.new.into.payload) inv.adds one in (
       inv.came,
       subst (λ (s : PlantStretch). g.P.TrunkPlant.adds c.args.plant.now s c.recv.new.self) (was_empty t inv.came c.recv.new.into.payload) both,
       is_dry (map_of c.args.backlog.now) c.args.place c.args.entry (waiting_of c.args.backlog.now) inv.came c.requires (waiting_of c.loop.backlog) inv.far few none,
@@ -33,8 +32,7 @@ returns-in-Failed-clause-reads g c =
     let none : length (frames_at c.args.place (waiting_of c.loop.backlog).frames) ≡ 0 = omega arith in
     let few : length inv.came < 224 = omega arith in
     let one = subst (λ (r : Role). g.P.TrunkPlant.adds c.loop.plant (receiving r Failed c.recv.new.into.payload) c.recv.new.self) c.role_of.ensures c.in-Failed.ensures.adds in
-    let both = g.met.P.TrunkPlant.more c.args.plant.now c.loop.plant c.recv.new.self (trunk_stretch t inv.came Stopped) (receiving (role_of t) Failed c.recv.new.into.payload) inv.adds one in
-    (
+    let both = g.met.P.TrunkPlant.more c.args.plant.now c.loop.plant c.recv.new.self (trunk_stretch t inv.came Stopped) (receiving (role_of t) Failed c.recv.new.into.payload) inv.adds one in (
       inv.came,
       subst (λ (s : PlantStretch). g.P.TrunkPlant.adds c.args.plant.now s c.recv.new.self) (had_failed t inv.came c.recv.new.into.payload) both,
       is_broken (map_of c.args.backlog.now) c.args.place c.args.entry (waiting_of c.args.backlog.now) inv.came c.requires (waiting_of c.loop.backlog) inv.far few none,

@@ -8,7 +8,6 @@ use Rattle.bng_vlan.proofs.Lists.{get_below}
 use Rattle.bng_vlan.proofs.Putting.{entry_is, frames_at_get, keeps_frame, keeps_stray, stay_few, whole_frame}
 use Rattle.bng_vlan.proofs.backlog.Backlog.put.Goals as goal
 
-
 pub put-requires-clause-whole : goal.put-requires-clause-whole
 put-requires-clause-whole c =
     let found = c.in-Some.ensures.found in
@@ -31,9 +30,9 @@ invariant_of-self-in-Some c =
     let width : c.width_of-width.result ≡ width_of e.inner = c.width_of-width.ensures ∙ ap (λ (d : VlanEntry). width_of d.inner) is in
     let inside : c.in-Some.place < length v.frames = omega (arith, get_below m.entries c.in-Some.place e found.1, c.args.self.now.one_each) in
     let q : c.put.new.self ≡ frames_at c.in-Some.place v.frames ++ without e.inner came.octets ∷ [] =
-        c.put.ensures
-        ∙ ap (λ (n : ℕ). c.index_mut.result.now ++ (take 12 came.octets ++ drop (12 + n) came.octets) ∷ []) width
-        ∙ ap (λ (x : List (List ℕ)). x ++ without e.inner came.octets ∷ []) (c.index_mut.ensures.value ∙ sym (frames_at_get c.in-Some.place v.frames c.index_mut.result.now inside)) in
+    c.put.ensures
+    ∙ ap (λ (n : ℕ). c.index_mut.result.now ++ (take 12 came.octets ++ drop (12 + n) came.octets) ∷ []) width
+    ∙ ap (λ (x : List (List ℕ)). x ++ without e.inner came.octets ∷ []) (c.index_mut.ensures.value ∙ sym (frames_at_get c.in-Some.place v.frames c.index_mut.result.now inside)) in
     record {
       sound = c.args.self.now.sound;
       one_each = length-set v.frames c.in-Some.place c.put.new.self ∙ c.args.self.now.one_each;
@@ -46,7 +45,7 @@ returns-in-None-clause-keeps c =
     let v = waiting_of c.args.self.now in
     let of : List ℕ → Came = λ octets. record { trunk = c.args.trunk; from = c.args.from; cut = c.args.cut; octets = octets } in
     subst (λ (o : List ℕ). Keeps m v (of o ∷ []) (record { frames = v.frames; strays = c.one_more-self.result })) c.payload-octets.ensures.octets
-      (keeps_stray m (of c.payload-octets.result.now) v c.one_more-self.result c.one_more-self.ensures (c.in-None.ensures.none refl))
+    (keeps_stray m (of c.payload-octets.result.now) v c.one_more-self.result c.one_more-self.ensures (c.in-None.ensures.none refl))
 
 pub returns-in-Some-clause-keeps : goal.returns-in-Some-clause-keeps
 returns-in-Some-clause-keeps c =
@@ -60,8 +59,8 @@ returns-in-Some-clause-keeps c =
     let width : c.width_of-width.result ≡ width_of e.inner = c.width_of-width.ensures ∙ ap (λ (d : VlanEntry). width_of d.inner) is in
     let inside : c.in-Some.place < length v.frames = omega (arith, get_below m.entries c.in-Some.place e found.1, c.args.self.now.one_each) in
     let q : c.put.new.self ≡ frames_at c.in-Some.place v.frames ++ without e.inner came.octets ∷ [] =
-        c.put.ensures
-        ∙ ap (λ (n : ℕ). c.index_mut.result.now ++ (take 12 came.octets ++ drop (12 + n) came.octets) ∷ []) width
-        ∙ ap (λ (x : List (List ℕ)). x ++ without e.inner came.octets ∷ []) (c.index_mut.ensures.value ∙ sym (frames_at_get c.in-Some.place v.frames c.index_mut.result.now inside)) in
+    c.put.ensures
+    ∙ ap (λ (n : ℕ). c.index_mut.result.now ++ (take 12 came.octets ++ drop (12 + n) came.octets) ∷ []) width
+    ∙ ap (λ (x : List (List ℕ)). x ++ without e.inner came.octets ∷ []) (c.index_mut.ensures.value ∙ sym (frames_at_get c.in-Some.place v.frames c.index_mut.result.now inside)) in
     subst (λ (o : List ℕ). Keeps m v (of o ∷ []) (record { frames = slice_set v.frames c.in-Some.place c.put.new.self; strays = v.strays })) c.payload-octets.ensures.octets
-      (keeps_frame m came c.args.self.now.sound c.in-Some.place e found.1 found.2 v inside c.put.new.self q)
+    (keeps_frame m came c.args.self.now.sound c.in-Some.place e found.1 found.2 v inside c.put.new.self q)

@@ -10,8 +10,7 @@ invariant_of-self c =
     let q = c.self.inside in
     let size = ap length c.self.view_is in
     let few : q.size < 17 = omega (arith, length-payloads 17 q.oldest q.size q.places.items c.self.invariant.0 c.self.invariant.1 c.self.invariant.2) in
-    let whole : c.put_back.new.self.headroom ≡ 64 = c.put_back.ensures.headroom ∙ ap (λ (f : Packet). f.headroom) c.set.ensures in
-    (
+    let whole : c.put_back.new.self.headroom ≡ 64 = c.put_back.ensures.headroom ∙ ap (λ (f : Packet). f.headroom) c.set.ensures in (
       c.self.invariant.0,
       omega arith,
       length-set q.places.items ((q.oldest + q.size) % 17) c.put_back.new.self ∙ c.self.invariant.2,

@@ -23,8 +23,7 @@ pub returns-in-Dry-clause-adds : goal.returns-in-Dry-clause-adds
 returns-in-Dry-clause-adds g c =
     let b = c.args.self.now.backlog in
     let r = c.in-Dry.ensures.reads in
-    let w = waiting_of c.read.new.backlog in
-    (
+    let w = waiting_of c.read.new.backlog in (
       trunk_stretch c.args.entry.trunk r.0 Dry,
       r.1,
       untag_dry (map_of b) b.sound c.args.place c.args.entry c.requires.entry c.requires.port (waiting_of b) r.0 c.read.new.into.payload w r.2,
@@ -35,8 +34,7 @@ pub returns-in-Broken-clause-adds : goal.returns-in-Broken-clause-adds
 returns-in-Broken-clause-adds g c =
     let b = c.args.self.now.backlog in
     let r = c.in-Broken.ensures.reads in
-    let w = waiting_of c.read.new.backlog in
-    (
+    let w = waiting_of c.read.new.backlog in (
       trunk_stretch c.args.entry.trunk r.0 Broken,
       r.1,
       untag_broken (map_of b) b.sound c.args.place c.args.entry c.requires.entry c.requires.port (waiting_of b) r.0 c.read.new.into.payload w r.2,
@@ -48,8 +46,7 @@ returns-then-number-eq0-clause-adds g c =
     let b = c.args.self.now.backlog in
     let r = c.in-Stopped.ensures.reads in
     let w = waiting_of c.read.new.backlog in
-    let none : length (frames_at c.args.place w.frames) ≡ 0 = sym c.number.ensures ∙ c.if-number-eq0.true in
-    (
+    let none : length (frames_at c.args.place w.frames) ≡ 0 = sym c.number.ensures ∙ c.if-number-eq0.true in (
       trunk_stretch c.args.entry.trunk r.0 Stopped,
       r.1,
       untag_stopped (map_of b) b.sound c.args.place c.args.entry c.requires.entry c.requires.port (waiting_of b) r.0 c.read.new.into.payload w r.2,
@@ -63,8 +60,7 @@ returns-else-number-eq0-clause-adds g c =
     let u = waiting_of c.read.new.backlog in
     let w = waiting_of c.give.new.self in
     let same : map_of b ≡ map_of c.give.new.self = sym c.in-Stopped.ensures.map ∙ sym c.give.ensures.map in
-    let peer : slice_get (map_of b).peers (c.args.entry.trunk - 1) ≡ Some c.peer_of.result = ap (λ (m : Trunks). slice_get m.peers (c.args.entry.trunk - 1)) same ∙ c.peer_of.ensures in
-    (
+    let peer : slice_get (map_of b).peers (c.args.entry.trunk - 1) ≡ Some c.peer_of.result = ap (λ (m : Trunks). slice_get m.peers (c.args.entry.trunk - 1)) same ∙ c.peer_of.ensures in (
       trunk_stretch c.args.entry.trunk r.0 Stopped,
       r.1,
       untag_given (map_of b) b.sound c.args.place c.args.entry c.requires.entry c.requires.port (waiting_of b) r.0 c.peer_of.result c.give.new.into.payload u w r.2 c.give.ensures.gives peer,

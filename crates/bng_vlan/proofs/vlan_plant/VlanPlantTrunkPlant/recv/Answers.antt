@@ -42,8 +42,7 @@ returns-else-is_trunk-clause-adds g c =
     let m = map_of c.args.self.now.backlog in
     let none : entry_of m c.args.role ≡ None = ap (entry_of m) c.in-Access.is ∙ c.in-None.ensures.none refl in
     let other : is_trunk m c.args.role ≡ false = ap (is_trunk m) c.in-Access.is ∙ sym c.is_trunk.ensures ∙ c.if-is_trunk.false in
-    let s : Role → PlantStretch = λ role. receiving role c.recv-in-None.result c.recv-in-None.new.into.payload in
-    (
+    let s : Role → PlantStretch = λ role. receiving role c.recv-in-None.result c.recv-in-None.new.into.payload in (
       refl,
       refl,
       s c.args.role,
@@ -57,8 +56,7 @@ returns-in-Some-clause-adds g c =
     let e = c.entry_at-entry.result in
     let found : entry_of m (Access c.in-Access.port) ≡ Some e = c.in-Some.ensures.found.0 ∙ c.entry_at-entry.ensures in
     let role : Access e.access ≡ c.args.role = ap Access (sym (port_of m c.in-Access.port e found)) ∙ sym c.in-Access.is in
-    let r = c.receive.ensures.adds in
-    (
+    let r = c.receive.ensures.adds in (
       sym c.receive.ensures.same,
       sym c.receive.ensures.map,
       r.0,
@@ -77,8 +75,7 @@ returns-in-Some-clause-answers g c = λ place d is_entry stands.
     let here : c.in-Some.place ≡ place = c.args.self.now.backlog.sound.ports c.in-Some.place place e d c.entry_at-entry.ensures stands (ap (λ (x : VlanEntry). x.access) same) in
     let r = c.receive.ensures.adds in
     let v = waiting_of c.args.self.now.backlog in
-    let w = waiting_of c.receive.new.self.backlog in
-    (
+    let w = waiting_of c.receive.new.self.backlog in (
       r.0,
       r.1,
       subst (λ (o : Role). Untagged m v r.0 (receiving o c.receive.result c.receive.new.into.payload) w) role r.2,

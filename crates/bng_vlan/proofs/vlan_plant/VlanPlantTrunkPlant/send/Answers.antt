@@ -55,9 +55,9 @@ returns-in-Some g c =
     let found : entry_of m c.args.role ≡ Some e = ap (entry_of m) c.in-Access.is ∙ c.in-Some.ensures.found.0 ∙ c.entry_at-entry.ensures in
     let answer = c.send-in-Some.result in
     let text : c.deref.result.now ≡ tagged (tags_in e) c.args.bytes.now =
-        c.deref.ensures.value ∙ c.write_tagged.ensures.items ∙ ap (λ (t : Tags). tagged t c.args.bytes.now) c.tags.ensures in
+    c.deref.ensures.value ∙ c.write_tagged.ensures.items ∙ ap (λ (t : Tags). tagged t c.args.bytes.now) c.tags.ensures in
     let same : sending c.role_of.result c.args.to c.deref.result.now answer ≡ sending (role_of e.trunk) c.args.to (tagged (tags_in e) c.args.bytes.now) answer =
-        ap₂ (λ (r : Role) (o : List ℕ). sending r c.args.to o answer) c.role_of.ensures text in
+    ap₂ (λ (r : Role) (o : List ℕ). sending r c.args.to o answer) c.role_of.ensures text in
     record {
       adds = (
         refl,
