@@ -5,3 +5,4 @@ pub mod TrunkReading
 pub mod EntryReceive
 pub mod Putting
 pub mod TaggedSends
+pub mod SoundMaps

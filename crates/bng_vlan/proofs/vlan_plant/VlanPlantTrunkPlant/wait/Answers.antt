@@ -2,10 +2,6 @@ use Rattle.std.proofs.Common.{refl}
 use Rattle.bng_vlan.specs.Stretches.{waiting}
 use Rattle.bng_vlan.specs.Views.{map_of, waiting_of}
 use Rattle.bng_vlan.proofs.Passing.{passes_wait}
-use Rattle.bng_vlan.proofs.RingLaws.{headroom_push}
-use Rattle.bng_vlan.proofs.TrunkReading.{begun}
-use Rattle.bng_vlan.proofs.EntryReceive.{untag_given}
-use Rattle.bng_vlan.proofs.Putting.{stay_fewer}
 use Rattle.bng_vlan.proofs.vlan_plant.VlanPlantTrunkPlant.wait.Goals as goal
 
 pub returns : goal.returns
