@@ -5,4 +5,3 @@ pub mod TrunkReading
 pub mod EntryReceive
 pub mod Putting
 pub mod TaggedSends
-pub mod SoundMaps

@@ -13,11 +13,11 @@ use Rattle.bng_vlan.specs.Waiting.{Waiting, AreFew, Holds, IsHeldAt, Keeps, Give
 use Rattle.bng_vlan.proofs.Lists.{any_none, any_some, get_at, get_below, by_test}
 
 -- both parts of a test
-pub and_left : (a b : Bool) → (a && b) ≡ true → a ≡ true
+and_left : (a b : Bool) → (a && b) ≡ true → a ≡ true
 and_left true b e = refl
 and_left false b e = absurd cc
 
-pub and_right : (a b : Bool) → (a && b) ≡ true → b ≡ true
+and_right : (a b : Bool) → (a && b) ≡ true → b ≡ true
 and_right true b e = e
 and_right false b e = absurd cc
 
@@ -144,7 +144,7 @@ frames_at_get place queues d below = ap (λ (o : Option (List (List ℕ))). unwr
 pub entry_is : (entries : List VlanEntry) (place : ℕ) (d e : VlanEntry) → slice_get entries place ≡ Some e → get_or entries place d ≡ e
 entry_is entries place d e stands = (let both : Some (get_or entries place d) ≡ Some e = sym (get_at entries place d (get_below entries place e stands)) ∙ stands in cc)
 
-pub le_true : (a b : ℕ) → nat_le a b ≡ true → a ≤ b
+le_true : (a b : ℕ) → nat_le a b ≡ true → a ≤ b
 le_true a b e = grind (arith, nat_tests)
 
 -- which tags were read
