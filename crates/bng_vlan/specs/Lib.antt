@@ -1,0 +1,11 @@
+pub mod Tags
+pub mod Stretches
+pub mod Map
+pub mod Frames
+pub mod Waiting
+pub mod Hearing
+pub mod Untagged
+pub mod Reading
+pub mod Ring
+pub mod Views
+pub mod UntaggedLaws

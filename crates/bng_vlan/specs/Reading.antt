@@ -1,0 +1,46 @@
+-- How far a trunk is read for one receive of an entry.
+use Rattle.std.specs.Prelude.{◌≡◌, ◌<◌, ◌≤◌, ◌↔◌, ◌⊎◌, ℕ, ◌-◌, ◌+◌, List, [], Option, Some, filter, take, length, slice_get}
+use Rattle.std.specs.List.{AllByRecursion}
+use Rattle.bng_base.specs.declared.outside.Role.{Role}
+use Rattle.bng_base.specs.declared.outside.Received.{Received}
+use Rattle.bng_base.specs.declared.outside.Received.TheVariants.{Empty, Failed}
+use Rattle.bng_base.specs.Stretch.{PlantStretch}
+use Rattle.bng_vlan.specs.declared.map.VlanEntry.{VlanEntry}
+use Rattle.bng_vlan.specs.declared.ending.Ending.{Ending}
+use Rattle.bng_vlan.specs.declared.ending.Ending.TheVariants.{Stopped, Dry, Broken}
+use Rattle.bng_vlan.specs.Map.{Trunks, entry_of}
+use Rattle.bng_vlan.specs.Frames.{Came, is_of}
+use Rattle.bng_vlan.specs.Waiting.{Waiting, Holds, Keeps, frames_at}
+use Rattle.bng_vlan.specs.Hearing.{trunk_heard, trunk_stretch}
+
+-- all frames that came but one that the last receive took
+abbrev pub before_last : VlanEntry → List Came → Ending → List Came
+before_last e came ending = take (length (trunk_heard e.trunk came ending) - 1) came
+
+-- Where a frame waits for the entry the trunk is left alone. Else it is read, no further than to the first frame of the entry.
+pub record ReadsUpTo (m : Trunks) (place : ℕ) (e : VlanEntry) (v : Waiting) (came : List Came) (ending : Ending) : Type 0 where
+  pub oldest : 0 < length (frames_at place v.frames) → (came ≡ []) × (ending ≡ Stopped)
+  pub until : filter (λ c. is_of m c e) (before_last e came ending) ≡ []
+  pub most : length (trunk_heard e.trunk came ending) ≤ 224
+
+-- Why a trunk gave no frame: it answered Empty, a frame of it is held, or 224 of its frames were read.
+abbrev pub IsDrained : Trunks → VlanEntry → List Came → Ending → Waiting → Type 0
+IsDrained m e came ending w = (ending ≡ Dry) ⊎ (Holds m.entries w.frames e.trunk ⊎ (length came ≡ 224))
+
+-- The reading of a trunk before a receive of an entry is answered: where no answer ended it and no frame waits for the entry, a frame
+-- of the trunk is held or 224 were read.
+pub record IsRead (m : Trunks) (place : ℕ) (e : VlanEntry) (v : Waiting) (came : List Came) (ending : Ending) (w : Waiting) : Type 0 where
+  pub of_trunk : AllByRecursion (λ c. c.trunk ≡ e.trunk) came
+  pub keeps : Keeps m v came w
+  pub up_to : ReadsUpTo m place e v came ending
+  pub drained : length (frames_at place w.frames) ≡ 0 → (ending ≡ Broken) ⊎ IsDrained m e came ending w
+  pub ended : 0 < length (frames_at place w.frames) → ending ≡ Stopped
+
+-- A receive of an entry: it fails exactly where its trunk does, and where it is Empty no frame waits and the trunk gave none.
+pub record Answers (m : Trunks) (place : ℕ) (e : VlanEntry) (answer : Received) (v : Waiting) (below : PlantStretch) (w : Waiting) : Type 0 where
+  pub came : List Came
+  pub ending : Ending
+  pub are : below ≡ trunk_stretch e.trunk came ending
+  pub up_to : ReadsUpTo m place e v came ending
+  pub failed : (answer ≡ Failed) ↔ (ending ≡ Broken)
+  pub empty : answer ≡ Empty → (length (frames_at place w.frames) ≡ 0) × IsDrained m e came ending w
