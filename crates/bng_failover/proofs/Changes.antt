@@ -19,7 +19,7 @@ use Rattle.bng_failover.specs.Places.{IsWithdrawnAt, IsHandedOver, HasRoomAt}
 use Rattle.bng_failover.proofs.Signing.{can_again}
 
 -- what stands at a place is what was written there, or what was there
-written : {A : Type 0} → (l : List A) (i j : ℕ) (x y : A) → slice_get (set l i x) j ≡ Some y → ((j ≡ i) × (y ≡ x)) ⊎ (slice_get l j ≡ Some y)
+pub written : {A : Type 0} → (l : List A) (i j : ℕ) (x y : A) → slice_get (set l i x) j ≡ Some y → ((j ≡ i) × (y ≡ x)) ⊎ (slice_get l j ≡ Some y)
 written [] i j x y e = inr e
 written (a ∷ l) zero zero x y e = inl (refl, cc)
 written (a ∷ l) zero (suc j) x y e = inr e
@@ -27,7 +27,7 @@ written (a ∷ l) (suc i) zero x y e = inr e
 written (a ∷ l) (suc i) (suc j) x y e = ⊎_elim (λ here. inl (ap suc here.0, here.1)) (λ other. inr other) (written l i j x y e)
 
 -- the same of a place that is read with a default
-written_or : {A : Type 0} → (l : List A) (i j : ℕ) (x d : A) → ((j ≡ i) × (get_or (set l i x) j d ≡ x)) ⊎ (get_or (set l i x) j d ≡ get_or l j d)
+pub written_or : {A : Type 0} → (l : List A) (i j : ℕ) (x d : A) → ((j ≡ i) × (get_or (set l i x) j d ≡ x)) ⊎ (get_or (set l i x) j d ≡ get_or l j d)
 written_or [] i j x d = inr refl
 written_or (y ∷ l) zero zero x d = inl (refl, refl)
 written_or (y ∷ l) zero (suc j) x d = inr refl
@@ -40,7 +40,7 @@ Places = List (Option Pending)
 abbrev Each : List Server → Type 0
 Each servers = (at : ℕ) (s : Server) → slice_get servers at ≡ Some s → IsSoundServer s
 
-abbrev one_at : (Option Pending → Bool) → Option Pending → ℕ
+abbrev pub one_at : (Option Pending → Bool) → Option Pending → ℕ
 one_at test place = cond (test place) 1 0
 
 module _ (old : List Server) (at : ℕ) (s : Server) (is : slice_get old at ≡ Some s) where
@@ -52,7 +52,7 @@ module _ (old : List Server) (at : ℕ) (s : Server) (is : slice_get old at ≡ 
       (sum_by-set f old at (record s { requests = table }) s (slice_get_within old at s is))
 
   -- where one of its identifiers changes
-  number_set : (test : Option Pending → Bool) (table : Table) (id : ℕ) (x : Option Pending) → id < length s.requests.places → table.places ≡ set s.requests.places id x
+  pub number_set : (test : Option Pending → Bool) (table : Table) (id : ℕ) (x : Option Pending) → id < length s.requests.places → table.places ≡ set s.requests.places id x
       → number test (with_table old at s table) + one_at test (request_of s.requests.places id) ≡ number test old + one_at test x
   number_set test table id x below e =
       let set_one = sum_by-set (one_at test) s.requests.places id x None below in
@@ -100,7 +100,7 @@ pub record IsAsMany (old new : List Server) : Type 0 where
   pub each : Each new
 
 -- where a request has an identifier, that is one of the places
-held_within : (places : Places) (id : ℕ) (r : Pending) → request_of places id ≡ Some r → id < length places
+pub held_within : (places : Places) (id : ℕ) (r : Pending) → request_of places id ≡ Some r → id < length places
 held_within [] id r e = absurd (let both : None ≡ Some r = e in cc)
 held_within (p ∷ places) zero r e = omega arith
 held_within (p ∷ places) (suc id) r e = let rest = held_within places id r e in omega (arith, rest)

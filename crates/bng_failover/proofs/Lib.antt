@@ -7,3 +7,7 @@ pub mod Sending
 pub mod Once
 pub mod Twice
 pub mod Saying
+pub mod Held
+pub mod Turns
+pub mod Sent
+pub mod Ends

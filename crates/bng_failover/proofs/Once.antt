@@ -48,10 +48,10 @@ module _ (test : Owner → Bool) where
   dues Auth old new o h kept = omega (arith, left o old.auth new.auth h)
   dues Acct old new o h kept = omega (arith, kept)
 
-  call : (lane : Lane) (old new : State) (c : Call) → Does old c new → taken_in lane test c + held_in old lane ≡ answers lane test c + gives_back lane test c + held_in new lane
+  pub call : (lane : Lane) (old new : State) (c : Call) → Does old c new → taken_in lane test c + held_in old lane ≡ answers lane test c + gives_back lane test c + held_in new lane
   call lane old new (Asked of owner request now frame result) h = omega (arith, asks lane of old new owner request now frame result h)
   call lane old new (Heard of from octets result) h = omega (arith, fewer lane of old new (some_of test (answered result)) (left (answered result) (servers_of old of) (servers_of new of) h.owners) h.others)
-  call lane old new (Due now timeouts frame result) h = omega (arith, dues lane old new (timed_out result) h.auth (h.acct test))
+  call lane old new (Due now timeouts frame result whose) h = omega (arith, dues lane old new (timed_out result) h.auth (h.acct test))
   call lane old new (Withdrawn of server id result) h = omega (arith, fewer lane of old new (some_of test result) (left result (servers_of old of) (servers_of new of) h.owners) h.others)
 
   calls_from : (lane : Lane) (s last : State) (calls : List Call) → Chain Does s calls last

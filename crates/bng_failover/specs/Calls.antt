@@ -1,5 +1,5 @@
 -- What is called, one call after another, and whose requests these calls take in, answer and give back.
-use Rattle.std.specs.Prelude.{◌≡◌, ◌+◌, ℕ, Bool, List, Option, Some, None, sum_by}
+use Rattle.std.specs.Prelude.{◌≡◌, ◌+◌, ℕ, Bool, true, false, List, Option, Some, None, IfNone, sum_by}
 use Rattle.std.specs.Option.{option_map}
 use Rattle.bng_base.specs.Packet.{Packet as Bytes}
 use Rattle.bng_base.specs.declared.address.Peer.{Peer}
@@ -8,19 +8,21 @@ use Rattle.bng_rad_client.specs.declared.rules.Lane.{Lane}
 use Rattle.bng_rad_client.specs.declared.rules.Lane.TheVariants.{Auth, Acct}
 use Rattle.bng_rad_client.specs.declared.rules.Owner.{Owner}
 use Rattle.bng_failover.specs.declared.rules.DueSend.{DueSend}
+use Rattle.bng_failover.specs.declared.rules.DueSend.TheVariants.{Send as Again, TimedOut}
 use Rattle.bng_failover.specs.declared.rules.FailAsked.{FailAsked}
 use Rattle.bng_failover.specs.declared.rules.FailAsked.TheVariants.{Send, Waiting}
 use Rattle.bng_failover.specs.Servers.{Gains, Keeps, Leaves, one_of, held, request_at}
 use Rattle.bng_failover.specs.Asking.{IsAskedAt, WhenSend, WhenWaiting}
 use Rattle.bng_failover.specs.Replies.{Hears, answered}
-use Rattle.bng_failover.specs.State.{State, servers_of, ChangesLane, IsDue, timed_out}
+use Rattle.bng_failover.specs.State.{State, servers_of, ChangesLane, SendsOf, IsDue, timed_out}
 use Rattle.bng_failover.specs.Withdrawing.{Withdraws}
 
--- a request was asked, and was taken in or is to wait; a datagram was heard; what is due was asked for; an identifier was freed
+-- a request was asked, and was taken in or is to wait; a datagram was heard; what is due was asked for, and is of this owner's
+-- request; an identifier was freed
 pub data Call : Type 0 where
   Asked : Lane → Owner → (request : List ℕ) → (now : ℕ) → Bytes → FailAsked → Call
   Heard : Lane → (from : Peer) → (octets : List ℕ) → Replied → Call
-  Due : (now : ℕ) → (timeouts : Bool) → Bytes → Option DueSend → Call
+  Due : (now : ℕ) → (timeouts : Bool) → Bytes → Option DueSend → (whose : Option Owner) → Call
   Withdrawn : Lane → (server id : ℕ) → Option Owner → Call
 
 -- what `ask` promises
@@ -36,9 +38,18 @@ pub record DoesReply (old new : State) (lane : Lane) (from : Peer) (octets : Lis
   pub owners : Leaves (answered result) (servers_of old lane) (servers_of new lane)
   pub others : ChangesLane old new lane
 
+-- what is due, and the owner of the request that it is of
+abbrev pub IsDueOf : (old new : State) → (now : ℕ) → (timeouts : Bool) → Bytes → Option DueSend → (whose : Option Owner) → Type 0
+IsDueOf old new now timeouts frame None whose = IsDue old new now timeouts frame None × (whose ≡ None)
+IsDueOf old new now timeouts frame (Some (TimedOut owner)) whose = IsDue old new now timeouts frame (Some (TimedOut owner)) × (whose ≡ Some owner)
+IsDueOf old new now timeouts frame (Some (Again lane peer)) None = ⊥
+IsDueOf old new now true frame (Some (Again lane peer)) (Some owner) = ⊥
+IsDueOf old new now false frame (Some (Again lane peer)) (Some owner) = SendsOf lane old new now owner peer frame
+
 -- what `due` promises
-pub record DoesDue (old new : State) (now : ℕ) (timeouts : Bool) (frame : Bytes) (result : Option DueSend) : Type 0 where
-  pub due : IsDue old new now timeouts frame result
+pub record DoesDue (old new : State) (now : ℕ) (timeouts : Bool) (frame : Bytes) (result : Option DueSend) (whose : Option Owner) : Type 0 where
+  pub due : IsDueOf old new now timeouts frame result whose
+  pub kept : IfNone result (new ≡ old)
   pub auth : Leaves (timed_out result) old.auth new.auth
   pub acct : Keeps old.acct new.acct
 
@@ -53,7 +64,7 @@ pub record DoesWithdraw (old new : State) (lane : Lane) (server id : ℕ) (resul
 abbrev pub Does : State → Call → State → Type 0
 Does old (Asked lane owner request now frame result) new = DoesAsk old new lane owner request now frame result
 Does old (Heard lane from octets result) new = DoesReply old new lane from octets result
-Does old (Due now timeouts frame result) new = DoesDue old new now timeouts frame result
+Does old (Due now timeouts frame result whose) new = DoesDue old new now timeouts frame result whose
 Does old (Withdrawn lane server id result) new = DoesWithdraw old new lane server id result
 
 -- one, where there is an owner that passes a test
@@ -76,21 +87,21 @@ sent_of Waiting owner = None
 abbrev pub taken_in : Lane → (Owner → Bool) → Call → ℕ
 taken_in lane test (Asked of owner request now frame result) = in_lane lane of (some_of test (sent_of result owner))
 taken_in lane test (Heard of from octets result) = 0
-taken_in lane test (Due now timeouts frame result) = 0
+taken_in lane test (Due now timeouts frame result whose) = 0
 taken_in lane test (Withdrawn of server id result) = 0
 
 -- how many of them it answered, by a reply that matched or a timeout
 abbrev pub answers : Lane → (Owner → Bool) → Call → ℕ
 answers lane test (Asked of owner request now frame result) = 0
 answers lane test (Heard of from octets result) = in_lane lane of (some_of test (answered result))
-answers lane test (Due now timeouts frame result) = in_lane lane Auth (some_of test (timed_out result))
+answers lane test (Due now timeouts frame result whose) = in_lane lane Auth (some_of test (timed_out result))
 answers lane test (Withdrawn of server id result) = 0
 
 -- how many of them it gave back
 abbrev pub gives_back : Lane → (Owner → Bool) → Call → ℕ
 gives_back lane test (Asked of owner request now frame result) = 0
 gives_back lane test (Heard of from octets result) = 0
-gives_back lane test (Due now timeouts frame result) = 0
+gives_back lane test (Due now timeouts frame result whose) = 0
 gives_back lane test (Withdrawn of server id result) = in_lane lane of (some_of test result)
 
 -- Of the requests of a lane whose owner passes a test, each that was taken in was answered once, or given back, or is in hand.
