@@ -11,3 +11,4 @@ pub mod Held
 pub mod Turns
 pub mod Sent
 pub mod Ends
+pub mod Words

@@ -8,3 +8,4 @@ pub mod Withdrawing
 pub mod Calls
 pub mod Sends
 pub mod Laws
+pub mod Words

@@ -1,5 +1,5 @@
 -- What calls send for requests, and how often to which server.
-use Rattle.std.specs.Prelude.{◌≡◌, ◌+◌, ◌≤◌, ◌<◌, ◌++◌, ℕ, Bool, List, Option, Some, None, sum_by, map, filter, filter_map, flat_map, replicate, take, slice_get}
+use Rattle.std.specs.Prelude.{◌≡◌, ◌+◌, ◌≤◌, ◌<◌, ◌++◌, ℕ, Bool, List, Option, Some, None, sum_by, map, filter, filter_map, flat_map, replicate, take, slice_get, if◌then◌else◌}
 use Rattle.std.specs.List.{last_or}
 use Rattle.bng_base.specs.Chain.{Chain}
 use Rattle.bng_base.specs.declared.address.Peer.{Peer}
@@ -42,6 +42,25 @@ sent_by lane (Withdrawn of server id result) = None
 -- the datagrams of a lane for requests whose owner passes a test, in the order in which they were sent
 abbrev pub sends_for : Lane → (Owner → Bool) → List Call → List Sending
 sends_for lane test calls = filter (λ (s : Sending). test s.owner) (filter_map (sent_by lane) calls)
+
+-- what was asked in a lane, for a call of a lane
+abbrev pub lane_only : Lane → Lane → Option (List ℕ) → Option (List ℕ)
+lane_only Auth Auth o = o
+lane_only Auth Acct o = None
+lane_only Acct Auth o = None
+lane_only Acct Acct o = o
+
+-- the octets of the request of a lane that a call took in, if it took one in whose owner passes a test
+abbrev pub asked_by : Lane → (Owner → Bool) → Call → Option (List ℕ)
+asked_by lane test (Asked of owner request now frame (Send peer)) = lane_only lane of (if test owner then Some request else None)
+asked_by lane test (Asked of owner request now frame Waiting) = None
+asked_by lane test (Heard of from octets result) = None
+asked_by lane test (Due now timeouts frame result whose) = None
+asked_by lane test (Withdrawn of server id result) = None
+
+-- what was asked in requests of a lane that calls took in, whose owner passes a test, in order
+abbrev pub asked_in : Lane → (Owner → Bool) → List Call → List (List ℕ)
+asked_in lane test calls = filter_map (asked_by lane test) calls
 
 -- the servers to which they went
 abbrev pub servers_sent : List Sending → List Peer

@@ -13,10 +13,11 @@ ghost use Rattle.bng_failover.specs.declared.server.Server.{Server};
 ghost use Rattle.bng_failover.specs.Asking.{IsAskedAt};
 ghost use Rattle.bng_failover.specs.Due.{IsSent, IsGivenUp, NoneGivenUp};
 ghost use Rattle.bng_failover.specs.Laws.{SaysAgain, IsSameOrSays};
-ghost use Rattle.bng_failover.specs.State.{State, IsOpened, IsDue};
+ghost use Rattle.bng_failover.specs.State.{State, servers_of, IsOpened, IsDue};
 ghost use Rattle.bng_failover.specs.Calls.{Call, Does, IsDueOf, EachOnce, answers, taken_in};
 ghost use Rattle.bng_failover.specs.Sends.{FollowsOne, WentInTurn, WentToEach, sends_for};
-ghost use Rattle.bng_failover.specs.Servers.{request_at};
+ghost use Rattle.bng_failover.specs.Servers.{held, request_at};
+ghost use Rattle.bng_failover.specs.Words.{AsksOnly, AllSay};
 
 /// Over any calls from the opening on, of the requests that `ask` took in each was answered once, by a reply that matched or a
 /// timeout, which named its owner, or it was withdrawn, or it is still in hand.
@@ -44,4 +45,11 @@ pub fn each_server_is_sent_its_tries()
     ensures timed_out { (rules : FailoverRules) (last : State) (calls : List Call) (test : Owner → Bool) → 0 < rules.tries → rules.tries < 256 → FollowsOne rules Auth test calls last → (left : List Server) (now : ℕ) (owner : Owner) → IsGivenUp last.auth left last.tries now owner → test owner ≡ true → WentToEach rules.auth rules.tries now (sends_for Auth test calls) }
     ensures none { (rules : FailoverRules) (last : State) (calls : List Call) (test : Owner → Bool) → 0 < rules.tries → rules.tries < 256 → FollowsOne rules Auth test calls last → (now at id : ℕ) (r : Pending) → NoneGivenUp last.auth last.tries now → id < 256 → request_at last.auth at id ≡ Some r → test r.owner ≡ true → ¬ (WentToEach rules.auth rules.tries now (sends_for Auth test calls)) }
     ensures whose { (old new : State) (now : ℕ) (timeouts : Bool) (frame : Bytes) (result : Option DueSend) → IsDue old new now timeouts frame result → (whose : Option Owner) × IsDueOf old new now timeouts frame result whose }
+{}
+
+/// All that is sent for a request says what was asked first, whatever calls come between and however often it changes its server.
+/// The requests are those whose owner passes any test, over calls that begin where none of them is in hand and that take in no
+/// other octets.
+pub fn all_sends_say_what_was_asked()
+    ensures { (lane : Lane) (test : Owner → Bool) (request : List ℕ) (start last : State) (calls : List Call) → held test (servers_of start lane) ≡ 0 → Chain Does start calls last → AsksOnly lane test request calls → AllSay request (sends_for lane test calls) }
 {}
