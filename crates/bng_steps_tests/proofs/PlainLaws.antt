@@ -1,5 +1,6 @@
 -- The entries of a plain store, and the map that they are.
 use Rattle.std.proofs.Common.{◌≡◌, ℕ, T, List, ◌∷◌, [], map, Option, Some, None, option_map, find, cond, Bool, true, false, length, ◌≤◌, ◌<◌, sum_by, refl, sym, ap, subst, IsSome, ◌∙◌, arith}
+use Rattle.std.proofs.lemmas.Bool.{false≢true}
 use Rattle.std.proofs.lemmas.List.Sums.{sum_by-cons}
 use Rattle.std.specs.Ordering.{nat_cmp, eq_by_cmp}
 use Rattle.std.specs.Cmp.{nat_cmp_total}
@@ -27,7 +28,7 @@ none_seen shard =
 pub none_of_shard : (shard : ℕ) → AreOfShard (seen shard [])
 none_of_shard shard n some =
     let none : List (ℕ × Session) = [] in
-    absurd (subst IsSome (get-from_sorted nat_cmp none n tt) some)
+    absurd (false≢true (subst IsSome (get-from_sorted nat_cmp none n tt) some))
 
 module _ (shard : ℕ) (es fs : List (ℕ × Session)) (sorted : T (is_sorted nat_cmp es)) (k : ℕ) where
   pub put_seen : (x : Session) → Inserted nat_cmp nat_cmp_total es fs k x → seen shard fs ≡ with_value (seen shard es) k x
@@ -74,4 +75,4 @@ few shard es sorted own =
 -- a lease in the place of another
 pub leased_again : (s : Service) (l k : Lease) → KeepsLease s (Some l) → KeepsLease s (Some k)
 leased_again (Provisioned over) l k h = tt
-leased_again (Discovered m) l k h = (h.0, λ some. h.1 tt)
+leased_again (Discovered m) l k h = (h.0, λ some. h.1 refl)
