@@ -8,4 +8,6 @@ mod plain;
 #[cfg(test)]
 mod plain_step;
 #[cfg(test)]
+mod seats;
+#[cfg(test)]
 mod shared;
