@@ -1,19 +1,34 @@
 -- The entries of a plain store, and the map that they are.
-use Rattle.std.proofs.Common.{◌≡◌, ℕ, T, List, ◌∷◌, [], map, Option, Some, None, option_map, find, cond, Bool, true, false, length, ◌≤◌, ◌<◌, sum_by, refl, sym, ap, ◌∙◌, arith}
+use Rattle.std.proofs.Common.{◌≡◌, ℕ, T, List, ◌∷◌, [], map, Option, Some, None, option_map, find, cond, Bool, true, false, length, ◌≤◌, ◌<◌, sum_by, refl, sym, ap, subst, IsSome, ◌∙◌, arith}
+use Rattle.std.proofs.lemmas.Bool.{false≢true}
 use Rattle.std.proofs.lemmas.List.Sums.{sum_by-cons}
 use Rattle.std.specs.Ordering.{nat_cmp, eq_by_cmp}
 use Rattle.std.specs.Cmp.{nat_cmp_total}
 use Rattle.std.specs.FinMap as fin
-use Rattle.std.specs.FinMap.{from_sorted, is_sorted, get-from_sorted, get-insert, get-remove, same_map, nat_cmp-IsAntisymmetric, entries-from_sorted}
+use Rattle.std.specs.FinMap.{empty, empty_of_len, from_sorted, is_sorted, get-from_sorted, get-insert, get-remove, same_map, nat_cmp-IsAntisymmetric, entries-from_sorted}
 use Rattle.std.specs.FinMap.{len-entries}
 use Rattle.bng_sessions.specs.Sessions.{Sessions, used, value_at, with_value, without}
 use Rattle.bng_sessions.specs.Listed.{values}
 use Rattle.bng_sessions.proofs.Entries.{Inserted, Removed}
+use Rattle.bng_steps.specs.declared.session.Lease.{Lease}
+use Rattle.bng_steps.specs.declared.session.Service.{Service}
+use Rattle.bng_steps.specs.declared.session.Service.TheVariants.{Provisioned, Discovered}
 use Rattle.bng_steps.specs.declared.session.Session.{Session}
 use Rattle.bng_steps_tests.specs.Plain.{seen}
-use Rattle.bng_steps.specs.Serving.{AreOfShard}
+use Rattle.bng_steps.specs.Serving.{AreOfShard, KeepsLease}
 use Rattle.bng_steps.proofs.Listing.{passing_most}
 use Rattle.bng_steps.proofs.Values.{used_is}
+
+-- no entry, no session
+pub none_seen : (shard : ℕ) → seen shard [] ≡ record { shard = shard; by_number = empty }
+none_seen shard =
+    let none : List (ℕ × Session) = [] in
+    ap (λ m. record { shard = shard; by_number = m }) (empty_of_len (from_sorted none) (len-entries (from_sorted none) ∙ ap (λ (ds : List (ℕ × Session)). length ds) (entries-from_sorted nat_cmp none tt)))
+
+pub none_of_shard : (shard : ℕ) → AreOfShard (seen shard [])
+none_of_shard shard n some =
+    let none : List (ℕ × Session) = [] in
+    absurd (false≢true (subst IsSome (get-from_sorted nat_cmp none n tt) some))
 
 module _ (shard : ℕ) (es fs : List (ℕ × Session)) (sorted : T (is_sorted nat_cmp es)) (k : ℕ) where
   pub put_seen : (x : Session) → Inserted nat_cmp nat_cmp_total es fs k x → seen shard fs ≡ with_value (seen shard es) k x
@@ -56,3 +71,8 @@ few shard es sorted own =
     let same = used_is (seen shard es) in
     let used = used_seen shard es sorted in
     omega (arith, most, all, same, used)
+
+-- a lease in the place of another
+pub leased_again : (s : Service) (l k : Lease) → KeepsLease s (Some l) → KeepsLease s (Some k)
+leased_again (Provisioned over) l k h = tt
+leased_again (Discovered m) l k h = (h.0, λ some. h.1 refl)

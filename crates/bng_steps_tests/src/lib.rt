@@ -2,6 +2,12 @@
 #![tactic(auto)]
 
 #[cfg(test)]
+mod asserts;
+#[cfg(test)]
 mod plain;
 #[cfg(test)]
 mod plain_step;
+#[cfg(test)]
+mod seats;
+#[cfg(test)]
+mod shared;

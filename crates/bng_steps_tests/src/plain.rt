@@ -1,6 +1,6 @@
 //! A plain store: the sessions in a list, by rising number. Several may have one address.
 ghost use Rattle.std.specs.Prelude.{◌≡◌, ◌+◌, ◌<◌, ◌≤◌, T, length, IfOk, IfErr};
-ghost use Rattle.std.specs.FinMap.{is_sorted};
+ghost use Rattle.std.specs.FinMap.{empty, is_sorted};
 ghost use Rattle.std.specs.List.{HoldsAt, AllWithin};
 ghost use Rattle.std.specs.Ordering.{nat_cmp};
 ghost use Rattle.std.specs.declared.cmp.Ordering.TheVariants.{Less, Equal, Greater};
@@ -13,6 +13,7 @@ ghost use Rattle.bng_steps_tests.specs.Plain.{IsBest};
 use bng_base::{Ip4, SessionNo};
 use bng_sessions::Slotted;
 use bng_steps::{Session, Store};
+use std::alloc::{AllocError, Global};
 use std::cmp::Ordering;
 use std::marker::Model;
 
@@ -89,6 +90,15 @@ fn better(
 }
 
 impl Plain {
+    /// No session of the shard with this number.
+    pub(crate) fn open(alloc: Global, shard: u16) -> Result<Plain, AllocError>
+        requires { shard < 64 }
+        ensures { IfOk result (λ s. s ≡ record { shard = shard; by_number = empty }) }
+    {
+        let sessions = Vec::with_capacity(alloc, 1023)?;
+        Ok(Plain { shard, sessions })
+    }
+
     // The deadline of the session with this number.
     fn deadline_at(&self, number: SessionNo) -> Option<u64>
         ensures { result ≡ read_at deadline_of self.now number.0 }
