@@ -1,0 +1,9 @@
+pub mod Fields
+pub mod Lines
+pub mod Parts
+pub mod Texts
+pub mod Kept
+pub mod Standing
+pub mod Spelling
+pub mod Many
+pub mod Pieces

@@ -1,0 +1,197 @@
+//! Numbers, flags and names as fields.
+ghost use Rattle.std.specs.Prelude.{◌≡◌, ◌≢◌, ◌<◌, ◌≤◌, ◌^◌, ◌++◌, ℕ, List, codes, IfSome, IfNone, IsTrue, true, false};
+ghost use Rattle.std.specs.Fmt.{decimal};
+ghost use Rattle.bng_spell.specs.Fields.{flag_text, kind_text, role_text, fate_text};
+ghost use Rattle.bng_spell.specs.Kept.{IsKind, IsRole};
+
+use crate::token::Token;
+use bng_base::{DropCause, Fate, ItemKind, Role};
+use itoa::Buffer;
+
+/// A number up to this one.
+#[derive(Clone, Copy)]
+pub(crate) struct Number<const MOST: u64>(pub(crate) u64);
+
+impl<const MOST: u64> Token for Number<MOST> {
+    ghost fits = { λ n. (n.0 ≤ MOST) × (n.0 < 2 ^ 64) };
+
+    ghost name = { λ n. decimal n.0 };
+
+    ghost plain = { ? };
+
+    ghost injective = { ? };
+
+    fn of(field: &[u8]) -> Option<Number<MOST>> {
+        let number = number_of(field)?;
+        if number <= MOST {
+            Some(Number(number))
+        } else {
+            None
+        }
+    }
+}
+
+// The number whose decimal digits these are.
+fn number_of(field: &[u8]) -> Option<u64>
+    ensures found { IfSome result (λ n. field.now ≡ decimal n) }
+    ensures none { IfNone result ((n : ℕ) → n < 2 ^ 64 → field.now ≢ decimal n) }
+{
+    let text = str::from_utf8(field).ok()?;
+    let number = text.parse::<u64>().ok()?;
+    let mut buffer = Buffer::new();
+    let again = buffer.format(number);
+    if again.as_bytes() == field {
+        Some(number)
+    } else {
+        None
+    }
+}
+
+impl Token for bool {
+    ghost fits = { λ _. Unit {0} };
+
+    ghost name = { flag_text };
+
+    ghost plain = { ? };
+
+    ghost injective = { ? };
+
+    fn of(field: &[u8]) -> Option<bool> {
+        if field == b"1".as_slice() {
+            Some(true)
+        } else if field == b"0".as_slice() {
+            Some(false)
+        } else {
+            None
+        }
+    }
+}
+
+// The number of an access port behind its name.
+fn port_of(field: &[u8]) -> Option<u8>
+    ensures found { IfSome result (λ n. field.now ≡ codes "access" ++ decimal n) }
+    ensures none { IfNone result ((n : ℕ) → n < 256 → field.now ≢ codes "access" ++ decimal n) }
+{
+    if !field.starts_with(b"access") {
+        return None;
+    }
+    let number = number_of(&field[6..])?;
+    u8::try_from(number).ok()
+}
+
+impl Token for ItemKind {
+    ghost fits = { IsKind };
+
+    ghost name = { kind_text };
+
+    ghost plain = { ? };
+
+    ghost injective = { ? };
+
+    fn of(field: &[u8]) -> Option<ItemKind> {
+        match port_of(field) {
+            Some(port) => Some(ItemKind::Access(port)),
+            None => kind_of(field),
+        }
+    }
+}
+
+// The kind that is no access port's.
+fn kind_of(field: &[u8]) -> Option<ItemKind> {
+    if field == b"core".as_slice() {
+        Some(ItemKind::Core)
+    } else if field == b"tunnel".as_slice() {
+        Some(ItemKind::Tunnel)
+    } else if field == b"verdict".as_slice() {
+        Some(ItemKind::Verdict)
+    } else if field == b"change".as_slice() {
+        Some(ItemKind::Change)
+    } else if field == b"tick".as_slice() {
+        Some(ItemKind::Tick)
+    } else if field == b"end".as_slice() {
+        Some(ItemKind::End)
+    } else {
+        None
+    }
+}
+
+impl Token for Role {
+    ghost fits = { IsRole };
+
+    ghost name = { role_text };
+
+    ghost plain = { ? };
+
+    ghost injective = { ? };
+
+    fn of(field: &[u8]) -> Option<Role> {
+        match port_of(field) {
+            Some(port) => Some(Role::Access(port)),
+            None => role_of(field),
+        }
+    }
+}
+
+// The role that is no access port's.
+fn role_of(field: &[u8]) -> Option<Role> {
+    if field == b"core".as_slice() {
+        Some(Role::Core)
+    } else if field == b"tunnel".as_slice() {
+        Some(Role::Tunnel)
+    } else if field == b"auth".as_slice() {
+        Some(Role::Auth)
+    } else if field == b"acct".as_slice() {
+        Some(Role::Acct)
+    } else if field == b"coa".as_slice() {
+        Some(Role::Coa)
+    } else if field == b"control".as_slice() {
+        Some(Role::Control)
+    } else {
+        None
+    }
+}
+
+impl Token for Fate {
+    ghost fits = { λ _. Unit {0} };
+
+    ghost name = { fate_text };
+
+    ghost plain = { ? };
+
+    ghost injective = { ? };
+
+    fn of(field: &[u8]) -> Option<Fate> {
+        if field == b"forwarded".as_slice() {
+            Some(Fate::Forwarded)
+        } else if field == b"consumed".as_slice() {
+            Some(Fate::Consumed)
+        } else {
+            cause_of(field).map(Fate::Dropped)
+        }
+    }
+}
+
+// The cause of this name.
+fn cause_of(field: &[u8]) -> Option<DropCause> {
+    if field == b"malformed".as_slice() {
+        Some(DropCause::Malformed)
+    } else if field == b"nosession".as_slice() {
+        Some(DropCause::NoSession)
+    } else if field == b"notopen".as_slice() {
+        Some(DropCause::NotOpen)
+    } else if field == b"expired".as_slice() {
+        Some(DropCause::Expired)
+    } else if field == b"spoofed".as_slice() {
+        Some(DropCause::Spoofed)
+    } else if field == b"toobig".as_slice() {
+        Some(DropCause::TooBig)
+    } else if field == b"exceeded".as_slice() {
+        Some(DropCause::Exceeded)
+    } else if field == b"linkfailed".as_slice() {
+        Some(DropCause::LinkFailed)
+    } else if field == b"wantofmemory".as_slice() {
+        Some(DropCause::WantOfMemory)
+    } else {
+        None
+    }
+}
