@@ -1,1 +1,3 @@
 pub mod Spellings
+pub mod LineCodes
+pub mod OneForm

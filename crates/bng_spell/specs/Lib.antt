@@ -4,6 +4,9 @@ pub mod Parts
 pub mod Texts
 pub mod Kept
 pub mod Standing
-pub mod Spelling
 pub mod Many
 pub mod Pieces
+pub mod Codes
+pub mod Names
+pub mod Addresses
+pub mod Spelling

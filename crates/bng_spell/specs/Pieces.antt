@@ -1,14 +1,23 @@
--- Fields of an item as they are read.
-use Rattle.std.specs.Prelude.{ℕ, List, ◌++◌, codes}
-use Rattle.std.specs.Fmt.{decimal}
-use Rattle.hex.specs.Hex.{encode_lower}
-use Rattle.bng_base.specs.declared.item.Item.{Item}
-use Rattle.bng_spell.specs.Fields.{kind_text, peer_text, flag_text, octets_text}
+-- Kinds and roles that are no access port.
+use Rattle.bng_base.specs.declared.outside.Role.{Role}
+use Rattle.bng_base.specs.declared.outside.Role.TheVariants.{Access, Core, Tunnel, Auth, Acct, Coa, Control}
+use Rattle.bng_base.specs.declared.item.ItemKind.{ItemKind}
+use Rattle.bng_base.specs.declared.item.ItemKind.TheVariants.{Access as OfAccess, Core as OfCore, Tunnel as OfTunnel, Verdict, Change, Tick, End}
 
--- the fields of an item, parted by spaces
-abbrev pub item_text : Item → List ℕ
-item_text i =
-    (kind_text i.kind ++ codes " ")
-    ++ ((peer_text i.from ++ codes " ")
-        ++ ((flag_text i.cut ++ codes " ")
-            ++ ((decimal i.target ++ codes " ") ++ ((decimal i.ask ++ codes " ") ++ ((encode_lower i.random ++ codes " ") ++ octets_text i.frame.payload)))))
+abbrev pub IsNoPort : ItemKind → Type 0
+IsNoPort (OfAccess n) = ⊥
+IsNoPort OfCore = Unit {0}
+IsNoPort OfTunnel = Unit {0}
+IsNoPort Verdict = Unit {0}
+IsNoPort Change = Unit {0}
+IsNoPort Tick = Unit {0}
+IsNoPort End = Unit {0}
+
+abbrev pub IsNoPortRole : Role → Type 0
+IsNoPortRole (Access n) = ⊥
+IsNoPortRole Core = Unit {0}
+IsNoPortRole Tunnel = Unit {0}
+IsNoPortRole Auth = Unit {0}
+IsNoPortRole Acct = Unit {0}
+IsNoPortRole Coa = Unit {0}
+IsNoPortRole Control = Unit {0}

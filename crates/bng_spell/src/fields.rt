@@ -1,13 +1,14 @@
 //! Addresses, peers, claims and items in a text.
 ghost use Rattle.std.specs.Prelude.{◌≡◌, ◌≢◌, ◌<◌, ◌≤◌, ◌/◌, ◌%◌, ◌^◌, ◌++◌, ◌∷◌, [], ℕ, List, codes, IsTrue, IfSome, IfNone};
-ghost use Rattle.bng_spell.specs.Fields.{address_text, peer_text, claim_text, item_fields};
-ghost use Rattle.bng_spell.specs.Kept.{IsAddress, IsPeer, IsClaim, IsItem};
+ghost use Rattle.bng_spell.specs.Fields.{address_text, peer_text, claim_text};
+ghost use Rattle.bng_spell.specs.Kept.{IsAddress, IsPeer, IsClaim};
 ghost use Rattle.bng_spell.specs.Standing.{Stands, Lacks, is_separator};
+ghost use Rattle.bng_spell.specs.Addresses.{address_once, peer_once, claim_once};
 
 use crate::numbers::Number;
 use crate::octets::Fixed;
 use crate::piece::{Piece, Until, literal};
-use bng_base::{Claim, Frame, Ip4, Item, ItemKind, Peer};
+use bng_base::{Claim, Ip4, ItemKind, Peer};
 
 /// A number up to this one, and a space.
 pub(crate) type Spaced<const MOST: u64> = Until<Number<MOST>, 32>;
@@ -33,7 +34,7 @@ impl<const STOP: u8> Piece for Address<STOP> {
 
     ghost text = { λ a. address_text a.0 ++ STOP ∷ [] };
 
-    ghost splits = { ? };
+    ghost splits = { λ v w x y f g e. let r = address_once STOP v.0 w.0 x y f.1 f.0 g.0 e in (λ i. record { 0 = r.0 i }, r.1) };
 
     fn read(whole: &[u8], at: usize) -> Option<(Address<STOP>, usize)> {
         let (fields, next) = AddressFields::<STOP>::read(whole, at)?;
@@ -63,7 +64,7 @@ impl Piece for Peer {
 
     ghost text = { λ p. peer_text p ++ 32 ∷ [] };
 
-    ghost splits = { ? };
+    ghost splits = { peer_once };
 
     fn read(whole: &[u8], at: usize) -> Option<(Peer, usize)> {
         let ((ip, port), next) = <(Address<58>, Short)>::read(whole, at)?;
@@ -80,7 +81,7 @@ impl Piece for Claim {
 
     ghost text = { λ c. claim_text c ++ 10 ∷ [] };
 
-    ghost splits = { ? };
+    ghost splits = { claim_once };
 
     fn read(whole: &[u8], at: usize) -> Option<(Claim, usize)> {
         if let Some(next) = literal(whole, at, b"-\n") {
@@ -100,44 +101,14 @@ impl Piece for Claim {
     }
 }
 
-// The fields of an item, with the separator behind its octets.
-type ItemFields<const STOP: u8> = (
+/// The fields of an item, with the separator behind its octets.
+pub(crate) type ItemFields<B> = (
     Until<ItemKind, 32>,
     (
         Peer,
         (
             Until<bool, 32>,
-            (Short, (Long, (Until<Fixed<16>, 32>, Until<Frame, STOP>))),
+            (Short, (Long, (Until<Fixed<16>, 32>, B))),
         ),
     ),
 );
-
-/// An item, and the separator behind its octets.
-#[derive(Drop)]
-pub(crate) struct ItemUntil<const STOP: u8>(pub(crate) Item);
-
-impl<const STOP: u8> Piece for ItemUntil<STOP> {
-    ghost use Rattle.bng_spell.specs.Pieces.{item_text};
-
-    ghost fits = { λ i. IsItem i.0 × IsTrue (is_separator STOP) };
-
-    ghost text = { λ i. item_text i.0 ++ STOP ∷ [] };
-
-    ghost splits = { ? };
-
-    fn read(whole: &[u8], at: usize) -> Option<(ItemUntil<STOP>, usize)> {
-        let (fields, next) = ItemFields::<STOP>::read(whole, at)?;
-        let (kind, (from, (cut, (target, (ask, (random, frame)))))) = fields;
-        let random = random.0.0;
-        let item = Item {
-            kind: kind.0,
-            from,
-            frame: frame.0,
-            cut: cut.0,
-            random,
-            target: target.0.0 as u16,
-            ask: ask.0.0,
-        };
-        Some((ItemUntil(item), next))
-    }
-}

@@ -7,6 +7,7 @@
 
 mod block;
 mod fields;
+mod laws;
 mod lines;
 mod many;
 mod names;
@@ -19,6 +20,7 @@ mod round;
 mod spell;
 mod token;
 
+pub use crate::laws::{charges_are_not_spelled, one_form};
 pub use crate::opening::{ReadOpening, SpellError, read_opening};
 pub use crate::round::read_round;
 pub use crate::spell::{spell_opening, spell_round};

@@ -6,11 +6,26 @@ ghost use Rattle.bng_spell.specs.Kept.{IsEntry, IsLoose, IsItem, IsOut};
 ghost use Rattle.bng_spell.specs.Lines.{entry_line, loose_line, refused_line, out_line};
 ghost use Rattle.bng_spell.specs.Many.{AreLines};
 
-use crate::fields::{ItemUntil, Long, Short};
+use crate::fields::{ItemFields, Long, Short};
 use crate::numbers::Number;
 use crate::piece::{Piece, Until, literal};
-use bng_base::{Claim, Entry, Fate, Item, Loose, Octets, OutRecord, Peer, Role};
+use bng_base::{Claim, Entry, Fate, Frame, Item, Loose, Octets, OutRecord, Peer, Role};
 use std::alloc::{AllocError, Global};
+
+// The fields of an out.
+type OutFields = (
+    Short,
+    (
+        Short,
+        (
+            Short,
+            (
+                Until<Role, 32>,
+                (Peer, (Until<bool, 32>, Until<Octets, 10>)),
+            ),
+        ),
+    ),
+);
 
 /// What a line stands in: the shard of its journal, and the moment of its round in milliseconds.
 #[derive(Clone, Copy)]
@@ -21,6 +36,8 @@ pub(crate) struct Within {
 
 /// A line that is repeated.
 pub(crate) trait Line: Drop {
+    ghost use Rattle.bng_spell.specs.declared.many.Within.{Within};
+
     ghost fits: { Within → Self → Type 0 };
 
     ghost text: { Within → Self → List ℕ };
@@ -62,16 +79,26 @@ impl Line for Entry {
 
     fn read_line(within: Within, whole: &[u8], at: usize) -> Option<(Entry, usize)> {
         let at = literal(whole, at, b"entry ")?;
-        let ((shard, (seat, (place, (item, claim)))), next) =
-            <(Long, (Short, (Short, (ItemUntil<32>, Claim))))>::read(whole, at)?;
+        let (fields, next) = <(Long, (Short, (Short, ItemFields<(Until<Frame, 32>, Claim)>)))>::read(whole, at)?;
+        let (shard, (seat, (place, fields))) = fields;
+        let (kind, (from, (cut, (target, (ask, (random, (frame, claim))))))) = fields;
         if shard.0.0 != within.shard {
             return None;
         }
+        let random = random.0.0;
         let entry = Entry {
             seat: seat.0.0 as u16,
             place: place.0.0 as u16,
             moment: within.moment,
-            item: item.0,
+            item: Item {
+                kind: kind.0,
+                from,
+                frame: frame.0,
+                cut: cut.0,
+                random,
+                target: target.0.0 as u16,
+                ask: ask.0.0,
+            },
             claim,
         };
         Some((entry, next))
@@ -87,12 +114,22 @@ impl Line for Loose {
 
     fn read_line(_: Within, whole: &[u8], at: usize) -> Option<(Loose, usize)> {
         let at = literal(whole, at, b"loose ")?;
-        let ((seat, (place, (item, fate))), next) =
-            <(Short, (Short, (ItemUntil<32>, Until<Fate, 10>)))>::read(whole, at)?;
+        let (fields, next) = <(Short, (Short, ItemFields<(Until<Frame, 32>, Until<Fate, 10>)>))>::read(whole, at)?;
+        let (seat, (place, fields)) = fields;
+        let (kind, (from, (cut, (target, (ask, (random, (frame, fate))))))) = fields;
+        let random = random.0.0;
         let loose = Loose {
             seat: seat.0.0 as u16,
             place: place.0.0 as u16,
-            item: item.0,
+            item: Item {
+                kind: kind.0,
+                from,
+                frame: frame.0,
+                cut: cut.0,
+                random,
+                target: target.0.0 as u16,
+                ask: ask.0.0,
+            },
             fate: fate.0,
         };
         Some((loose, next))
@@ -108,8 +145,19 @@ impl Line for Item {
 
     fn read_line(_: Within, whole: &[u8], at: usize) -> Option<(Item, usize)> {
         let at = literal(whole, at, b"refused ")?;
-        let (item, next) = ItemUntil::<10>::read(whole, at)?;
-        Some((item.0, next))
+        let (fields, next) = ItemFields::<Until<Frame, 10>>::read(whole, at)?;
+        let (kind, (from, (cut, (target, (ask, (random, frame)))))) = fields;
+        let random = random.0.0;
+        let item = Item {
+            kind: kind.0,
+            from,
+            frame: frame.0,
+            cut: cut.0,
+            random,
+            target: target.0.0 as u16,
+            ask: ask.0.0,
+        };
+        Some((item, next))
     }
 }
 
@@ -122,19 +170,8 @@ impl Line for OutRecord {
 
     fn read_line(_: Within, whole: &[u8], at: usize) -> Option<(OutRecord, usize)> {
         let at = literal(whole, at, b"out ")?;
-        let ((shard, (seat, (place, (role, (to, (sent, frame)))))), next) = <(
-            Short,
-            (
-                Short,
-                (
-                    Short,
-                    (
-                        Until<Role, 32>,
-                        (Peer, (Until<bool, 32>, Until<Octets, 10>)),
-                    ),
-                ),
-            ),
-        )>::read(whole, at)?;
+        let (fields, next) = OutFields::read(whole, at)?;
+        let (shard, (seat, (place, (role, (to, (sent, frame)))))) = fields;
         let out = OutRecord {
             shard: shard.0.0 as u16,
             seat: seat.0.0 as u16,

@@ -1,8 +1,14 @@
 //! Numbers, flags and names as fields.
 ghost use Rattle.std.specs.Prelude.{◌≡◌, ◌≢◌, ◌<◌, ◌≤◌, ◌^◌, ◌++◌, ℕ, List, codes, IfSome, IfNone, IsTrue, true, false};
 ghost use Rattle.std.specs.Fmt.{decimal};
-ghost use Rattle.bng_spell.specs.Fields.{flag_text, kind_text, role_text, fate_text};
+ghost use Rattle.bng_spell.specs.Fields.{flag_text, kind_text, role_text, cause_text, fate_text};
+ghost use Rattle.bng_base.specs.declared.item.ItemKind.{ItemKind as Kind};
+ghost use Rattle.bng_base.specs.declared.outside.Role.{Role as Socket};
+ghost use Rattle.bng_base.specs.declared.fate.DropCause.{DropCause as Cause};
+ghost use Rattle.bng_spell.specs.Pieces.{IsNoPort, IsNoPortRole};
 ghost use Rattle.bng_spell.specs.Kept.{IsKind, IsRole};
+ghost use Rattle.std.proofs.lemmas.Fmt.{decimal_injective};
+ghost use Rattle.bng_spell.specs.Names.{decimal_plain, flag_plain, flag_same, kind_plain, kind_same, role_plain, role_same, fate_plain, fate_same};
 
 use crate::token::Token;
 use bng_base::{DropCause, Fate, ItemKind, Role};
@@ -17,9 +23,9 @@ impl<const MOST: u64> Token for Number<MOST> {
 
     ghost name = { λ n. decimal n.0 };
 
-    ghost plain = { ? };
+    ghost plain = { λ n f. decimal_plain n.0 f.1 };
 
-    ghost injective = { ? };
+    ghost injective = { λ m n f g e. let same = decimal_injective m.0 n.0 f.1 g.1 e in λ i. record { 0 = same i } };
 
     fn of(field: &[u8]) -> Option<Number<MOST>> {
         let number = number_of(field)?;
@@ -52,9 +58,9 @@ impl Token for bool {
 
     ghost name = { flag_text };
 
-    ghost plain = { ? };
+    ghost plain = { λ b _. flag_plain b };
 
-    ghost injective = { ? };
+    ghost injective = { λ b c _ _. flag_same b c };
 
     fn of(field: &[u8]) -> Option<bool> {
         if field == b"1".as_slice() {
@@ -84,9 +90,9 @@ impl Token for ItemKind {
 
     ghost name = { kind_text };
 
-    ghost plain = { ? };
+    ghost plain = { kind_plain };
 
-    ghost injective = { ? };
+    ghost injective = { kind_same };
 
     fn of(field: &[u8]) -> Option<ItemKind> {
         match port_of(field) {
@@ -97,7 +103,10 @@ impl Token for ItemKind {
 }
 
 // The kind that is no access port's.
-fn kind_of(field: &[u8]) -> Option<ItemKind> {
+fn kind_of(field: &[u8]) -> Option<ItemKind>
+    ensures found { IfSome result (λ k. IsKind k × (field.now ≡ kind_text k)) }
+    ensures none { IfNone result ((k : Kind) → IsNoPort k → field.now ≢ kind_text k) }
+{
     if field == b"core".as_slice() {
         Some(ItemKind::Core)
     } else if field == b"tunnel".as_slice() {
@@ -120,9 +129,9 @@ impl Token for Role {
 
     ghost name = { role_text };
 
-    ghost plain = { ? };
+    ghost plain = { role_plain };
 
-    ghost injective = { ? };
+    ghost injective = { role_same };
 
     fn of(field: &[u8]) -> Option<Role> {
         match port_of(field) {
@@ -133,7 +142,10 @@ impl Token for Role {
 }
 
 // The role that is no access port's.
-fn role_of(field: &[u8]) -> Option<Role> {
+fn role_of(field: &[u8]) -> Option<Role>
+    ensures found { IfSome result (λ r. IsRole r × (field.now ≡ role_text r)) }
+    ensures none { IfNone result ((r : Socket) → IsNoPortRole r → field.now ≢ role_text r) }
+{
     if field == b"core".as_slice() {
         Some(Role::Core)
     } else if field == b"tunnel".as_slice() {
@@ -156,9 +168,9 @@ impl Token for Fate {
 
     ghost name = { fate_text };
 
-    ghost plain = { ? };
+    ghost plain = { λ f _. fate_plain f };
 
-    ghost injective = { ? };
+    ghost injective = { λ f g _ _. fate_same f g };
 
     fn of(field: &[u8]) -> Option<Fate> {
         if field == b"forwarded".as_slice() {
@@ -166,13 +178,17 @@ impl Token for Fate {
         } else if field == b"consumed".as_slice() {
             Some(Fate::Consumed)
         } else {
-            cause_of(field).map(Fate::Dropped)
+            let cause = cause_of(field)?;
+            Some(Fate::Dropped(cause))
         }
     }
 }
 
 // The cause of this name.
-fn cause_of(field: &[u8]) -> Option<DropCause> {
+fn cause_of(field: &[u8]) -> Option<DropCause>
+    ensures found { IfSome result (λ c. field.now ≡ cause_text c) }
+    ensures none { IfNone result ((c : Cause) → field.now ≢ cause_text c) }
+{
     if field == b"malformed".as_slice() {
         Some(DropCause::Malformed)
     } else if field == b"nosession".as_slice() {

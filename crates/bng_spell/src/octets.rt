@@ -3,6 +3,7 @@ ghost use Rattle.std.specs.Prelude.{◌≡◌, ◌≢◌, ◌<◌, ◌≤◌, �
 ghost use Rattle.hex.specs.Hex.{encode_lower};
 ghost use Rattle.bng_spell.specs.Fields.{octets_text};
 ghost use Rattle.bng_spell.specs.Kept.{AreOctets, IsSet};
+ghost use Rattle.bng_spell.specs.Names.{encoded_plain, encoded_same, octets_plain, octets_same, frame_same};
 
 use crate::token::Token;
 use bng_base::{Frame, HEADROOM, LONGEST, Octets, ROOM};
@@ -48,9 +49,9 @@ impl<const N: usize> Token for Fixed<N> {
 
     ghost name = { λ f. encode_lower f.0 };
 
-    ghost plain = { ? };
+    ghost plain = { λ v f. encoded_plain v.0 f.0 };
 
-    ghost injective = { ? };
+    ghost injective = { λ v w f g e. let same = encoded_same v.0 w.0 f.0 g.0 e in λ i. record { 0 = same i } };
 
     fn of(field: &[u8]) -> Option<Fixed<N>> {
         let mut octets = [0; N];
@@ -67,9 +68,9 @@ impl Token for Frame {
 
     ghost name = { λ f. octets_text f.payload };
 
-    ghost plain = { ? };
+    ghost plain = { λ v f. octets_plain v.payload f.octets };
 
-    ghost injective = { ? };
+    ghost injective = { frame_same };
 
     fn of(field: &[u8]) -> Option<Frame> {
         let mut frame = Frame::new();
@@ -91,9 +92,9 @@ impl Token for Octets {
 
     ghost name = { octets_text };
 
-    ghost plain = { ? };
+    ghost plain = { λ v f. octets_plain v f.0 };
 
-    ghost injective = { ? };
+    ghost injective = { λ v w f g. octets_same v w f.0 g.0 };
 
     fn of(field: &[u8]) -> Option<Octets> {
         let mut frame = Frame::new();

@@ -1,10 +1,13 @@
 //! How an opening is read.
-ghost use Rattle.std.specs.Prelude.{◌≡◌, ◌≢◌, ◌≤◌, ◌++◌, ℕ, List, IfOk, length, drop, MatchOption};
+ghost use Rattle.std.specs.Prelude.{◌≤◌, ◌++◌, IfOk, IfSome, IfNone, codes, length};
 ghost use Rattle.bng_spell.specs.Standing.{Stands, Lacks};
+ghost use Rattle.bng_spell.specs.Many.{octets_line_text};
+ghost use Rattle.bng_spell.specs.Kept.{AreOctets, IsKeptOpening};
+ghost use Rattle.bng_spell.specs.Texts.{opening_text, read_view};
 
 use crate::fields::Long;
 use crate::octets::{Fixed, are_digits};
-use crate::piece::{Piece, Until, literal};
+use crate::piece::{Piece, Until, literal, place_of};
 use hex::FromHexError;
 use std::alloc::{AllocError, Global};
 
@@ -37,9 +40,11 @@ fn octets_line(
     at: usize,
 ) -> Result<Option<(Vec<u8>, usize)>, AllocError>
     requires { at ≤ length whole.now }
+    ensures found { IfOk result (λ r. IfSome r (λ p. AreOctets p.0.items × Stands whole.now at (octets_line_text p.0.items) p.1)) }
+    ensures none { IfOk result (λ r. IfNone r (Lacks AreOctets octets_line_text whole.now at)) }
 {
     let rest = &whole[at..];
-    let Some(length) = rest.iter().position(|c| *c == 10) else {
+    let Some(length) = place_of(rest, 10) else {
         return Ok(None);
     };
     let field = &rest[..length];
@@ -64,7 +69,10 @@ fn octets_line(
 pub fn read_opening(
     alloc: Global,
     text: &[u8],
-) -> Result<Option<(ReadOpening, usize)>, SpellError> {
+) -> Result<Option<(ReadOpening, usize)>, SpellError>
+    ensures found { IfOk result (λ r. IfSome r (λ p. IsKeptOpening (read_view p.0) × Stands text.now 0 (opening_text (read_view p.0)) p.1)) }
+    ensures none { IfOk result (λ r. IfNone r (Lacks IsKeptOpening opening_text text.now 0)) }
+{
     let Some(at) = literal(text, 0, b"bng-trace 1\nopened ") else {
         return Ok(None);
     };

@@ -221,8 +221,8 @@ fn put_numbers<O: Sink>(
 
 // Writes a field.
 fn put_part<O: Sink>(out: &mut O, block: &mut Block, part: Part) -> Result<(), Unwritten>
-    ensures ok { OnOk result (Adds (O.told out.old) (O.told out.new) block.old block.new (part_text part)) }
-    ensures err { OnErr result (Fails (O.told out.old) (O.told out.new) block.old (part_text part)) }
+    ensures ok { OnOk result (Adds (O.told out.old) (O.told out.new) block.old block.new (part_text part.entry)) }
+    ensures err { OnErr result (Fails (O.told out.old) (O.told out.new) block.old (part_text part.entry)) }
 {
     match part {
         Part::Word(text) => put(out, block, text.as_bytes()),
@@ -242,8 +242,8 @@ fn put_part<O: Sink>(out: &mut O, block: &mut Block, part: Part) -> Result<(), U
 
 // Writes a field and a space.
 fn put_parted<O: Sink>(out: &mut O, block: &mut Block, part: Part) -> Result<(), Unwritten>
-    ensures ok { OnOk result (Adds (O.told out.old) (O.told out.new) block.old block.new (parted_text part)) }
-    ensures err { OnErr result (Fails (O.told out.old) (O.told out.new) block.old (parted_text part)) }
+    ensures ok { OnOk result (Adds (O.told out.old) (O.told out.new) block.old block.new (parted_text part.entry)) }
+    ensures err { OnErr result (Fails (O.told out.old) (O.told out.new) block.old (parted_text part.entry)) }
 {
     put_part(out, block, part)?;
     put(out, block, b" ")
@@ -267,8 +267,8 @@ pub(crate) fn put_line<O: Sink>(
     parts: &[Part],
     last: Part,
 ) -> Result<(), Unwritten>
-    ensures ok { OnOk result (Adds (O.told out.old) (O.told out.new) block.old block.new (flat_map parted_text parts.now ++ (part_text last ++ codes "\n"))) }
-    ensures err { OnErr result (Fails (O.told out.old) (O.told out.new) block.old (flat_map parted_text parts.now ++ (part_text last ++ codes "\n"))) }
+    ensures ok { OnOk result (Adds (O.told out.old) (O.told out.new) block.old block.new (flat_map parted_text parts.now ++ (part_text last.entry ++ codes "\n"))) }
+    ensures err { OnErr result (Fails (O.told out.old) (O.told out.new) block.old (flat_map parted_text parts.now ++ (part_text last.entry ++ codes "\n"))) }
 {
     put_parts(out, block, parts)?;
     put_part(out, block, last)?;

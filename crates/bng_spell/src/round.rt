@@ -1,7 +1,10 @@
 //! How a round is read.
-ghost use Rattle.std.specs.Prelude.{◌≡◌, ◌≢◌, ◌≤◌, ◌↔◌, ◌++◌, ℕ, List, IfOk, length, drop, MatchOption, IsTrue};
+ghost use Rattle.std.specs.Prelude.{◌≡◌, ◌<◌, ◌≤◌, ◌^◌, ◌↔◌, ◌++◌, ℕ, List, IfOk, IfSome, IfNone, length, IsTrue};
+ghost use Rattle.std.specs.List.{AllByRecursion};
 ghost use Rattle.bng_spell.specs.Standing.{Stands, Lacks};
-ghost use Rattle.bng_spell.specs.Kept.{AreInOrder};
+ghost use Rattle.bng_spell.specs.Kept.{AreInOrder, IsKept, NotAfter};
+ghost use Rattle.bng_spell.specs.Texts.{round_text};
+ghost use Rattle.bng_spell.specs.Many.{numbers_line_text, AreJournals};
 
 use crate::fields::Long;
 use crate::many::{Within, many};
@@ -28,7 +31,9 @@ fn are_in_order(loose: &[Loose]) -> bool
 }
 
 // Whether an item stands before another or at its place.
-fn is_not_after(first: &Loose, second: &Loose) -> bool {
+fn is_not_after(first: &Loose, second: &Loose) -> bool
+    ensures { IsTrue result ↔ NotAfter first.now second.now }
+{
     first.seat < second.seat || (first.seat == second.seat && first.place <= second.place)
 }
 
@@ -40,6 +45,8 @@ fn numbers_line(
     at: usize,
 ) -> Result<Option<(Vec<u32>, usize)>, AllocError>
     requires { at ≤ length whole.now }
+    ensures found { IfOk result (λ r. IfSome r (λ p. AllByRecursion (λ (n : ℕ). n < 2 ^ 32) p.0.items × Stands whole.now at (numbers_line_text p.0.items) p.1)) }
+    ensures none { IfOk result (λ r. IfNone r (Lacks (λ (ns : List ℕ). AllByRecursion (λ (n : ℕ). n < 2 ^ 32) ns) numbers_line_text whole.now at)) }
 {
     if let Some(next) = literal(whole, at, b"-\n") {
         return Ok(Some((Vec::new(alloc), next)));
@@ -61,6 +68,7 @@ fn journals(
     at: usize,
 ) -> Result<(Vec<Listed<Entry>>, usize), AllocError>
     requires { at ≤ length whole.now }
+    ensures { IfOk result (λ p. AreJournals moment shards whole.now at p.0.items p.1) }
 {
     let mut journals = Vec::new(alloc);
     let mut next = at;
@@ -84,6 +92,8 @@ pub fn read_round(
     at: usize,
 ) -> Result<Option<(RoundRecord, usize)>, SpellError>
     requires { at ≤ length text.now }
+    ensures found { IfOk result (λ r. IfSome r (λ p. IsKept p.0 × Stands text.now at (round_text p.0) p.1)) }
+    ensures none { IfOk result (λ r. IfNone r (Lacks IsKept round_text text.now at)) }
 {
     let Some(at) = literal(text, at, b"round ") else {
         return Ok(None);

@@ -11,7 +11,7 @@ use bng_plant::{Sink, Wrote};
 
 /// Writes the two lines of an opening. It takes no memory. Where the sink fails, a front of the text was written.
 pub fn spell_opening<O: Sink>(opening: &Opening, out: &mut O) -> Wrote
-    ensures { Spells (O.told out.old) (O.told out.new) (opening_text (opening_view opening.now)) result }
+    ensures { Spells (O.told out.old) (O.told out.new) (opening_text (opening_view opening.entry.now)) result }
 {
     let mut block = Block::new();
     match put_opening(out, &mut block, opening) {
@@ -38,8 +38,8 @@ fn put_opening<O: Sink>(
     block: &mut Block,
     opening: &Opening,
 ) -> Result<(), Unwritten>
-    ensures ok { OnOk result (Adds (O.told out.old) (O.told out.new) block.old block.new (opening_text (opening_view opening.now))) }
-    ensures err { OnErr result (Fails (O.told out.old) (O.told out.new) block.old (opening_text (opening_view opening.now))) }
+    ensures ok { OnOk result (Adds (O.told out.old) (O.told out.new) block.old block.new (opening_text (opening_view opening.entry.now))) }
+    ensures err { OnErr result (Fails (O.told out.old) (O.told out.new) block.old (opening_text (opening_view opening.entry.now))) }
     ensures empty { OnOk result (block.new ≡ []) }
 {
     put(out, block, b"bng-trace 1\n")?;
