@@ -1,3 +1,5 @@
 pub mod Spellings
+pub mod Decimals
 pub mod LineCodes
 pub mod OneForm
+pub mod Reading

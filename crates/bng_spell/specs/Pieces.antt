@@ -1,4 +1,5 @@
--- Kinds and roles that are no access port.
+-- Digits of numbers, and kinds and roles that are no access port.
+use Rattle.std.specs.Prelude.{◌≡◌, ◌≢◌, ℕ, List, length, slice_index}
 use Rattle.bng_base.specs.declared.outside.Role.{Role}
 use Rattle.bng_base.specs.declared.outside.Role.TheVariants.{Access, Core, Tunnel, Auth, Acct, Coa, Control}
 use Rattle.bng_base.specs.declared.item.ItemKind.{ItemKind}
@@ -21,3 +22,8 @@ IsNoPortRole Auth = Unit {0}
 IsNoPortRole Acct = Unit {0}
 IsNoPortRole Coa = Unit {0}
 IsNoPortRole Control = Unit {0}
+
+-- no plus sign, and no leading zero
+pub record IsUnsigned (text : List ℕ) : Type 0 where
+  pub sign : slice_index text 0 ≢ 43
+  pub lead : slice_index text 0 ≡ 48 → length text ≡ 1

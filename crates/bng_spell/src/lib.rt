@@ -25,8 +25,3 @@ pub use crate::opening::{ReadOpening, SpellError, read_opening};
 pub use crate::round::read_round;
 pub use crate::spell::{spell_opening, spell_round};
 
-#[cfg(test)]
-mod tests {
-    #[test]
-    fn nothing() {}
-}

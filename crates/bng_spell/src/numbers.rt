@@ -1,18 +1,17 @@
 //! Numbers, flags and names as fields.
-ghost use Rattle.std.specs.Prelude.{◌≡◌, ◌≢◌, ◌<◌, ◌≤◌, ◌^◌, ◌++◌, ℕ, List, codes, IfSome, IfNone, IsTrue, true, false};
+ghost use Rattle.std.specs.Prelude.{◌≡◌, ◌≢◌, ◌<◌, ◌≤◌, ◌^◌, ◌++◌, ◌↔◌, ℕ, List, codes, IfSome, IfNone, IsTrue, true, false};
 ghost use Rattle.std.specs.Fmt.{decimal};
 ghost use Rattle.bng_spell.specs.Fields.{flag_text, kind_text, role_text, cause_text, fate_text};
 ghost use Rattle.bng_base.specs.declared.item.ItemKind.{ItemKind as Kind};
 ghost use Rattle.bng_base.specs.declared.outside.Role.{Role as Socket};
 ghost use Rattle.bng_base.specs.declared.fate.DropCause.{DropCause as Cause};
-ghost use Rattle.bng_spell.specs.Pieces.{IsNoPort, IsNoPortRole};
+ghost use Rattle.bng_spell.specs.Pieces.{IsNoPort, IsNoPortRole, IsUnsigned};
 ghost use Rattle.bng_spell.specs.Kept.{IsKind, IsRole};
 ghost use Rattle.std.proofs.lemmas.Fmt.{decimal_injective};
 ghost use Rattle.bng_spell.specs.Names.{decimal_plain, flag_plain, flag_same, kind_plain, kind_same, role_plain, role_same, fate_plain, fate_same};
 
 use crate::token::Token;
 use bng_base::{DropCause, Fate, ItemKind, Role};
-use itoa::Buffer;
 
 /// A number up to this one.
 #[derive(Clone, Copy)]
@@ -42,15 +41,33 @@ fn number_of(field: &[u8]) -> Option<u64>
     ensures found { IfSome result (λ n. field.now ≡ decimal n) }
     ensures none { IfNone result ((n : ℕ) → n < 2 ^ 64 → field.now ≢ decimal n) }
 {
-    let text = str::from_utf8(field).ok()?;
-    let number = text.parse::<u64>().ok()?;
-    let mut buffer = Buffer::new();
-    let again = buffer.format(number);
-    if again.as_bytes() == field {
-        Some(number)
+    match str::from_utf8(field) {
+        Ok(text) => number_in(text),
+        Err(_) => None,
+    }
+}
+
+// The number whose decimal digits the text is.
+fn number_in(text: &str) -> Option<u64>
+    ensures found { IfSome result (λ n. text.now ≡ decimal n) }
+    ensures none { IfNone result ((n : ℕ) → n < 2 ^ 64 → text.now ≢ decimal n) }
+{
+    if is_unsigned(text) {
+        text.parse::<u64>().ok()
     } else {
         None
     }
+}
+
+// The text has no sign and no leading zero.
+fn is_unsigned(text: &str) -> bool
+    ensures { IsTrue result ↔ IsUnsigned text.now }
+{
+    let bytes = text.as_bytes();
+    if bytes.is_empty() {
+        return true;
+    }
+    bytes[0] != b'+' && (bytes[0] != b'0' || bytes.len() == 1)
 }
 
 impl Token for bool {
