@@ -36,8 +36,8 @@ both {A} {B} a b = record {
   fits = λ (p : A × B). a.fits p.0 × b.fits p.1;
   text = λ (p : A × B). a.text p.0 ++ b.text p.1;
   once = λ (v w : A × B) (x y : List ℕ) f g e.
-    let r = pair_once a.fits a.text b.fits b.text a.once b.once v.0 w.0 v.1 w.1 x y f.0 g.0 f.1 g.1 e in
-    (λ i. (r.0 i, r.1.0 i), r.1.1);
+      let r = pair_once a.fits a.text b.fits b.text a.once b.once v.0 w.0 v.1 w.1 x y f.0 g.0 f.1 g.1 e in
+      (λ i. (r.0 i, r.1.0 i), r.1.1);
 }
 
 -- a number up to a separator
@@ -46,8 +46,8 @@ number stop s = record {
   fits = λ (n : ℕ). n < 2 ^ 64;
   text = λ (n : ℕ). decimal n ++ stop ∷ [];
   once = λ (m n : ℕ) (x y : List ℕ) f g e.
-    let r = until_once stop (decimal m) (decimal n) x y s (decimal_plain m f) (decimal_plain n g) e in
-    (decimal_injective m n f g r.0, r.1);
+      let r = until_once stop (decimal m) (decimal n) x y s (decimal_plain m f) (decimal_plain n g) e in
+      (decimal_injective m n f g r.0, r.1);
 }
 
 abbrev kind : Code ItemKind
@@ -55,8 +55,8 @@ kind = record {
   fits = IsKind;
   text = λ (k : ItemKind). kind_text k ++ 32 ∷ [];
   once = λ (k l : ItemKind) (x y : List ℕ) f g e.
-    let r = until_once 32 (kind_text k) (kind_text l) x y refl (kind_plain k f) (kind_plain l g) e in
-    (kind_same k l f g r.0, r.1);
+      let r = until_once 32 (kind_text k) (kind_text l) x y refl (kind_plain k f) (kind_plain l g) e in
+      (kind_same k l f g r.0, r.1);
 }
 
 abbrev role : Code Role
@@ -64,8 +64,8 @@ role = record {
   fits = IsRole;
   text = λ (k : Role). role_text k ++ 32 ∷ [];
   once = λ (k l : Role) (x y : List ℕ) f g e.
-    let r = until_once 32 (role_text k) (role_text l) x y refl (role_plain k f) (role_plain l g) e in
-    (role_same k l f g r.0, r.1);
+      let r = until_once 32 (role_text k) (role_text l) x y refl (role_plain k f) (role_plain l g) e in
+      (role_same k l f g r.0, r.1);
 }
 
 abbrev peer : Code Peer
@@ -79,8 +79,8 @@ flag = record {
   fits = λ (b : Bool). Unit {0};
   text = λ (b : Bool). flag_text b ++ 32 ∷ [];
   once = λ (b c : Bool) (x y : List ℕ) f g e.
-    let r = until_once 32 (flag_text b) (flag_text c) x y refl (flag_plain b) (flag_plain c) e in
-    (flag_same b c r.0, r.1);
+      let r = until_once 32 (flag_text b) (flag_text c) x y refl (flag_plain b) (flag_plain c) e in
+      (flag_same b c r.0, r.1);
 }
 
 abbrev fate : Code Fate
@@ -88,8 +88,8 @@ fate = record {
   fits = λ (b : Fate). Unit {0};
   text = λ (b : Fate). fate_text b ++ 10 ∷ [];
   once = λ (b c : Fate) (x y : List ℕ) f g e.
-    let r = until_once 10 (fate_text b) (fate_text c) x y refl (fate_plain b) (fate_plain c) e in
-    (fate_same b c r.0, r.1);
+      let r = until_once 10 (fate_text b) (fate_text c) x y refl (fate_plain b) (fate_plain c) e in
+      (fate_same b c r.0, r.1);
 }
 
 abbrev digits : Code (List ℕ)
@@ -97,8 +97,8 @@ digits = record {
   fits = AreOctets;
   text = λ (b : List ℕ). encode_lower b ++ 32 ∷ [];
   once = λ (b c : List ℕ) (x y : List ℕ) f g e.
-    let r = until_once 32 (encode_lower b) (encode_lower c) x y refl (encoded_plain b f) (encoded_plain c g) e in
-    (encoded_same b c f g r.0, r.1);
+      let r = until_once 32 (encode_lower b) (encode_lower c) x y refl (encoded_plain b f) (encoded_plain c g) e in
+      (encoded_same b c f g r.0, r.1);
 }
 
 abbrev octets : (stop : ℕ) → IsTrue (is_separator stop) → Code (List ℕ)
@@ -106,8 +106,8 @@ octets stop s = record {
   fits = AreOctets;
   text = λ (b : List ℕ). octets_text b ++ stop ∷ [];
   once = λ (b c : List ℕ) (x y : List ℕ) f g e.
-    let r = until_once stop (octets_text b) (octets_text c) x y s (octets_plain b f) (octets_plain c g) e in
-    (octets_same b c f g r.0, r.1);
+      let r = until_once stop (octets_text b) (octets_text c) x y s (octets_plain b f) (octets_plain c g) e in
+      (octets_same b c f g r.0, r.1);
 }
 
 abbrev frame : (stop : ℕ) → IsTrue (is_separator stop) → Code Packet
@@ -115,8 +115,8 @@ frame stop s = record {
   fits = IsSet;
   text = λ (b : Packet). octets_text b.payload ++ stop ∷ [];
   once = λ (b c : Packet) (x y : List ℕ) f g e.
-    let r = until_once stop (octets_text b.payload) (octets_text c.payload) x y s (octets_plain b.payload f.octets) (octets_plain c.payload g.octets) e in
-    (frame_same b c f g r.0, r.1);
+      let r = until_once stop (octets_text b.payload) (octets_text c.payload) x y s (octets_plain b.payload f.octets) (octets_plain c.payload g.octets) e in
+      (frame_same b c f g r.0, r.1);
 }
 
 -- the fields of an item before its octets, and what follows them

@@ -64,8 +64,8 @@ tail_is [] x = refl
 tail_is (n ∷ ns) x =
     ap (λ (t : List ℕ). 44 ∷ t)
     (ap (λ (t : List ℕ). t ++ x) (append_assoc (decimal n) (flat_map (λ (m : ℕ). codes "," ++ decimal m) ns) (10 ∷ []))
-     ∙ append_assoc (decimal n) (flat_map (λ (m : ℕ). codes "," ++ decimal m) ns ++ 10 ∷ []) x
-     ∙ ap (λ (t : List ℕ). decimal n ++ t) (tail_is ns x))
+    ∙ append_assoc (decimal n) (flat_map (λ (m : ℕ). codes "," ++ decimal m) ns ++ 10 ∷ []) x
+    ∙ ap (λ (t : List ℕ). decimal n ++ t) (tail_is ns x))
 
 -- what the tail begins with
 abbrev tail_head : List ℕ → ℕ
@@ -158,12 +158,16 @@ after_entries loose refused outs x = flat_map loose_line loose ++ after_loose re
 
 abbrev ENTRY : ℕ
 ENTRY = 6647412
+
 abbrev LOOSE : ℕ
 LOOSE = 7106415
+
 abbrev REFUSED : ℕ
 REFUSED = 7497062
+
 abbrev OUT : ℕ
 OUT = 7304564
+
 abbrev END : ℕ
 END = 6647396
 
@@ -192,19 +196,19 @@ front_after_refused : (w : ℕ) (outs : List OutRecord) (x : List ℕ) → w ≢
 front_after_refused w [] x o n e = n (sym e ∙ front_end x)
 front_after_refused w (p ∷ outs) x o n e =
     o (sym e ∙ front_same ((out_line p ++ flat_map out_line outs) ++ (codes "end\n" ++ x)) (out_line p ++ (flat_map out_line outs ++ (codes "end\n" ++ x))) (append_assoc (out_line p) (flat_map out_line outs) (codes "end\n" ++ x))
-       ∙ front_out p (flat_map out_line outs ++ (codes "end\n" ++ x)))
+    ∙ front_out p (flat_map out_line outs ++ (codes "end\n" ++ x)))
 
 front_after_loose : (w : ℕ) (refused : List Item) (outs : List OutRecord) (x : List ℕ) → w ≢ REFUSED → w ≢ OUT → w ≢ END → front (after_loose refused outs x) ≢ w
 front_after_loose w [] outs x r o n e = front_after_refused w outs x o n e
 front_after_loose w (i ∷ refused) outs x r o n e =
     r (sym e ∙ front_same ((refused_line i ++ flat_map refused_line refused) ++ after_refused outs x) (refused_line i ++ (flat_map refused_line refused ++ after_refused outs x)) (append_assoc (refused_line i) (flat_map refused_line refused) (after_refused outs x))
-       ∙ front_refused i (flat_map refused_line refused ++ after_refused outs x))
+    ∙ front_refused i (flat_map refused_line refused ++ after_refused outs x))
 
 front_after_entries : (w : ℕ) (loose : List Loose) (refused : List Item) (outs : List OutRecord) (x : List ℕ) → w ≢ LOOSE → w ≢ REFUSED → w ≢ OUT → w ≢ END → front (after_entries loose refused outs x) ≢ w
 front_after_entries w [] refused outs x l r o n e = front_after_loose w refused outs x r o n e
 front_after_entries w (i ∷ loose) refused outs x l r o n e =
     l (sym e ∙ front_same ((loose_line i ++ flat_map loose_line loose) ++ after_loose refused outs x) (loose_line i ++ (flat_map loose_line loose ++ after_loose refused outs x)) (append_assoc (loose_line i) (flat_map loose_line loose) (after_loose refused outs x))
-       ∙ front_loose i (flat_map loose_line loose ++ after_loose refused outs x))
+    ∙ front_loose i (flat_map loose_line loose ++ after_loose refused outs x))
 
 differ : (a b : ℕ) → a < b → a ≢ b
 differ a b h e = omega (arith, h, e)
@@ -242,8 +246,8 @@ stuck_later moment i j ([] ∷ journals) rest low high f no v next g e = stuck_l
 stuck_later moment i j ((d ∷ journal) ∷ journals) rest low high f no v next g e =
     let parted : entry_line j d ++ (flat_map (entry_line j) journal ++ (entry_lines (j + 1) journals ++ rest)) ≡ entry_line i v ++ next =
     sym (ap (λ (t : List ℕ). t ++ rest) (append_assoc (entry_line j d) (flat_map (entry_line j) journal) (entry_lines (j + 1) journals))
-         ∙ append_assoc (entry_line j d) (flat_map (entry_line j) journal ++ entry_lines (j + 1) journals) rest
-         ∙ ap (λ (t : List ℕ). entry_line j d ++ t) (append_assoc (flat_map (entry_line j) journal) (entry_lines (j + 1) journals) rest))
+    ∙ append_assoc (entry_line j d) (flat_map (entry_line j) journal ++ entry_lines (j + 1) journals) rest
+    ∙ ap (λ (t : List ℕ). entry_line j d ++ t) (append_assoc (flat_map (entry_line j) journal) (entry_lines (j + 1) journals) rest))
     ∙ e in
     let r = entry_once moment j i d v _ next (omega arith) (omega arith) f.0.0 g parted in
     let same = r.0 in
@@ -315,17 +319,19 @@ round_once r s x y f g e =
     let entries = subst (λ (m : ℕ). AreEntries m s.journals) (sym moment) g.entries in
     let no_entry = λ (q : RoundRecord) (z : List ℕ). front_after_entries ENTRY q.loose q.refused q.outs z (differ ENTRY LOOSE (lit< tt)) (differ ENTRY REFUSED (lit< tt)) (differ ENTRY OUT (lit< tt)) (differ_too ENTRY END (lit< tt)) in
     let journals = journals_once r.moment 0 r.journals s.journals (after_entries r.loose r.refused r.outs x) (after_entries s.loose s.refused s.outs y) few shards f.entries entries (no_entry r x) (no_entry s y) numbers.1 in
-    let rest = after_once r.loose s.loose r.refused s.refused r.outs s.outs x y f.loose g.loose f.refused g.refused f.outs g.outs journals.1 in
-    (λ i. record {
-       number = number i;
-       moment = moment i;
-       wall = wall i;
-       allowances = numbers.0 i;
-       journals = journals.0 i;
-       loose = rest.0 i;
-       outs = rest.1.1.0 i;
-       refused = rest.1.0 i;
-     }, rest.1.1.1)
+    let rest = after_once r.loose s.loose r.refused s.refused r.outs s.outs x y f.loose g.loose f.refused g.refused f.outs g.outs journals.1 in (
+      λ i. record {
+        number = number i;
+        moment = moment i;
+        wall = wall i;
+        allowances = numbers.0 i;
+        journals = journals.0 i;
+        loose = rest.0 i;
+        outs = rest.1.1.0 i;
+        refused = rest.1.0 i;
+      },
+      rest.1.1.1,
+    )
   where
     few_shards : (q : RoundRecord) → IsKept q → 0 + length q.journals ≤ 2 ^ 64
     few_shards q h = let n = h.shards in let l = h.journals in omega (arith, n, l)

@@ -23,14 +23,14 @@ adds_both a b c p q r s t f g = record {
 pub fails_front : (a b : SinkTold) (p s t : List ℕ) → Fails a b p s → Fails a b p (s ++ t)
 fails_front a b p s t f = record {
   fails = λ start done h.
-    let k = f.fails start done h in record {
-      front = k.front;
-      left = k.left ++ t;
-      all = sym (append_assoc k.front k.left t) ∙ ap (λ (x : List ℕ). x ++ t) k.all ∙ append_assoc done s t;
-      told = k.told;
-      later = k.later;
-      rose = k.rose;
-    };
+      let k = f.fails start done h in record {
+        front = k.front;
+        left = k.left ++ t;
+        all = sym (append_assoc k.front k.left t) ∙ ap (λ (x : List ℕ). x ++ t) k.all ∙ append_assoc done s t;
+        told = k.told;
+        later = k.later;
+        rose = k.rose;
+      };
 }
 
 -- the second text failed

@@ -1,6 +1,6 @@
 -- The names of fields tell what they name, and no separator stands in them.
-use Rattle.std.proofs.Common.{◌≡◌, ◌≢◌, ℕ, zero, suc, ◌+◌, ◌-◌, ◌*◌, ◌/◌, ◌%◌, ◌^◌, ◌<◌, ◌≤◌, ◌==◌, List, [], ◌∷◌, ◌++◌, Bool, true, false, not, ◌&&◌, cond, length, get_or, slice_index, Ok, refl, sym, ap, subst, ◌∙◌, arith}
-use Rattle.std.specs.Prelude.{IsTrue, Result}
+use Rattle.std.proofs.Common.{◌≡◌, ◌≢◌, ℕ, zero, suc, ◌+◌, ◌-◌, ◌*◌, ◌/◌, ◌%◌, ◌^◌, ◌<◌, ◌≤◌, ◌==◌, List, [], ◌∷◌, ◌++◌, Bool, true, false, not, ◌&&◌, cond, length, get_or, slice_index, refl, sym, ap, subst, ◌∙◌, arith}
+use Rattle.std.specs.Prelude.{IsTrue, Result, Ok, Err}
 use Rattle.std.specs.List.{AllByRecursion, list_all}
 use Rattle.std.specs.Fmt.{decimal}
 use Rattle.std.proofs.lemmas.Bool.{nat_tests, agree_below_at, and_from, or_from, le-ltb, ne_eqb}
@@ -56,12 +56,14 @@ are_bytes [] p i = omega arith
 are_bytes (b ∷ bytes) p zero = p.0
 are_bytes (b ∷ bytes) p (suc i) = are_bytes bytes p.1 i
 
-ok_same : (xs ys : List ℕ) → Ok {E = FromHexError} xs ≡ Ok ys → xs ≡ ys
-ok_same xs ys e = cc
+ok_value : Result (List ℕ) FromHexError → List ℕ
+ok_value (Ok xs) = xs
+ok_value (Err e) = []
 
 pub encoded_same : (xs ys : List ℕ) → AreOctets xs → AreOctets ys → encode_lower xs ≡ encode_lower ys → xs ≡ ys
+unfolding ok_value
 encoded_same xs ys p q e =
-    ok_same xs ys (sym (decode_of-encode_lower xs (are_bytes xs p)) ∙ ap decode_of e ∙ decode_of-encode_lower ys (are_bytes ys q))
+    ap ok_value (sym (decode_of-encode_lower xs (are_bytes xs p)) ∙ ap decode_of e ∙ decode_of-encode_lower ys (are_bytes ys q))
 
 pub octets_same : (xs ys : List ℕ) → AreOctets xs → AreOctets ys → octets_text xs ≡ octets_text ys → xs ≡ ys
 octets_same [] [] p q e = refl
@@ -79,7 +81,7 @@ pub flag_plain : (b : Bool) → ArePlain (flag_text b)
 flag_plain true = refl
 flag_plain false = refl
 
-flag_back : (b : Bool) → get_or (flag_text b) 0 0 == 49 ≡ b
+flag_back : (b : Bool) → (get_or (flag_text b) 0 0 == 49) ≡ b
 flag_back true = refl
 flag_back false = refl
 
@@ -237,10 +239,10 @@ fate_of : ℕ → ℕ → Fate
 fate_of c d =
     cond (c == 102) Forwarded
     (cond (c == 99) Consumed
-     (cond (c == 109) (Dropped Malformed)
-      (cond (c == 110) (cond (d == 115) (Dropped NoSession) (Dropped NotOpen))
-       (cond (c == 101) (cond (d == 112) (Dropped Expired) (Dropped Exceeded))
-        (cond (c == 115) (Dropped Spoofed) (cond (c == 116) (Dropped TooBig) (cond (c == 108) (Dropped LinkFailed) (Dropped WantOfMemory))))))))
+    (cond (c == 109) (Dropped Malformed)
+    (cond (c == 110) (cond (d == 115) (Dropped NoSession) (Dropped NotOpen))
+    (cond (c == 101) (cond (d == 112) (Dropped Expired) (Dropped Exceeded))
+    (cond (c == 115) (Dropped Spoofed) (cond (c == 116) (Dropped TooBig) (cond (c == 108) (Dropped LinkFailed) (Dropped WantOfMemory))))))))
 
 fate_back : (f : Fate) → fate_of (get_or (fate_text f) 0 0) (get_or (fate_text f) 2 0) ≡ f
 unfolding fate_of

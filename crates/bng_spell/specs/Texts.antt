@@ -32,7 +32,7 @@ abbrev pub round_text : RoundRecord → List ℕ
 round_text r =
     head_line r
     ++ (entry_lines 0 r.journals
-        ++ (flat_map loose_line r.loose ++ (flat_map refused_line r.refused ++ (flat_map out_line r.outs ++ codes "end\n"))))
+    ++ (flat_map loose_line r.loose ++ (flat_map refused_line r.refused ++ (flat_map out_line r.outs ++ codes "end\n"))))
 
 abbrev pub trace_text : OpeningView → List RoundRecord → List ℕ
 trace_text o rounds = opening_text o ++ flat_map round_text rounds

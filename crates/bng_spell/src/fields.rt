@@ -106,9 +106,6 @@ pub(crate) type ItemFields<B> = (
     Until<ItemKind, 32>,
     (
         Peer,
-        (
-            Until<bool, 32>,
-            (Short, (Long, (Until<Fixed<16>, 32>, B))),
-        ),
+        (Until<bool, 32>, (Short, (Long, (Until<Fixed<16>, 32>, B)))),
     ),
 );

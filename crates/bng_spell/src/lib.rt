@@ -24,4 +24,3 @@ pub use crate::laws::{charges_are_not_spelled, one_form};
 pub use crate::opening::{ReadOpening, SpellError, read_opening};
 pub use crate::round::read_round;
 pub use crate::spell::{spell_opening, spell_round};
-

@@ -10,7 +10,12 @@ use bng_base::{Entry, Item, Listed, Loose, OutRecord, RoundRecord};
 use bng_plant::Sink;
 
 // Writes the line of an entry of this shard.
-fn put_entry<O: Sink>(out: &mut O, block: &mut Block, shard: u64, entry: &Entry) -> Result<(), Unwritten>
+fn put_entry<O: Sink>(
+    out: &mut O,
+    block: &mut Block,
+    shard: u64,
+    entry: &Entry,
+) -> Result<(), Unwritten>
     ensures ok { OnOk result (Adds (O.told out.old) (O.told out.new) block.old block.new (entry_line shard entry.now)) }
     ensures err { OnErr result (Fails (O.told out.old) (O.told out.new) block.old (entry_line shard entry.now)) }
 {
@@ -177,7 +182,11 @@ pub(crate) fn put_outs<O: Sink>(
 }
 
 /// Writes the first line of a round.
-pub(crate) fn put_head<O: Sink>(out: &mut O, block: &mut Block, round: &RoundRecord) -> Result<(), Unwritten>
+pub(crate) fn put_head<O: Sink>(
+    out: &mut O,
+    block: &mut Block,
+    round: &RoundRecord,
+) -> Result<(), Unwritten>
     ensures ok { OnOk result (Adds (O.told out.old) (O.told out.new) block.old block.new (head_line round.now)) }
     ensures err { OnErr result (Fails (O.told out.old) (O.told out.new) block.old (head_line round.now)) }
 {
@@ -193,4 +202,3 @@ pub(crate) fn put_head<O: Sink>(out: &mut O, block: &mut Block, round: &RoundRec
         Part::Numbers(round.allowances.as_slice()),
     )
 }
-

@@ -79,7 +79,10 @@ impl Line for Entry {
 
     fn read_line(within: Within, whole: &[u8], at: usize) -> Option<(Entry, usize)> {
         let at = literal(whole, at, b"entry ")?;
-        let (fields, next) = <(Long, (Short, (Short, ItemFields<(Until<Frame, 32>, Claim)>)))>::read(whole, at)?;
+        let (fields, next) = <(
+            Long,
+            (Short, (Short, ItemFields<(Until<Frame, 32>, Claim)>)),
+        )>::read(whole, at)?;
         let (shard, (seat, (place, fields))) = fields;
         let (kind, (from, (cut, (target, (ask, (random, (frame, claim))))))) = fields;
         if shard.0.0 != within.shard {
@@ -114,7 +117,10 @@ impl Line for Loose {
 
     fn read_line(_: Within, whole: &[u8], at: usize) -> Option<(Loose, usize)> {
         let at = literal(whole, at, b"loose ")?;
-        let (fields, next) = <(Short, (Short, ItemFields<(Until<Frame, 32>, Until<Fate, 10>)>))>::read(whole, at)?;
+        let (fields, next) = <(
+            Short,
+            (Short, ItemFields<(Until<Frame, 32>, Until<Fate, 10>)>),
+        )>::read(whole, at)?;
         let (seat, (place, fields)) = fields;
         let (kind, (from, (cut, (target, (ask, (random, (frame, fate))))))) = fields;
         let random = random.0.0;

@@ -66,10 +66,7 @@ fn octets_line(
 
 /// The opening with which a text begins, and the place behind its two lines; `None` exactly where the text does not begin with the two
 /// lines of an opening.
-pub fn read_opening(
-    alloc: Global,
-    text: &[u8],
-) -> Result<Option<(ReadOpening, usize)>, SpellError>
+pub fn read_opening(alloc: Global, text: &[u8]) -> Result<Option<(ReadOpening, usize)>, SpellError>
     ensures found { IfOk result (λ r. IfSome r (λ p. IsKeptOpening (read_view p.0) × Stands text.now 0 (opening_text (read_view p.0)) p.1)) }
     ensures none { IfOk result (λ r. IfNone r (Lacks IsKeptOpening opening_text text.now 0)) }
 {

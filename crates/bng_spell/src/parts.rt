@@ -36,11 +36,7 @@ pub(crate) enum Part<'a> {
 }
 
 // Writes a number in decimal digits.
-fn put_number<O: Sink>(
-    out: &mut O,
-    block: &mut Block,
-    number: u64,
-) -> Result<(), Unwritten>
+fn put_number<O: Sink>(out: &mut O, block: &mut Block, number: u64) -> Result<(), Unwritten>
     ensures ok { OnOk result (Adds (O.told out.old) (O.told out.new) block.old block.new (decimal number)) }
     ensures err { OnErr result (Fails (O.told out.old) (O.told out.new) block.old (decimal number)) }
 {
@@ -50,11 +46,7 @@ fn put_number<O: Sink>(
 }
 
 // Writes a few octets as hexadecimal digits.
-fn put_few_digits<O: Sink>(
-    out: &mut O,
-    block: &mut Block,
-    octets: &[u8],
-) -> Result<(), Unwritten>
+fn put_few_digits<O: Sink>(out: &mut O, block: &mut Block, octets: &[u8]) -> Result<(), Unwritten>
     requires { length octets.now ≤ AT_ONCE }
     ensures ok { OnOk result (Adds (O.told out.old) (O.told out.new) block.old block.new (encode_lower octets.now)) }
     ensures err { OnErr result (Fails (O.told out.old) (O.told out.new) block.old (encode_lower octets.now)) }
@@ -66,11 +58,7 @@ fn put_few_digits<O: Sink>(
 }
 
 // Writes octets as hexadecimal digits.
-fn put_digits<O: Sink>(
-    out: &mut O,
-    block: &mut Block,
-    octets: &[u8],
-) -> Result<(), Unwritten>
+fn put_digits<O: Sink>(out: &mut O, block: &mut Block, octets: &[u8]) -> Result<(), Unwritten>
     ensures ok { OnOk result (Adds (O.told out.old) (O.told out.new) block.old block.new (encode_lower octets.now)) }
     ensures err { OnErr result (Fails (O.told out.old) (O.told out.new) block.old (encode_lower octets.now)) }
 {
@@ -204,11 +192,7 @@ fn put_more_numbers<O: Sink>(
 }
 
 // Writes numbers parted by commas, or a dash for none.
-fn put_numbers<O: Sink>(
-    out: &mut O,
-    block: &mut Block,
-    numbers: &[u32],
-) -> Result<(), Unwritten>
+fn put_numbers<O: Sink>(out: &mut O, block: &mut Block, numbers: &[u32]) -> Result<(), Unwritten>
     ensures ok { OnOk result (Adds (O.told out.old) (O.told out.new) block.old block.new (numbers_text numbers.now)) }
     ensures err { OnErr result (Fails (O.told out.old) (O.told out.new) block.old (numbers_text numbers.now)) }
 {

@@ -84,7 +84,6 @@ fn journals(
     Ok((journals, next))
 }
 
-
 /// The round that begins at this place, and the place behind its `end` line; `None` exactly where no whole round stands there.
 pub fn read_round(
     alloc: Global,

@@ -33,11 +33,7 @@ pub fn spell_round<O: Sink>(round: &RoundRecord, out: &mut O) -> Wrote
 }
 
 // Writes an opening, and whatever is pending.
-fn put_opening<O: Sink>(
-    out: &mut O,
-    block: &mut Block,
-    opening: &Opening,
-) -> Result<(), Unwritten>
+fn put_opening<O: Sink>(out: &mut O, block: &mut Block, opening: &Opening) -> Result<(), Unwritten>
     ensures ok { OnOk result (Adds (O.told out.old) (O.told out.new) block.old block.new (opening_text (opening_view opening.entry.now))) }
     ensures err { OnErr result (Fails (O.told out.old) (O.told out.new) block.old (opening_text (opening_view opening.entry.now))) }
     ensures empty { OnOk result (block.new ≡ []) }
@@ -58,11 +54,7 @@ fn put_opening<O: Sink>(
 }
 
 // Writes a round, and whatever is pending.
-fn put_round<O: Sink>(
-    out: &mut O,
-    block: &mut Block,
-    round: &RoundRecord,
-) -> Result<(), Unwritten>
+fn put_round<O: Sink>(out: &mut O, block: &mut Block, round: &RoundRecord) -> Result<(), Unwritten>
     ensures ok { OnOk result (Adds (O.told out.old) (O.told out.new) block.old block.new (round_text round.now)) }
     ensures err { OnErr result (Fails (O.told out.old) (O.told out.new) block.old (round_text round.now)) }
     ensures empty { OnOk result (block.new ≡ []) }
