@@ -5,6 +5,7 @@ ghost use Rattle.bng_spell.specs.Standing.{Stands, Lacks};
 ghost use Rattle.bng_spell.specs.Kept.{IsEntry, IsLoose, IsItem, IsOut};
 ghost use Rattle.bng_spell.specs.Lines.{entry_line, loose_line, refused_line, out_line};
 ghost use Rattle.bng_spell.specs.Many.{AreLines};
+ghost use Rattle.bng_spell.specs.Codes.{some_suc, some_push};
 
 use crate::fields::{ItemFields, Long, Short};
 use crate::numbers::Number;
@@ -75,7 +76,7 @@ impl Line for Entry {
 
     ghost text = { λ w e. entry_line w.shard e };
 
-    ghost some = { ? };
+    ghost some = { λ _ v. some_suc _ };
 
     fn read_line(within: Within, whole: &[u8], at: usize) -> Option<(Entry, usize)> {
         let at = literal(whole, at, b"entry ")?;
@@ -113,7 +114,7 @@ impl Line for Loose {
 
     ghost text = { λ _. loose_line };
 
-    ghost some = { ? };
+    ghost some = { λ _ v. some_suc _ };
 
     fn read_line(_: Within, whole: &[u8], at: usize) -> Option<(Loose, usize)> {
         let at = literal(whole, at, b"loose ")?;
@@ -147,7 +148,7 @@ impl Line for Item {
 
     ghost text = { λ _. refused_line };
 
-    ghost some = { ? };
+    ghost some = { λ _ v. some_suc _ };
 
     fn read_line(_: Within, whole: &[u8], at: usize) -> Option<(Item, usize)> {
         let at = literal(whole, at, b"refused ")?;
@@ -172,7 +173,7 @@ impl Line for OutRecord {
 
     ghost text = { λ _. out_line };
 
-    ghost some = { ? };
+    ghost some = { λ _ v. some_suc _ };
 
     fn read_line(_: Within, whole: &[u8], at: usize) -> Option<(OutRecord, usize)> {
         let at = literal(whole, at, b"out ")?;
@@ -197,7 +198,7 @@ impl Line for u32 {
 
     ghost text = { λ _ n. decimal n ++ 44 ∷ [] };
 
-    ghost some = { ? };
+    ghost some = { λ _ n. some_push (decimal n) 44 };
 
     fn read_line(_: Within, whole: &[u8], at: usize) -> Option<(u32, usize)> {
         let (number, next) = Until::<Number<0xffff_ffff>, 44>::read(whole, at)?;
