@@ -172,7 +172,7 @@ calls_until turns endings k = flat_map (λ calls. calls) (take (k + 1) (map (λ 
 -- calls say (`requests`), and what was sent there, so too, are the replies of the turns (`replies`): first those that were sent again, which
 -- are those of requests that came again (`repeated`), and then those that were given. Each answer that was given in a turn is that of a
 -- shard that handled the request in this turn, or that of a request that stood in no shard of it (`verdicts`). And no request is left
--- unanswered: once a turn has opened its round, each request that was taken by then has its reply (`heard`).
+-- unanswered: once a turn has opened its round, each request that was admitted as new by then has its reply (`heard`).
 pub record Changed (config : Config) (turns : List Made) (endings : List MadeEnd) (last : Desk) (taken sent : List Datagram) : Type 0 where
   pub calls : Chain DoesCoa (coa_of config.coa) (coa_calls_of turns endings) last.coa
   pub answered : (k : ℕ) (g : Given) (s : CoaSend) → slice_get (coa_calls_of turns endings) k ≡ Some (Replied g) → g.send ≡ Some s

@@ -303,7 +303,7 @@ pub record Headline (config : Config) (most status : ℕ) (old new : World) : Ty
   -- address and to it. The drops printed are those of the rounds, and of those that could not be opened.
   pub printed : Grows old.out.bytes new.out.bytes (report_text (total_in safe.sent) empty_book (total_in safe.sent) (traffic_by (total_in safe.sent) ∷ []) config.profiles (all_profile_traffic config (rounds_of run.completes.course.turns run.completes.course.endings)) (map line_of config.statics) (all_traffic config safe.sent) (by_number (drops_of_run run.completes.course.turns run.completes.course.endings)))
   pub profiles_add_up : AddsUpTo (total_in safe.sent) (all_profile_traffic config (rounds_of run.completes.course.turns run.completes.course.endings))
-  -- Each request for a change that was taken has its reply.
+  -- Each request for a change that was admitted as new has its reply.
   pub responded : AreAnswered (coa_of config.coa).secret (coa_calls_of run.completes.course.turns run.completes.course.endings)
   -- With status 0 each Stop that was formed was acknowledged by a datagram that was heard later. With status 6 some was not, and the
   -- lines of those that were not were written.

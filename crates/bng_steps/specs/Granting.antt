@@ -89,13 +89,12 @@ pub record IsGrantedOver (s : State) (e : Entry) (to : Peer) (octets : List ℕ)
   pub sent : octets ≡ call_octets called frame
   pub granted : IsGrantedOn s e (L2tp to called.tunnel session) session.0
 
--- a link that has asked, or whose peer was accepted, has a question
+-- a link with an open question, or whose peer was accepted, has its question
 abbrev pub HasQuestion : Service → Type 0
 HasQuestion (Provisioned l) = Unit {0}
 HasQuestion (Discovered m) = (is_open m.link.auth ≡ true) ⊎ (is_accepted m.link.auth ≡ true) → IsSome m.question
 
--- What each state that a run reaches keeps: it is of one of 64 shards, sessions stand under their own numbers, which are the shard's,
--- and such links have their questions.
+-- It is of one of 64 shards, sessions stand under their own numbers, which are the shard's, and such links have their questions.
 pub record IsSound (s : State) : Type 0 where
   pub shard : s.sessions.shard < 64
   pub own : AreOwn s.sessions

@@ -131,7 +131,7 @@ impl<S: Store> Served<S> {
         requires number { number < 64 }
         requires own { All (λ c. IsNumberOf number c.session.0) circuits.now }
         requires sessions { AllPairs (λ a b. a.session ≢ b.session) circuits.now }
-        requires addresses { AllPairs (λ a b. a.address ≢ b.address) circuits.now }
+        requires addresses { S.unique ≡ true → AllPairs (λ a b. a.address ≢ b.address) circuits.now }
         ensures opened { IfOk result (λ s. s ≡ record (opened_slots number profiles.now circuits.now now) { terms = [] }) }
     {
         let passed = Vec::from_elem(alloc, 0, usize::from(SPAN))?;

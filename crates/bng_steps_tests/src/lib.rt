@@ -11,3 +11,5 @@ mod plain_step;
 mod seats;
 #[cfg(test)]
 mod shared;
+#[cfg(test)]
+mod sharing;

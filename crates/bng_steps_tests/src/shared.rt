@@ -20,9 +20,10 @@ use std::test::Fail;
 // The address that all sessions share.
 const SHARED: Ip4 = Ip4(0x0a000002);
 
-// The circuit of the shard 0 with this session number and the shared address.
-fn circuit(session: u8) -> Static
-    ensures { result.session.0 ≡ session }
+/// The circuit of the shard 0 with this session number, on the port 1, with the shared address.
+pub(crate) fn circuit(session: u8) -> Static
+    ensures session { result.session.0 ≡ session }
+    ensures port { result.port ≡ 1 }
 {
     let mut user = ArrayVec::new();
     user.push(b'f');
@@ -40,7 +41,6 @@ fn circuit(session: u8) -> Static
 fn open(alloc: Global, circuits: &[Static]) -> Result<Served<Plain>, AllocError>
     requires own { All (λ c. IsNumberOf 0 c.session.0) circuits.now }
     requires sessions { AllPairs (λ a b. a.session ≢ b.session) circuits.now }
-    requires addresses { AllPairs (λ a b. a.address ≢ b.address) circuits.now }
     ensures opened { IfOk result (λ s. s ≡ record (opened_slots 0 [] circuits.now 0) { terms = [] }) }
 {
     let sessions = Plain::open(alloc, 0)?;

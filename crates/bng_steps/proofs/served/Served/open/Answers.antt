@@ -47,7 +47,7 @@ put-requires-clause-address g c unique =
     let low : c.args.number * 1024 + 1 ≤ c.loop-n.n = search rules in
     let here = at c.args.now c.args.number c.args.circuits.now first c.loop-n.n (g.S.Store.sessions c.loop-n.sessions) c.loop-n.begun c.loop-n.invariant refl low in
     subst (λ (x : Session). NoneShares address_of (g.S.Store.sessions c.loop-n.sessions) x) (sym c.provisioned.ensures)
-    (shares_address c.args.now c.args.number c.args.circuits.now (c.loop-n.n - first) (g.S.Store.sessions c.loop-n.sessions) c.loop-n.begun c.loop-n.invariant c.loop-n.n c.in-Some.circuit.now here c.in-Some.ensures.found c.requires.addresses (c.loop-n.begun + 1))
+    (shares_address c.args.now c.args.number c.args.circuits.now (c.loop-n.n - first) (g.S.Store.sessions c.loop-n.sessions) c.loop-n.begun c.loop-n.invariant c.loop-n.n c.in-Some.circuit.now here c.in-Some.ensures.found (c.requires.addresses unique) (c.loop-n.begun + 1))
 
 pub put-requires-clause-term : goal.put-requires-clause-term
 put-requires-clause-term g c =
@@ -82,7 +82,7 @@ invariant_of-result g c =
     record {
       own = opened_own c.args.now c.args.number c.args.circuits.now (g.S.Store.sessions c.loop-n.sessions) c.loop-n.begun opens;
       of_shard = opened_of_shard c.args.now c.args.number c.args.circuits.now (g.S.Store.sessions c.loop-n.sessions) c.loop-n.begun opens;
-      apart = λ unique. opened_apart c.args.now c.args.number c.args.circuits.now (g.S.Store.sessions c.loop-n.sessions) c.loop-n.begun opens c.requires.addresses;
+      apart = λ unique. opened_apart c.args.now c.args.number c.args.circuits.now (g.S.Store.sessions c.loop-n.sessions) c.loop-n.begun opens (c.requires.addresses unique);
       leased = opened_leased c.args.now c.args.number c.args.circuits.now (g.S.Store.sessions c.loop-n.sessions) c.loop-n.begun opens;
       leaving = subst (λ (ns : List SessionNo). AreLeaving (g.S.Store.sessions c.loop-n.sessions) ns) (sym none) (opened_listed c.args.now c.args.number c.args.circuits.now (g.S.Store.sessions c.loop-n.sessions) c.loop-n.begun opens leaves (λ k serial. refl));
       counted = opened_none c.args.now c.args.number c.args.circuits.now (g.S.Store.sessions c.loop-n.sessions) c.loop-n.begun opens leaves (λ k serial. refl) ∙ sym (ap (λ (ns : List SessionNo). length ns) none);
