@@ -8,6 +8,8 @@ pub mod Zips
 pub mod Readying
 pub mod Shares
 pub mod RulesStay
+pub mod Listed
+pub mod Traced
 pub mod Returning
 pub mod Sending
 pub mod Settling

@@ -9,6 +9,7 @@ pub mod Logins
 pub mod Accounting
 pub mod Interims
 pub mod Round
+pub mod Traced
 pub mod Allowing
 pub mod Settlement
 pub mod Holding

@@ -22,6 +22,7 @@ mod gathering;
 mod holding;
 mod intake;
 mod interims;
+mod laws;
 mod line;
 mod lists;
 mod opening;
@@ -42,6 +43,7 @@ mod unanswered;
 
 pub use crate::desk::{Desk, DeskError, DeskState, Turned};
 pub use crate::drops::Drops;
+pub use crate::laws::rounds_are_traced;
 pub use crate::line::Line;
 pub use crate::reading::Ended;
 pub use crate::sums::Sums;

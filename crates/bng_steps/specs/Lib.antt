@@ -46,3 +46,4 @@ pub mod Surveying
 pub mod Destinations
 pub mod Placed
 pub mod Seats
+pub mod Rounds
