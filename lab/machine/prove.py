@@ -187,8 +187,8 @@ def prove_libraries(names, below, chain, most, progress):
                 ready = sum(below[it] <= done for it in left - set(running))
                 jobs = max(1, most // min(most, len(running) + ready))
                 if chain[name] == max(map(chain.get, left)):
-                    # All wait for the longest chain in the end.
-                    jobs = max(jobs, most // 2)
+                    # All wait for the longest chain in the end, so it goes first.
+                    jobs = max(jobs, most - 1)
                 running[name] = Lane(name, below[name], jobs)
                 continue
             progress.say(running)
