@@ -3,7 +3,7 @@ use Rattle.std.proofs.Common.{◌≡◌, ◌≢◌, inl, inr, ⊎_elim, ℕ, zer
 use Rattle.std.specs.Prelude.{◌⊎◌, option_to_list}
 use Rattle.std.specs.List.{AllByRecursion, AllZip, flat_map}
 use Rattle.std.proofs.lemmas.Bool.{eq-eqb, ne_eqb}
-use Rattle.std.proofs.lemmas.List.{append-assoc, map-append}
+use Rattle.std.proofs.lemmas.List.{append_assoc, map-append}
 use Rattle.std.proofs.lemmas.List.Elements.{filter-append, recursion_from_All}
 use Rattle.std.proofs.lemmas.Option.{none-some, same_Some}
 use Rattle.bng_base.specs.declared.fate.Fate.{Fate}
@@ -166,7 +166,7 @@ module _ (seat place : ℕ) where
         sym (ap (λ (xs : List Stood). filter here xs) (stood_alike es))
         ∙ by_seat (map without_claim es)
         ∙ ap (λ (xs : List Entry). filter here (map entry_stood xs)) (part.each seat lt)
-        ∙ at shard moment 0 place (get_or lists seat []) (get_or whose seat []) refl
+        ∙ at shard moment 0 place (get_or lists seat []) (get_or whose seat []) (omega arith)
     in_part_of shard es part (inr far) =
         sym (ap (λ (xs : List Stood). filter here xs) (stood_alike es))
         ∙ by_seat (map without_claim es)
@@ -239,7 +239,7 @@ module _ (seat place : ℕ) where
     other_seat p [] whose ls other = refl
     other_seat p (i ∷ is) [] ls other = refl
     other_seat p (i ∷ is) (w ∷ ws) ls other =
-        ap loose_at (append-assoc (loose_item of p i w) (loose_in of (p + 1) is ws) ls)
+        ap loose_at (append_assoc (loose_item of p i w) (loose_in of (p + 1) is ws) ls)
         ∙ other_item p i w (loose_in of (p + 1) is ws ++ ls) other
         ∙ other_seat (p + 1) is ws ls other
 
@@ -288,7 +288,7 @@ module _ (seat place : ℕ) where
       ∙ filter-append here (map loose_stood (loose_in seat 0 items ws)) (map loose_stood (all_loose (from + 1) lists whose)))
       ∙ ap (λ (xs : List Stood). loose_here (loose_in seat 0 items ws) ++ xs) (later_seats (from + 1) lists whose (omega (arith, is)))
       ∙ append-nil (loose_here (loose_in seat 0 items ws))
-      ∙ loose_of_list 0 place items ws refl
+      ∙ loose_of_list 0 place items ws (omega arith)
   loose_from from (suc k) (items ∷ lists) (ws ∷ whose) is same =
       other_seat from 0 items ws (all_loose (from + 1) lists whose) (λ this. omega (arith, this, is))
       ∙ loose_from (from + 1) k lists whose (omega (arith, is)) (omega (arith, same))
@@ -305,13 +305,13 @@ module _ (seat place : ℕ) where
     whole : (w : Whose) (i : Item) → AreParts lists whose 0 moment vs → length lists ≡ length whose → there ≡ Some i → slice_get (get_or whose seat []) place ≡ Some w → StandsWithin (length vs) w → both ≡ stood i ∷ []
     whole (IsLoose fate) i parts same is its_is within =
         ap (λ (xs : List Stood). xs ++ loose_here (all_loose 0 lists whose)) (in_none lists whose moment i is 0 vs fate its_is parts)
-        ∙ loose_from 0 seat lists whose refl same
+        ∙ loose_from 0 seat lists whose (omega arith) same
         ∙ ap (λ (o : Option Item). left o (slice_get (get_or whose seat []) place)) is
         ∙ ap (λ (o : Option Whose). left (Some i) o) its_is
     whole (Stands n) i parts same is its_is within =
         ap (λ (xs : List Stood). xs ++ loose_here (all_loose 0 lists whose)) (once lists whose moment i is 0 n vs its_is (omega arith) (omega (arith, within)) parts)
         ∙ ap (λ (xs : List Stood). stood i ∷ xs)
-          (loose_from 0 seat lists whose refl same
+          (loose_from 0 seat lists whose (omega arith) same
           ∙ ap (λ (o : Option Item). left o (slice_get (get_or whose seat []) place)) is
           ∙ ap (λ (o : Option Whose). left (Some i) o) its_is)
 
@@ -323,7 +323,7 @@ module _ (seat place : ℕ) where
         elim there as (λ o. there ≡ o → both ≡ map (λ (i : Item). stood i) (option_to_list o)) [
           | None ↦ λ none.
               ap (λ (xs : List Stood). xs ++ loose_here (all_loose 0 lists whose)) (no_item lists whose moment 0 vs parts none)
-              ∙ loose_from 0 seat lists whose refl same
+              ∙ loose_from 0 seat lists whose (omega arith) same
               ∙ ap (λ (o : Option Item). left o (slice_get (get_or whose seat []) place)) none
           | Some i ↦ λ is. let (w, its_is, within) = each i is in whole w i parts same is its_is within
         ] refl

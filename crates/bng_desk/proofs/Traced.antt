@@ -4,7 +4,7 @@ use Rattle.std.specs.Prelude.{◌⊎◌, IsSome, sum_by, slice_index_or}
 use Rattle.std.specs.List.{All, AllByRecursion, AllZip, Contains, flat_map}
 use Rattle.std.proofs.lemmas.Bool.{eq-eqb, ne_eqb}
 use Rattle.std.proofs.lemmas.Bool.Decides.{nat_tests}
-use Rattle.std.proofs.lemmas.List.Elements.{recursion_from_All}
+use Rattle.std.proofs.lemmas.List.Elements.{filter-append, recursion_from_All}
 use Rattle.std.proofs.lemmas.List.Sums.{sum_by-append, sum_by-cons}
 use Rattle.std.proofs.lemmas.Option.{none-some, same_Some}
 use Rattle.bng_base.specs.declared.address.Ip4.{Ip4}
@@ -294,7 +294,7 @@ times_self a = sum_by-cons (λ (x : ℕ). cond (eqb x a) 1 0) a [] ∙ ap (λ (b
 each_time : (P : ℕ → Type 0) (xs : List ℕ) → ((a : ℕ) → 1 ≤ times_in a xs → P a) → AllByRecursion P xs
 each_time P [] each = tt
 each_time P (x ∷ xs) each = (
-  each x (omega (arith, sum_by-cons (λ (y : ℕ). cond (eqb y x) 1 0) x xs, ap (λ (b : Bool). cond b 1 0) (eq-eqb x x refl))),
+  each x (omega (arith, sum_by-cons (λ (y : ℕ). cond (eqb y x) 1 0) x xs, ap {B = ℕ} (λ (b : Bool). cond b 1 0) (eq-eqb x x refl))),
   each_time P xs (λ a some. each a (omega (arith, some, sum_by-cons (λ (y : ℕ). cond (eqb y a) 1 0) x xs))),
 )
 
@@ -360,9 +360,13 @@ module _ (r : Rules) (shards : List (ShardView ShardState Entry)) (pool : PlainV
 
   seated : (seat number : ℕ) (i : Item) → Contains (list_of lists seat) i → IsCountedFrom i.kind i number → seat ≡ number % length lists
   seated zero number i there counted = sym (mod_one number)
-  seated (suc seat) number i there counted = absurd (omega (arith, there.1.0))
+  seated (suc seat) number i there counted = absurd (omega (arith, there.1))
 
-  -- by the journals of the shards
+  here : (shard : ℕ) (es : List Entry) → IsPart lists round.whose (0 + shard) moment (map without_claim es) → IsPart lists round.whose shard moment (map without_claim es)
+  here shard es part =
+      let same : 0 + shard ≡ shard = omega arith in
+      subst (λ (n : ℕ). IsPart lists round.whose n moment (map without_claim es)) same part
+
   pub round_is_traced : IsTracedRound r (standing_before shards pool) moment lists (rounds_in round.shards) (all_loose 0 lists round.whose) (standing_after shards round)
   round_is_traced =
       let same = rounds_are round.shards in
@@ -372,6 +376,7 @@ module _ (r : Rules) (shards : List (ShardView ShardState Entry)) (pool : PlainV
         items = record {
           each = λ seat place.
               ap (λ (xs : List (List Entry)). filter (stands_at seat place) (flat_map (λ (es : List Entry). map entry_stood es) xs ++ map loose_stood (all_loose 0 lists round.whose))) same
+              ∙ filter-append (stands_at seat place) (flat_map (λ (es : List Entry). map entry_stood es) (map entries_of round.shards)) (map loose_stood (all_loose 0 lists round.whose))
               ∙ listed seat place lists round.whose moment round.shards is.dealt.parts (zip_length (AllZip Own) lists round.whose is.dealt.whose) (of_lists seat place);
           seats = seated;
         };
@@ -379,7 +384,7 @@ module _ (r : Rules) (shards : List (ShardView ShardState Entry)) (pool : PlainV
         whose = record {
           stand = λ shard es at.
               may_stand r pool.table round.claimed.table lists round.whose shard moment es
-              (part_at lists round.whose moment 0 shard round.shards es is.dealt.parts (ap (λ (xs : List (List Entry)). slice_get xs shard) (sym same) ∙ at))
+              (here shard es (part_at lists round.whose moment 0 shard round.shards es is.dealt.parts (ap (λ (xs : List (List Entry)). slice_get xs shard) (sym same) ∙ at)))
               is.dealt.whose;
           left = all_may_leave r pool.table round.claimed.table 0 lists round.whose is.dealt.whose;
         };
