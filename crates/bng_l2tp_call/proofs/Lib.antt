@@ -1,4 +1,4 @@
-pub mod Placing
+
 pub mod Table
 pub mod Codes
 pub mod Soundness

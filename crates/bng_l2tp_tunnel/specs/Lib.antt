@@ -1,5 +1,4 @@
-pub mod Values
-pub mod View
+
 pub mod Messages
 pub mod TunnelState
 pub mod Refusals

@@ -1,4 +1,4 @@
-pub mod Numbers
+
 pub mod LacState
 pub mod Messages
 pub mod Refusals
