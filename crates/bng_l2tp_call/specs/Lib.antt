@@ -1,4 +1,3 @@
-
 pub mod Messages
 pub mod CallState
 pub mod Refusals

@@ -1,4 +1,3 @@
-
 pub mod Sizes
 pub mod Waiting
 pub mod Flights

@@ -1,4 +1,3 @@
-
 pub mod Messages
 pub mod TunnelState
 pub mod Refusals

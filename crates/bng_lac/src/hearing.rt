@@ -17,9 +17,7 @@ use crate::tunnel::LacTunnel;
 use arrayvec::ArrayVec;
 use bng_base::TunnelStep;
 use bng_l2tp_reliable::{Channel, Heard, Queued};
-use bng_l2tp_tunnel::{
-    Acknowledging, Refusal, code_of, has_other_version, is_zlb, stop_ccn, zlb,
-};
+use bng_l2tp_tunnel::{Acknowledging, Refusal, code_of, has_other_version, is_zlb, stop_ccn, zlb};
 use bng_l2tp_wire::judge::has_unknown;
 use bng_l2tp_wire::kind::{ASSIGNED_TUNNEL_ID, CHALLENGE};
 use bng_l2tp_wire::message::{SCCRP, STOP_CCN};
