@@ -4,7 +4,7 @@ ghost use Rattle.std.specs.List.{AllByRecursion};
 ghost use Rattle.arrayvec.specs.ArrayVec.{array_vec_len};
 ghost use Rattle.bng_l2tp_tunnel.specs.Outs.{zlb, or_zlb};
 ghost use Rattle.bng_l2tp_tunnel.specs.Sound.{IsTunnel};
-ghost use Rattle.bng_l2tp_wire.specs.View.{sends, payloads, said};
+ghost use Rattle.bng_l2tp_wire.specs.View.{payloads, said};
 ghost use Rattle.bng_l2tp_tunnel.specs.Steps.{to_peer};
 ghost use Rattle.bng_l2tp_tunnel.specs.TunnelState.{lasting_of};
 ghost use Rattle.bng_lns.specs.Places.{place_of, IsPlace};

@@ -2,7 +2,7 @@ ghost use Rattle.std.specs.Prelude.{◌≡◌, ◌<◌, ◌≤◌, [], true, fal
 ghost use Rattle.std.specs.List.{AllByRecursion};
 ghost use Rattle.std.specs.Option.{option_copied};
 ghost use Rattle.bng_l2tp_wire.specs.View.{control_of, payloads, said};
-ghost use Rattle.bng_l2tp_wire.specs.Judge.{is_type};
+ghost use Rattle.bng_l2tp_wire.specs.Judge.{is_type as is_of_type};
 ghost use Rattle.bng_l2tp_tunnel.specs.Sound.{IsTunnel, IsSpelled};
 ghost use Rattle.bng_l2tp_tunnel.specs.Steps.{stands, message_step};
 ghost use Rattle.bng_l2tp_tunnel.specs.TunnelState.{TunnelState};
@@ -27,6 +27,7 @@ use bng_base::{Lac, TunnelNo, TunnelStep};
 use bng_l2tp_call::Call;
 use bng_l2tp_tunnel::Tunnel;
 use bng_l2tp_wire::Control;
+use bng_l2tp_wire::judge::is_type;
 use bng_l2tp_wire::message::SCCRQ;
 use bng_l2tp_wire::values::message_type;
 use std::alloc::{AllocError, Global};
@@ -56,12 +57,9 @@ impl Model for Tunnels {
 
 // Whether a message asks for a tunnel.
 fn is_request(message: &Control<'_>) -> bool
-    ensures { result ≡ is_type (type_of (control_of message.now).avps) SCCRQ }
+    ensures { result ≡ is_of_type (type_of (control_of message.now).avps) SCCRQ }
 {
-    match message_type(message) {
-        Some(found) => found == SCCRQ,
-        None => false,
-    }
+    is_type(message_type(message), SCCRQ)
 }
 
 impl Tunnels {
