@@ -33,7 +33,7 @@ use Rattle.bng_forward.specs.Fates.{Carries, Found, Holders, IsCorePacket, IsFra
 use Rattle.bng_forward.specs.Framed.{IsFrameTo, circuit_frame, session_frame}
 use Rattle.bng_forward.specs.Packets.{IsPassedOn}
 use Rattle.bng_l2tp_call.specs.Steps.{to_peer}
-use Rattle.bng_l2tp_tunnel.specs.View.{Said}
+use Rattle.bng_l2tp_wire.specs.View.{Said}
 use Rattle.bng_l2tp_wire.specs.Messages.{ControlMessage, DataMessage}
 use Rattle.bng_lns.specs.Datagrams.{CarriesOver, IsDataIn}
 use Rattle.bng_lns.specs.Framed.{IsCallFrameTo, call_frame}

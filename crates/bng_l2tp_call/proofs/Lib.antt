@@ -1,4 +1,3 @@
-pub mod Placing
 pub mod Table
 pub mod Codes
 pub mod Soundness

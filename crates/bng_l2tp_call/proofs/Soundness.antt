@@ -1,19 +1,21 @@
 -- Each step of a call is sound.
 use Rattle.std.proofs.Common.{◌≢◌, ◌≡◌, ℕ, ◌==◌, Bool, true, false, ◌&&◌, ◌||◌, not, cond, Option, None, Some, List, length, refl, sym, ap, subst, ◌∙◌, ◌≤◌, lit≤, arith}
 use Rattle.std.specs.Prelude.{IsSome, unwrap_or}
-use Rattle.std.proofs.lemmas.Bool.{eq-eqb}
-use Rattle.byteorder.specs.Endian.{big_from}
+use Rattle.std.proofs.lemmas.Bool.{eq-eqb, or_parts}
 use Rattle.bng_l2tp_wire.specs.Avps.{L2tpAvp}
 use Rattle.bng_l2tp_wire.specs.Messages.{ControlMessage, control_text}
 use Rattle.bng_l2tp_call.specs.declared.phase.Phase.{Phase}
 use Rattle.bng_l2tp_call.specs.declared.phase.Phase.TheVariants.{Idle, WaitConnect, Established, Ended}
 use Rattle.bng_l2tp_call.specs.declared.refusal.Refusal.{Refusal}
 use Rattle.bng_l2tp_call.specs.declared.refusal.Refusal.TheVariants.{UnknownAvp, WrongAvp, SequencingRequired, NoSlot}
-use Rattle.bng_l2tp_call.specs.Numbers.{icrq_type, iccn_type, assigned_session_id_avp, call_serial_number_avp}
-use Rattle.bng_l2tp_call.specs.Values.{number_in, value_of, message_type, assigned_session}
-use Rattle.bng_l2tp_call.specs.Messages.{is_wrong, lacks_needed, has_unreadable}
+use Rattle.bng_l2tp_wire.specs.declared.message.TheConstants.{ICRQ, ICCN}
+use Rattle.bng_l2tp_wire.specs.declared.kind.TheConstants.{ASSIGNED_SESSION_ID, CALL_SERIAL_NUMBER}
+use Rattle.bng_l2tp_wire.specs.Values.{value_of, message_type, assigned_session, has_unreadable}
+use Rattle.bng_l2tp_wire.specs.Judge.{is_wrong, has_unknown}
+use Rattle.bng_l2tp_wire.proofs.Judging.{first_none, number_there}
+use Rattle.bng_l2tp_call.specs.Messages.{lacks_needed}
 use Rattle.bng_l2tp_call.specs.CallState.{CallState, is_idle, is_waiting, is_established, is_ended, stands, rank}
-use Rattle.bng_l2tp_call.specs.Refusals.{has_unknown, has_wrong_avp, asks_for_sequencing, lacks_slot, refusal_of}
+use Rattle.bng_l2tp_call.specs.Refusals.{has_wrong_avp, asks_for_sequencing, lacks_slot, refusal_of}
 use Rattle.bng_l2tp_call.specs.Spelling.{icrp, cdn, code_of, administrative}
 use Rattle.bng_l2tp_call.specs.Steps.{Step, nothing, tells, ends, to_peer, number_of, addressed, refuses, replies, opens, IsAccepted, Hears, passed, refused, requested, connected, disconnected, error_notified, link_set, end_step}
 use Rattle.bng_l2tp_call.specs.Sound.{IsSound}
@@ -22,14 +24,6 @@ use Rattle.bng_l2tp_call.proofs.Table.{Takes, icrq_idle, iccn_waiting, cdn_waiti
 and_false : (b : Bool) → false ≡ (b && false)
 and_false true = refl
 and_false false = refl
-
-or_false : (a b : Bool) → (a || b) ≡ false → (a ≡ false) × (b ≡ false)
-or_false true b e = absurd cc
-or_false false b e = (refl, e)
-
-not_false : (b : Bool) → not b ≡ false → b ≡ true
-not_false true e = refl
-not_false false e = absurd cc
 
 -- the phases that a step tells of
 stays : (p : Phase) → (false ≡ (is_waiting p && is_established p)) × (false ≡ (not (is_ended p) && is_ended p))
@@ -41,7 +35,7 @@ stays Ended = (refl, refl)
 other_type : (a b : ℕ) → Some a ≡ Some b → a ≡ b
 other_type a b e = ap (λ (o : Option ℕ). unwrap_or o 0) e
 
-idle_of : (p : Phase) (type : Option ℕ) → Takes p type → type ≡ Some icrq_type → p ≡ Idle
+idle_of : (p : Phase) (type : Option ℕ) → Takes p type → type ≡ Some ICRQ → p ≡ Idle
 idle_of p type icrq_idle e = refl
 idle_of p type iccn_waiting e = absurd (let h = other_type 12 10 e in omega arith)
 idle_of p type cdn_waiting e = absurd (let h = other_type 14 10 e in omega arith)
@@ -51,7 +45,7 @@ idle_of p type wen_established e = absurd (let h = other_type 15 10 e in omega a
 idle_of p type sli_waiting e = absurd (let h = other_type 16 10 e in omega arith)
 idle_of p type sli_established e = absurd (let h = other_type 16 10 e in omega arith)
 
-waiting_of : (p : Phase) (type : Option ℕ) → Takes p type → type ≡ Some iccn_type → p ≡ WaitConnect
+waiting_of : (p : Phase) (type : Option ℕ) → Takes p type → type ≡ Some ICCN → p ≡ WaitConnect
 waiting_of p type icrq_idle e = absurd (let h = other_type 10 12 e in omega arith)
 waiting_of p type iccn_waiting e = refl
 waiting_of p type cdn_waiting e = refl
@@ -73,10 +67,6 @@ going_on p type sli_established = refl
 
 -- What holds of a message that is not refused ------------------------------------------------------------------------------------------------
 
-first_none : (b : Bool) (r : Refusal) (rest : Option Refusal) → cond b (Some r) rest ≡ None → (b ≡ false) × (rest ≡ None)
-first_none true r rest e = absurd cc
-first_none false r rest e = (refl, e)
-
 pub record IsRight (s : CallState) (avps : List L2tpAvp) : Type 0 where
   pub wrong : has_wrong_avp s.secret (message_type avps) avps ≡ false
   pub slot : lacks_slot s.session (message_type avps) ≡ false
@@ -90,24 +80,16 @@ right s avps e =
     let d = first_none (lacks_slot s.session (message_type avps)) _ _ c.1 in
     record { wrong = b.0; slot = d.0 }
 
-some_if : (n : ℕ) (b : Bool) → b ≡ true → IsSome {T = ℕ} (cond b (Some n) None)
-some_if n true e = refl
-some_if n false e = absurd cc
-
-number_there : (value : Option (List ℕ)) → is_wrong assigned_session_id_avp value ≡ false → IsSome (number_in value)
-number_there None e = absurd cc
-number_there (Some value) e = some_if (big_from 0 2 value) (length value == 2) (not_false (length value == 2) e)
-
 -- an ICRQ that is not refused has the peer's session
-has_session : (s : CallState) (avps : List L2tpAvp) → message_type avps ≡ Some icrq_type → has_wrong_avp s.secret (message_type avps) avps ≡ false → IsSome (assigned_session s.secret avps)
+has_session : (s : CallState) (avps : List L2tpAvp) → message_type avps ≡ Some ICRQ → has_wrong_avp s.secret (message_type avps) avps ≡ false → IsSome (assigned_session s.secret avps)
 has_session s avps e w =
-    let all : (lacks_needed s.secret (Some icrq_type) avps || has_unreadable s.secret avps) ≡ false = subst (λ (x : Option ℕ). has_wrong_avp s.secret x avps ≡ false) e w in
-    let needed : (is_wrong assigned_session_id_avp (value_of s.secret assigned_session_id_avp avps) || (is_wrong call_serial_number_avp (value_of s.secret call_serial_number_avp avps) || false)) ≡ false =
-    (or_false _ false (or_false _ _ all).0).0 in
-    number_there (value_of s.secret assigned_session_id_avp avps) (or_false (is_wrong assigned_session_id_avp (value_of s.secret assigned_session_id_avp avps)) _ needed).0
+    let all : (lacks_needed s.secret (Some ICRQ) avps || has_unreadable s.secret avps) ≡ false = subst (λ (x : Option ℕ). has_wrong_avp s.secret x avps ≡ false) e w in
+    let needed : (is_wrong ASSIGNED_SESSION_ID (value_of s.secret ASSIGNED_SESSION_ID avps) || (is_wrong CALL_SERIAL_NUMBER (value_of s.secret CALL_SERIAL_NUMBER avps) || false)) ≡ false =
+    (or_parts _ false (or_parts _ _ all).0).0 in
+    number_there ASSIGNED_SESSION_ID (value_of s.secret ASSIGNED_SESSION_ID avps) (λ (octets : List ℕ). refl) (or_parts (is_wrong ASSIGNED_SESSION_ID (value_of s.secret ASSIGNED_SESSION_ID avps)) _ needed).0
 
 -- an ICRQ that is not refused has a number to give
-has_slot : (s : CallState) (avps : List L2tpAvp) → message_type avps ≡ Some icrq_type → lacks_slot s.session (message_type avps) ≡ false → s.session ≢ 0
+has_slot : (s : CallState) (avps : List L2tpAvp) → message_type avps ≡ Some ICRQ → lacks_slot s.session (message_type avps) ≡ false → s.session ≢ 0
 has_slot s avps e l = λ zero_is.
     let lacks : (s.session == 0) ≡ false = subst (λ (x : Option ℕ). lacks_slot s.session x ≡ false) e l in
     absurd (let yes = eq-eqb s.session 0 zero_is in cc)
@@ -249,7 +231,7 @@ module _ (s : CallState) (m : ControlMessage) where
   number_read e there =
       subst (λ (p : Phase). IsSome (cond (is_idle p) (record s { peer_number = assigned_session s.secret m.avps }) s).peer_number) (sym e) there
 
-  requested_sound : IsAccepted s m icrq_type → IsSound s (replies s m.avps)
+  requested_sound : IsAccepted s m ICRQ → IsSound s (replies s m.avps)
   requested_sound a =
       let r = right s m.avps a.right in
       let idle = idle_of s.phase (message_type m.avps) (takes s.phase (message_type m.avps) a.taken) a.type_is in

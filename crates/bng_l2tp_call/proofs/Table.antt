@@ -1,14 +1,16 @@
 -- One message has one outcome.
-use Rattle.std.proofs.Common.{◌≡◌, ℕ, Bool, true, false, ◌&&◌, ◌||◌, cond, ◌⊎◌, inl, inr, Option, None, Some, List, [], ◌∷◌, refl, sym, ap, subst, ◌∙◌}
+use Rattle.std.proofs.Common.{◌≡◌, ℕ, Bool, true, false, ◌&&◌, ◌||◌, cond, inl, inr, Option, None, Some, List, [], ◌∷◌, refl, sym, ap, subst, ◌∙◌}
 use Rattle.std.specs.List.{list_any}
-use Rattle.std.proofs.lemmas.Bool.{eqb-true}
+use Rattle.std.proofs.lemmas.Bool.{or_cases, and_parts}
 use Rattle.bng_l2tp_wire.specs.Messages.{ControlMessage}
+use Rattle.bng_l2tp_wire.proofs.Judging.{type_is}
 use Rattle.bng_l2tp_call.specs.declared.phase.Phase.{Phase}
 use Rattle.bng_l2tp_call.specs.declared.phase.Phase.TheVariants.{Idle, WaitConnect, Established, Ended}
 use Rattle.bng_l2tp_call.specs.declared.refusal.Refusal.{Refusal}
-use Rattle.bng_l2tp_call.specs.Numbers.{icrq_type, iccn_type, cdn_type, wen_type, sli_type}
-use Rattle.bng_l2tp_call.specs.Values.{message_type}
-use Rattle.bng_l2tp_call.specs.Messages.{is_type, is_taken, same_phase}
+use Rattle.bng_l2tp_wire.specs.declared.message.TheConstants.{ICRQ, ICCN, CDN, WEN, SLI}
+use Rattle.bng_l2tp_wire.specs.Values.{message_type}
+use Rattle.bng_l2tp_wire.specs.Judge.{is_type}
+use Rattle.bng_l2tp_call.specs.Messages.{is_taken, same_phase}
 use Rattle.bng_l2tp_call.specs.CallState.{CallState}
 use Rattle.bng_l2tp_call.specs.Refusals.{refusal_of, IsRefused}
 use Rattle.bng_l2tp_call.specs.Steps.{Step, nothing, refuses, IsAccepted, Hears, passed, refused, requested, connected, disconnected, error_notified, link_set}
@@ -16,44 +18,32 @@ use Rattle.bng_l2tp_call.specs.Cases.{accepted, judged, message_step}
 
 -- the phases and the messages that are taken in them
 pub data Takes : Phase → Option ℕ → Type 0 where
-  icrq_idle : Takes Idle (Some icrq_type)
-  iccn_waiting : Takes WaitConnect (Some iccn_type)
-  cdn_waiting : Takes WaitConnect (Some cdn_type)
-  cdn_established : Takes Established (Some cdn_type)
-  wen_waiting : Takes WaitConnect (Some wen_type)
-  wen_established : Takes Established (Some wen_type)
-  sli_waiting : Takes WaitConnect (Some sli_type)
-  sli_established : Takes Established (Some sli_type)
-
-pub or_cases : (a b : Bool) → (a || b) ≡ true → (a ≡ true) ⊎ (b ≡ true)
-or_cases true b e = inl refl
-or_cases false b e = inr e
-
-pub and_cases : (a b : Bool) → (a && b) ≡ true → (a ≡ true) × (b ≡ true)
-and_cases true b e = (refl, e)
-and_cases false b e = absurd cc
-
-pub type_is : (type : Option ℕ) (wanted : ℕ) → is_type type wanted ≡ true → type ≡ Some wanted
-type_is None wanted e = absurd cc
-type_is (Some type) wanted e = ap (λ (n : ℕ). Some n) (eqb-true type wanted e)
+  icrq_idle : Takes Idle (Some ICRQ)
+  iccn_waiting : Takes WaitConnect (Some ICCN)
+  cdn_waiting : Takes WaitConnect (Some CDN)
+  cdn_established : Takes Established (Some CDN)
+  wen_waiting : Takes WaitConnect (Some WEN)
+  wen_established : Takes Established (Some WEN)
+  sli_waiting : Takes WaitConnect (Some SLI)
+  sli_established : Takes Established (Some SLI)
 
 -- a row of the table, and the rows after it
 by_row : (p : Phase) (type : Option ℕ) (wanted : ℕ) (phases : List Phase) (rest : Bool) → (list_any (same_phase p) phases ≡ true → Takes p (Some wanted)) → (rest ≡ true → Takes p type)
     → (is_type type wanted && list_any (same_phase p) phases || rest) ≡ true → Takes p type
 by_row p type wanted phases rest here later e =
     elim (or_cases (is_type type wanted && list_any (same_phase p) phases) rest e) [
-      | inl row ↦ (let both = and_cases (is_type type wanted) (list_any (same_phase p) phases) row in
+      | inl row ↦ (let both = and_parts (is_type type wanted) (list_any (same_phase p) phases) row in
           subst (λ (x : Option ℕ). Takes p x) (sym (type_is type wanted both.0)) (here both.1))
       | inr rows ↦ later rows
     ]
 
-at_idle : (p : Phase) → list_any (same_phase p) (Idle ∷ []) ≡ true → Takes p (Some icrq_type)
+at_idle : (p : Phase) → list_any (same_phase p) (Idle ∷ []) ≡ true → Takes p (Some ICRQ)
 at_idle Idle e = icrq_idle
 at_idle WaitConnect e = absurd cc
 at_idle Established e = absurd cc
 at_idle Ended e = absurd cc
 
-at_waiting : (p : Phase) → list_any (same_phase p) (WaitConnect ∷ []) ≡ true → Takes p (Some iccn_type)
+at_waiting : (p : Phase) → list_any (same_phase p) (WaitConnect ∷ []) ≡ true → Takes p (Some ICCN)
 at_waiting Idle e = absurd cc
 at_waiting WaitConnect e = iccn_waiting
 at_waiting Established e = absurd cc
@@ -67,11 +57,11 @@ at_standing type waiting established Ended e = absurd cc
 
 pub takes : (p : Phase) (type : Option ℕ) → is_taken p type ≡ true → Takes p type
 takes p type e =
-    by_row p type icrq_type (Idle ∷ []) _ (at_idle p)
-    (by_row p type iccn_type (WaitConnect ∷ []) _ (at_waiting p)
-    (by_row p type cdn_type (WaitConnect ∷ Established ∷ []) _ (at_standing cdn_type cdn_waiting cdn_established p)
-    (by_row p type wen_type (WaitConnect ∷ Established ∷ []) _ (at_standing wen_type wen_waiting wen_established p)
-    (by_row p type sli_type (WaitConnect ∷ Established ∷ []) false (at_standing sli_type sli_waiting sli_established p) (λ no. absurd cc))))) e
+    by_row p type ICRQ (Idle ∷ []) _ (at_idle p)
+    (by_row p type ICCN (WaitConnect ∷ []) _ (at_waiting p)
+    (by_row p type CDN (WaitConnect ∷ Established ∷ []) _ (at_standing CDN cdn_waiting cdn_established p)
+    (by_row p type WEN (WaitConnect ∷ Established ∷ []) _ (at_standing WEN wen_waiting wen_established p)
+    (by_row p type SLI (WaitConnect ∷ Established ∷ []) false (at_standing SLI sli_waiting sli_established p) (λ no. absurd cc))))) e
 
 module _ (s : CallState) (m : ControlMessage) where
   -- a message that is accepted does what its row says
@@ -115,11 +105,11 @@ module _ (s : CallState) (m : ControlMessage) where
   unfolding message_step
   hears_is (passed e) = sym (ap (λ (b : Bool). cond b (judged s (message_type m.avps) m.avps (refusal_of s m.avps)) (nothing s)) e)
   hears_is (refused {cause} r) = sym (refused_step cause r)
-  hears_is (requested a) = sym (accepted_step icrq_type a)
-  hears_is (connected a) = sym (accepted_step iccn_type a)
-  hears_is (disconnected a) = sym (accepted_step cdn_type a)
-  hears_is (error_notified a) = sym (accepted_step wen_type a)
-  hears_is (link_set a) = sym (accepted_step sli_type a)
+  hears_is (requested a) = sym (accepted_step ICRQ a)
+  hears_is (connected a) = sym (accepted_step ICCN a)
+  hears_is (disconnected a) = sym (accepted_step CDN a)
+  hears_is (error_notified a) = sym (accepted_step WEN a)
+  hears_is (link_set a) = sym (accepted_step SLI a)
 
   pub one_outcome : (a b : Step) → Hears s m a → Hears s m b → a ≡ b
   one_outcome a b first second = hears_is first ∙ sym (hears_is second)

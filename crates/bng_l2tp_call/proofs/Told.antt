@@ -4,10 +4,11 @@ use Rattle.bng_l2tp_wire.specs.Messages.{ControlMessage, control_text}
 use Rattle.bng_l2tp_call.specs.declared.phase.Phase.{Phase}
 use Rattle.bng_l2tp_call.specs.declared.phase.Phase.TheVariants.{Idle, WaitConnect, Established, Ended}
 use Rattle.bng_l2tp_call.specs.declared.refusal.Refusal.{Refusal}
-use Rattle.bng_l2tp_call.specs.Numbers.{icrq_type, iccn_type, cdn_type, wen_type, sli_type}
-use Rattle.bng_l2tp_call.specs.Values.{message_type, assigned_session}
-use Rattle.bng_l2tp_call.specs.View.{Said}
-use Rattle.bng_l2tp_call.specs.Messages.{is_type, is_taken}
+use Rattle.bng_l2tp_wire.specs.declared.message.TheConstants.{ICRQ, ICCN, CDN, WEN, SLI}
+use Rattle.bng_l2tp_wire.specs.Values.{message_type, assigned_session}
+use Rattle.bng_l2tp_wire.specs.View.{Said}
+use Rattle.bng_l2tp_wire.specs.Judge.{is_type}
+use Rattle.bng_l2tp_call.specs.Messages.{is_taken}
 use Rattle.bng_l2tp_call.specs.CallState.{CallState, is_idle, stands}
 use Rattle.bng_l2tp_call.specs.Refusals.{IsRefused}
 use Rattle.bng_l2tp_call.specs.Spelling.{cdn, code_of, administrative, TellsCode, TellsReply}
@@ -40,7 +41,7 @@ module _ (s : CallState) (m : ControlMessage) where
   }
 
   -- an ICRP goes out only where an ICRQ is accepted
-  pub told_reply : {step : Step} → Hears s m step → TellsReply step.said.outs → IsAccepted s m icrq_type
+  pub told_reply : {step : Step} → Hears s m step → TellsReply step.said.outs → IsAccepted s m ICRQ
   told_reply (passed e) t = absurd (let h = t.text in cc)
   told_reply (refused {cause = other} r) t =
       absurd (icrp_tells_none t.session t.number (to_peer (addressed s m.avps)) (number_of s) other (sym (first_text _ _ t.text)))
@@ -50,7 +51,7 @@ module _ (s : CallState) (m : ControlMessage) where
   told_reply (error_notified a) t = absurd (let h = t.text in cc)
   told_reply (link_set a) t = absurd (let h = t.text in cc)
 
-  pub reply_told : {step : Step} → Hears s m step → IsAccepted s m icrq_type → TellsReply step.said.outs
+  pub reply_told : {step : Step} → Hears s m step → IsAccepted s m ICRQ → TellsReply step.said.outs
   reply_told h a = record {
     session = to_peer (addressed s m.avps);
     number = s.session;
@@ -72,7 +73,7 @@ module _ (s : CallState) (m : ControlMessage) where
   last_ended h (inr r) = ap (λ (x : Step). x.said.ended) (hears_is s m h ∙ refused_step s m r.0 r.1)
 
   -- a call opens by an ICCN alone
-  pub opened_accepted : {step : Step} → Hears s m step → step.said.opened ≡ true → IsAccepted s m iccn_type
+  pub opened_accepted : {step : Step} → Hears s m step → step.said.opened ≡ true → IsAccepted s m ICCN
   opened_accepted (passed e) o = absurd cc
   opened_accepted (refused r) o = absurd cc
   opened_accepted (requested a) o = absurd cc
@@ -81,7 +82,7 @@ module _ (s : CallState) (m : ControlMessage) where
   opened_accepted (error_notified a) o = absurd cc
   opened_accepted (link_set a) o = absurd cc
 
-  pub accepted_opened : {step : Step} → Hears s m step → IsAccepted s m iccn_type → step.said.opened ≡ true
+  pub accepted_opened : {step : Step} → Hears s m step → IsAccepted s m ICCN → step.said.opened ≡ true
   accepted_opened h a = ap (λ (x : Step). x.said.opened) (hears_is s m h ∙ sym (hears_is s m (connected a)))
 
 -- what was given, and the call after it, as one step
@@ -116,8 +117,8 @@ or_first : (a b : Bool) → (a || b) ≡ false → a ≡ false
 or_first true b e = absurd cc
 or_first false b e = refl
 
-no_request : (p : Phase) (type : Option ℕ) → is_taken p type ≡ false → (is_idle p && is_type type icrq_type) ≡ false
-no_request Idle type e = and_true_false (is_type type icrq_type) (or_first (is_type type icrq_type && true) _ e)
+no_request : (p : Phase) (type : Option ℕ) → is_taken p type ≡ false → (is_idle p && is_type type ICRQ) ≡ false
+no_request Idle type e = and_true_false (is_type type ICRQ) (or_first (is_type type ICRQ && true) _ e)
 no_request WaitConnect type e = refl
 no_request Established type e = refl
 no_request Ended type e = refl
@@ -127,7 +128,7 @@ and_none true = refl
 and_none false = refl
 
 module _ (s : CallState) (m : ControlMessage) where
-  refused_number : (p : Phase) (type : Option ℕ) → Takes p type → (cond (is_idle p) (record s { peer_number = assigned_session s.secret m.avps }) s).peer_number ≡ cond (is_idle p && is_type type icrq_type) (assigned_session s.secret m.avps) s.peer_number
+  refused_number : (p : Phase) (type : Option ℕ) → Takes p type → (cond (is_idle p) (record s { peer_number = assigned_session s.secret m.avps }) s).peer_number ≡ cond (is_idle p && is_type type ICRQ) (assigned_session s.secret m.avps) s.peer_number
   refused_number p type icrq_idle = refl
   refused_number p type iccn_waiting = refl
   refused_number p type cdn_waiting = refl
@@ -137,21 +138,21 @@ module _ (s : CallState) (m : ControlMessage) where
   refused_number p type sli_waiting = refl
   refused_number p type sli_established = refl
 
-  unread : (is_idle s.phase && is_type (message_type m.avps) icrq_type) ≡ false → s.peer_number ≡ peer_number_after s m
+  unread : (is_idle s.phase && is_type (message_type m.avps) ICRQ) ≡ false → s.peer_number ≡ peer_number_after s m
   unread e = sym (ap (λ (b : Bool). cond b (assigned_session s.secret m.avps) s.peer_number) e)
 
-  other_row : (type : ℕ) → is_type (Some type) icrq_type ≡ false → message_type m.avps ≡ Some type → s.peer_number ≡ peer_number_after s m
+  other_row : (type : ℕ) → is_type (Some type) ICRQ ≡ false → message_type m.avps ≡ Some type → s.peer_number ≡ peer_number_after s m
   other_row type n e =
-      unread (ap (λ (x : Option ℕ). is_idle s.phase && is_type x icrq_type) e ∙ ap (λ (b : Bool). is_idle s.phase && b) n ∙ and_none (is_idle s.phase))
+      unread (ap (λ (x : Option ℕ). is_idle s.phase && is_type x ICRQ) e ∙ ap (λ (b : Bool). is_idle s.phase && b) n ∙ and_none (is_idle s.phase))
 
   pub hears_number : {step : Step} → Hears s m step → step.after.peer_number ≡ peer_number_after s m
   hears_number (passed e) = unread (no_request s.phase (message_type m.avps) e)
   hears_number (refused r) = refused_number s.phase (message_type m.avps) (takes s.phase (message_type m.avps) r.taken)
   hears_number (requested a) = refused_number s.phase (message_type m.avps) (takes s.phase (message_type m.avps) a.taken)
-  hears_number (connected a) = other_row iccn_type refl a.type_is
-  hears_number (disconnected a) = other_row cdn_type refl a.type_is
-  hears_number (error_notified a) = other_row wen_type refl a.type_is
-  hears_number (link_set a) = other_row sli_type refl a.type_is
+  hears_number (connected a) = other_row ICCN refl a.type_is
+  hears_number (disconnected a) = other_row CDN refl a.type_is
+  hears_number (error_notified a) = other_row WEN refl a.type_is
+  hears_number (link_set a) = other_row SLI refl a.type_is
 
   -- what was given, and the call after it, are what the message does
   pub as_step : (said : Said) (after : CallState) → said ≡ (message_step s m.avps).said → after ≡ (message_step s m.avps).after → record { said = said; after = after } ≡ message_step s m.avps

@@ -2,18 +2,19 @@
 use Rattle.std.specs.Prelude.{ℕ, if◌then◌else◌, List, Option, Some, None}
 use Rattle.bng_l2tp_wire.specs.Avps.{L2tpAvp}
 use Rattle.bng_l2tp_call.specs.declared.refusal.Refusal.{Refusal}
-use Rattle.bng_l2tp_call.specs.Numbers.{icrq_type, iccn_type, cdn_type}
-use Rattle.bng_l2tp_call.specs.Values.{message_type}
-use Rattle.bng_l2tp_call.specs.Messages.{is_type, is_taken}
+use Rattle.bng_l2tp_wire.specs.declared.message.TheConstants.{ICRQ, ICCN, CDN}
+use Rattle.bng_l2tp_wire.specs.Values.{message_type}
+use Rattle.bng_l2tp_wire.specs.Judge.{is_type}
+use Rattle.bng_l2tp_call.specs.Messages.{is_taken}
 use Rattle.bng_l2tp_call.specs.CallState.{CallState}
 use Rattle.bng_l2tp_call.specs.Refusals.{refusal_of}
 use Rattle.bng_l2tp_call.specs.Steps.{Step, nothing, ends, refuses, replies, opens}
 
 abbrev pub accepted : CallState → Option ℕ → List L2tpAvp → Step
 accepted s type avps =
-    if is_type type icrq_type then replies s avps
-    else (if is_type type iccn_type then opens s
-    else (if is_type type cdn_type then ends (nothing s)
+    if is_type type ICRQ then replies s avps
+    else (if is_type type ICCN then opens s
+    else (if is_type type CDN then ends (nothing s)
     else nothing s))
 
 abbrev pub judged : CallState → Option ℕ → List L2tpAvp → Option Refusal → Step

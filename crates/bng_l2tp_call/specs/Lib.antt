@@ -1,6 +1,3 @@
-pub mod Numbers
-pub mod Values
-pub mod View
 pub mod Messages
 pub mod CallState
 pub mod Refusals

@@ -1,21 +1,16 @@
 -- Why a message of a call is refused, by RFC 2661 sections 4.1, 4.3, 4.4.2 and 5.4: a list of cases, of which the first that holds counts.
-use Rattle.std.specs.Prelude.{◌≡◌, ℕ, Bool, true, ◌==◌, ◌&&◌, ◌||◌, not, if◌then◌else◌, List, [], ◌∷◌, Option, Some, None}
+use Rattle.std.specs.Prelude.{◌≡◌, ℕ, Bool, true, ◌==◌, ◌&&◌, ◌||◌, List, [], ◌∷◌, Option, Some}
 use Rattle.std.specs.List.{list_any}
 use Rattle.bng_l2tp_wire.specs.Avps.{L2tpAvp}
 use Rattle.bng_l2tp_wire.specs.Messages.{ControlMessage}
 use Rattle.bng_l2tp_call.specs.declared.refusal.Refusal.{Refusal}
 use Rattle.bng_l2tp_call.specs.declared.refusal.Refusal.TheVariants.{UnknownAvp, WrongAvp, SequencingRequired, NoSlot}
-use Rattle.bng_l2tp_call.specs.Numbers.{icrq_type, iccn_type, sequencing_required_avp}
-use Rattle.bng_l2tp_call.specs.Values.{is_known, is_of, message_type}
-use Rattle.bng_l2tp_call.specs.Messages.{is_type, is_taken, lacks_needed, has_unreadable}
+use Rattle.bng_l2tp_wire.specs.declared.message.TheConstants.{ICRQ, ICCN}
+use Rattle.bng_l2tp_wire.specs.declared.kind.TheConstants.{SEQUENCING_REQUIRED}
+use Rattle.bng_l2tp_wire.specs.Values.{is_of, message_type, has_unreadable}
+use Rattle.bng_l2tp_wire.specs.Judge.{is_type, has_unknown, Case, if_so, first_of}
+use Rattle.bng_l2tp_call.specs.Messages.{is_taken, lacks_needed}
 use Rattle.bng_l2tp_call.specs.CallState.{CallState}
-
--- an AVP that is not known and must be
-abbrev pub must_be_known : L2tpAvp → Bool
-must_be_known a = a.mandatory && not (is_known a)
-
-abbrev pub has_unknown : List L2tpAvp → Bool
-has_unknown avps = list_any must_be_known avps
 
 -- an AVP that must be there is missing or has a wrong length, or a hidden one cannot be read
 abbrev pub has_wrong_avp : Option (List ℕ) → Option ℕ → List L2tpAvp → Bool
@@ -23,32 +18,20 @@ has_wrong_avp secret type avps = lacks_needed secret type avps || has_unreadable
 
 -- an ICCN that wants sequence numbers in the data of its call (section 4.4.6)
 abbrev pub asks_for_sequencing : Option ℕ → List L2tpAvp → Bool
-asks_for_sequencing type avps = is_type type iccn_type && list_any (is_of sequencing_required_avp) avps
+asks_for_sequencing type avps = is_type type ICCN && list_any (is_of SEQUENCING_REQUIRED) avps
 
 -- an ICRQ for which no session may be taken
 abbrev pub lacks_slot : ℕ → Option ℕ → Bool
-lacks_slot session type = is_type type icrq_type && session == 0
-
--- a case, and what it refuses
-pub record Case : Type 0 where
-  pub holds : Bool
-  pub refusal : Refusal
-
-abbrev pub if_so : Bool → Refusal → Case
-if_so holds refusal = record { holds = holds; refusal = refusal }
+lacks_slot session type = is_type type ICRQ && session == 0
 
 -- the cases of a message of this type with these AVPs
-abbrev pub cases : CallState → Option ℕ → List L2tpAvp → List Case
+abbrev pub cases : CallState → Option ℕ → List L2tpAvp → List (Case Refusal)
 cases s type avps =
     if_so (has_unknown avps) UnknownAvp
     ∷ if_so (has_wrong_avp s.secret type avps) WrongAvp
     ∷ if_so (asks_for_sequencing type avps) SequencingRequired
     ∷ if_so (lacks_slot s.session type) NoSlot
     ∷ []
-
-abbrev pub first_of : List Case → Option Refusal
-first_of [] = None
-first_of (c ∷ cs) = if c.holds then Some c.refusal else first_of cs
 
 -- why a message that is taken is refused, where it is
 unfoldable pub refusal_of : CallState → List L2tpAvp → Option Refusal

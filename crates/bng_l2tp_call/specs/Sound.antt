@@ -2,9 +2,9 @@
 use Rattle.std.specs.Prelude.{◌≡◌, ◌≢◌, ◌≤◌, ℕ, true, false, ◌&&◌, not, if◌then◌else◌, List, [], length, Option, IsSome}
 use Rattle.std.specs.List.{AllByRecursion}
 use Rattle.bng_l2tp_wire.specs.Messages.{ControlMessage, control_text}
-use Rattle.bng_l2tp_call.specs.Numbers.{icrq_type}
-use Rattle.bng_l2tp_call.specs.Values.{message_type, assigned_session}
-use Rattle.bng_l2tp_call.specs.Messages.{is_type}
+use Rattle.bng_l2tp_wire.specs.declared.message.TheConstants.{ICRQ}
+use Rattle.bng_l2tp_wire.specs.Values.{message_type, assigned_session}
+use Rattle.bng_l2tp_wire.specs.Judge.{is_type}
 use Rattle.bng_l2tp_call.specs.CallState.{CallState, is_idle, is_waiting, is_established, is_ended, stands, rank}
 use Rattle.bng_l2tp_call.specs.Steps.{Step, to_peer}
 
@@ -44,4 +44,4 @@ pub record IsSound (s : CallState) (step : Step) : Type 0 where
 -- the peer's Assigned Session ID after a message: it is read from the first ICRQ alone
 abbrev pub peer_number_after : CallState → ControlMessage → Option ℕ
 peer_number_after s m =
-    if is_idle s.phase && is_type (message_type m.avps) icrq_type then assigned_session s.secret m.avps else s.peer_number
+    if is_idle s.phase && is_type (message_type m.avps) ICRQ then assigned_session s.secret m.avps else s.peer_number

@@ -4,9 +4,9 @@ use Rattle.bng_l2tp_wire.specs.Avps.{L2tpAvp}
 use Rattle.bng_l2tp_wire.specs.Messages.{ControlMessage, control_text}
 use Rattle.bng_l2tp_call.specs.declared.phase.Phase.TheVariants.{WaitConnect, Established, Ended}
 use Rattle.bng_l2tp_call.specs.declared.refusal.Refusal.{Refusal}
-use Rattle.bng_l2tp_call.specs.Numbers.{icrq_type, iccn_type, cdn_type, wen_type, sli_type}
-use Rattle.bng_l2tp_call.specs.Values.{message_type, assigned_session}
-use Rattle.bng_l2tp_call.specs.View.{Said}
+use Rattle.bng_l2tp_wire.specs.declared.message.TheConstants.{ICRQ, ICCN, CDN, WEN, SLI}
+use Rattle.bng_l2tp_wire.specs.Values.{message_type, assigned_session}
+use Rattle.bng_l2tp_wire.specs.View.{Said, sends}
 use Rattle.bng_l2tp_call.specs.Messages.{is_taken}
 use Rattle.bng_l2tp_call.specs.CallState.{CallState, is_idle, stands}
 use Rattle.bng_l2tp_call.specs.Refusals.{refusal_of, IsRefused}
@@ -16,10 +16,6 @@ use Rattle.bng_l2tp_call.specs.Spelling.{icrp, cdn, code_of, administrative}
 pub record Step : Type 0 where
   pub said : Said
   pub after : CallState
-
--- control messages, and nothing else
-abbrev pub sends : List (List ℕ) → Said
-sends outs = record { outs = outs; established = false; cleared = false; call = false; opened = false; ended = false; left_out = false }
 
 abbrev pub nothing : CallState → Step
 nothing s = record { said = sends []; after = s }
@@ -65,18 +61,18 @@ pub record IsAccepted (s : CallState) (m : ControlMessage) (type : ℕ) : Type 0
 
 -- the message is a CDN, or it is refused
 abbrev pub IsLast : CallState → ControlMessage → Type 0
-IsLast s m = IsAccepted s m cdn_type ⊎ ((cause : Refusal) × IsRefused s m cause)
+IsLast s m = IsAccepted s m CDN ⊎ ((cause : Refusal) × IsRefused s m cause)
 
 -- What a message does to a call: the table, with a case for each row, for each refusal and for what is not taken.
 pub data Hears (s : CallState) (m : ControlMessage) : Step → Type 0 where
   -- a message that no row of the table takes in this phase changes nothing
   passed : is_taken s.phase (message_type m.avps) ≡ false → Hears s m (nothing s)
   refused : {cause : Refusal} → IsRefused s m cause → Hears s m (refuses s m.avps cause)
-  requested : IsAccepted s m icrq_type → Hears s m (replies s m.avps)
-  connected : IsAccepted s m iccn_type → Hears s m (opens s)
-  disconnected : IsAccepted s m cdn_type → Hears s m (ends (nothing s))
-  error_notified : IsAccepted s m wen_type → Hears s m (nothing s)
-  link_set : IsAccepted s m sli_type → Hears s m (nothing s)
+  requested : IsAccepted s m ICRQ → Hears s m (replies s m.avps)
+  connected : IsAccepted s m ICCN → Hears s m (opens s)
+  disconnected : IsAccepted s m CDN → Hears s m (ends (nothing s))
+  error_notified : IsAccepted s m WEN → Hears s m (nothing s)
+  link_set : IsAccepted s m SLI → Hears s m (nothing s)
 
 -- the gateway ends the call
 unfoldable pub end_step : CallState → Step

@@ -1,25 +1,26 @@
-ghost use Rattle.std.specs.Prelude.{◌≡◌, ◌↔◌, true, IsTrue};
-ghost use Rattle.bng_l2tp_wire.specs.View.{avps_of, control_of};
-ghost use Rattle.bng_l2tp_call.specs.View.{octets_of, payloads, said};
-ghost use Rattle.bng_l2tp_call.specs.Numbers.{icrq_type, iccn_type};
+ghost use Rattle.std.specs.Prelude.{◌≡◌, ◌↔◌, [], ◌∷◌, true, IsTrue};
+ghost use Rattle.bng_l2tp_wire.specs.View.{avps_of, control_of, octets_of, payloads, said, sends as says_to_send};
+ghost use Rattle.bng_l2tp_wire.specs.declared.message.TheConstants.{ICRQ, ICCN};
 ghost use Rattle.bng_l2tp_call.specs.CallState.{fresh, stands, is_established};
-ghost use Rattle.bng_l2tp_call.specs.Values.{message_type};
+ghost use Rattle.bng_l2tp_wire.specs.Values.{message_type};
 ghost use Rattle.bng_l2tp_call.specs.Refusals.{refusal_of, IsRefused};
 ghost use Rattle.bng_l2tp_call.specs.Spelling.{code_of as code_of_refusal, administrative as code_of_end, TellsCode, TellsReply};
 ghost use Rattle.bng_l2tp_call.specs.Steps.{Step, Hears, IsAccepted, IsLast, to_peer, number_of, addressed, refuses, replies, opens, ends, end_step};
 ghost use Rattle.bng_l2tp_call.specs.Cases.{accepted, message_step};
 ghost use Rattle.bng_l2tp_call.specs.Sound.{IsCall, IsSound, peer_number_after};
 
-use crate::judge::{asks_for_sequencing, has_unknown, has_wrong_avp, is_taken, lacks_slot};
+use crate::judge::{asks_for_sequencing, has_wrong_avp, is_taken, lacks_slot};
 use crate::phase::Phase;
 use crate::refusal::{Refusal, administrative, code_of};
 use crate::spelling::{cdn, icrp};
-use crate::step::{ended, nothing, opened, sends};
-use crate::values::{number_at, type_in};
 use arrayvec::ArrayVec;
-use bng_base::{SessionNo, TunnelStep};
+use bng_base::{Frame, SessionNo, TunnelStep};
+use bng_l2tp_wire::judge::has_unknown;
 use bng_l2tp_wire::kind::ASSIGNED_SESSION_ID;
 use bng_l2tp_wire::message::{CDN, ICCN, ICRQ};
+use bng_l2tp_wire::secret::copied_secret;
+use bng_l2tp_wire::step::{ended, nothing, opened};
+use bng_l2tp_wire::values::{number_at, type_in};
 use bng_l2tp_wire::{Avp, Control};
 use std::marker::Model;
 
@@ -36,7 +37,7 @@ pub struct Call {
 
 impl Model for Call {
     ghost use Rattle.bng_l2tp_call.specs.CallState.{CallState};
-    ghost use Rattle.bng_l2tp_call.specs.View.{octets_of};
+    ghost use Rattle.bng_l2tp_wire.specs.View.{octets_of};
 
     ghost Value = { CallState };
 
@@ -48,17 +49,13 @@ impl Model for Call {
     } };
 }
 
-// The same secret once more.
-fn copied(secret: &Option<ArrayVec<u8, 64>>) -> Option<ArrayVec<u8, 64>>
-    ensures { octets_of result ≡ octets_of secret.now }
+// A step that sends this message, and tells nothing else.
+fn sends(message: Frame) -> TunnelStep
+    ensures { said result ≡ says_to_send (message.payload ∷ []) }
 {
-    let Some(secret) = secret else {
-        return None;
-    };
-    let Ok(list) = ArrayVec::try_from(secret.as_slice()) else {
-        unreachable!();
-    };
-    Some(list)
+    let mut step = nothing();
+    step.outs.push(message);
+    step
 }
 
 impl Call {
@@ -69,7 +66,7 @@ impl Call {
         ensures sound { IsCall result }
     {
         Call {
-            secret: copied(secret),
+            secret: copied_secret(secret),
             session,
             phase: Phase::Idle,
             peer_number: None,
@@ -92,8 +89,8 @@ impl Call {
         ensures only { (step : Step) → Hears self.old (control_of message.now) step → step ≡ record { said = said result; after = self.new } }
         ensures sound { IsSound self.old (record { said = said result; after = self.new }) }
         ensures refused { (cause : Refusal) → IsRefused self.old (control_of message.now) cause ↔ TellsCode (code_of_refusal cause) (payloads result.outs.items) }
-        ensures replied { IsAccepted self.old (control_of message.now) icrq_type ↔ TellsReply (payloads result.outs.items) }
-        ensures opened { IsTrue result.opened ↔ IsAccepted self.old (control_of message.now) iccn_type }
+        ensures replied { IsAccepted self.old (control_of message.now) ICRQ ↔ TellsReply (payloads result.outs.items) }
+        ensures opened { IsTrue result.opened ↔ IsAccepted self.old (control_of message.now) ICCN }
         ensures ended { IsTrue result.ended ↔ IsLast self.old (control_of message.now) }
         ensures number { self.new.peer_number ≡ peer_number_after self.old (control_of message.now) }
     {

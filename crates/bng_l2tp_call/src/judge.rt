@@ -1,30 +1,18 @@
 ghost use Rattle.std.specs.Prelude.{◌≡◌};
-ghost use Rattle.bng_l2tp_wire.specs.View.{avp_of, avps_of};
-ghost use Rattle.bng_l2tp_call.specs.Values.{is_known as is_known_avp, value_of as value_in_message};
-ghost use Rattle.bng_l2tp_call.specs.View.{octets_of};
-ghost use Rattle.bng_l2tp_call.specs.Messages.{is_type as is_of_type, is_taken as is_taken_in, has_right_length as is_right_length, is_wrong as is_wrong_value, lacks_needed as lacks};
-ghost use Rattle.bng_l2tp_call.specs.Refusals.{must_be_known as must_be, has_unknown as has_one_unknown, has_wrong_avp as has_wrong_one, asks_for_sequencing as wants_sequencing, lacks_slot as lacks_a_slot};
+ghost use Rattle.bng_l2tp_wire.specs.View.{avps_of, octets_of};
+ghost use Rattle.bng_l2tp_call.specs.Messages.{is_taken as is_taken_in, lacks_needed as lacks};
+ghost use Rattle.bng_l2tp_call.specs.Refusals.{has_wrong_avp as has_wrong_one, asks_for_sequencing as wants_sequencing, lacks_slot as lacks_a_slot};
 
 use crate::phase::Phase;
-use crate::placed::{has, has_unreadable};
-use crate::values::value_of;
 use arrayvec::ArrayVec;
 use bng_l2tp_wire::Avp;
+use bng_l2tp_wire::judge::{is_type, is_wrong};
 use bng_l2tp_wire::kind::{
     ASSIGNED_SESSION_ID, CALL_SERIAL_NUMBER, FRAMING_TYPE, RESULT_CODE, SEQUENCING_REQUIRED,
     TX_CONNECT_SPEED,
 };
 use bng_l2tp_wire::message::{CDN, ICCN, ICRQ, SLI, WEN};
-
-/// Whether a message of this type is of the wanted one.
-pub fn is_type(found: Option<u16>, wanted: u16) -> bool
-    ensures { result ≡ is_of_type found wanted }
-{
-    match found {
-        Some(found) => found == wanted,
-        None => false,
-    }
-}
+use bng_l2tp_wire::placed::{has, has_unreadable};
 
 /// Whether a call takes a message of this type in this phase (RFC 2661 section 7.4.2).
 pub fn is_taken(phase: Phase, found: Option<u16>) -> bool
@@ -35,53 +23,6 @@ pub fn is_taken(phase: Phase, found: Option<u16>) -> bool
         Phase::WaitConnect => matches!(found, Some(ICCN | CDN | WEN | SLI)),
         Phase::Established => matches!(found, Some(CDN | WEN | SLI)),
         Phase::Ended => false,
-    }
-}
-
-fn is_known(avp: &Avp<'_>) -> bool
-    ensures { result ≡ is_known_avp (avp_of avp.now) }
-{
-    avp.vendor == 0 && avp.reserved == 0 && matches!(avp.kind, 0..=19 | 21..=39)
-}
-
-fn must_be_known(avp: &Avp<'_>) -> bool
-    ensures { result ≡ must_be (avp_of avp.now) }
-{
-    avp.mandatory && !is_known(avp)
-}
-
-/// Whether a message has an AVP that is not known and must be (RFC 2661 section 4.1).
-pub fn has_unknown(avps: &[Avp<'_>]) -> bool
-    ensures { result ≡ has_one_unknown (avps_of avps.now) }
-{
-    let mut left = avps;
-    while let [avp, after @ ..] = left {
-        if must_be_known(avp) {
-            return true;
-        }
-        left = after;
-    }
-    false
-}
-
-/// Whether a value has the right length for its Attribute Type (RFC 2661 section 4.4).
-pub fn has_right_length(kind: u16, value: &[u8]) -> bool
-    ensures { result ≡ is_right_length kind value.now }
-{
-    match kind {
-        RESULT_CODE => value.len() == 2 || value.len() >= 4,
-        ASSIGNED_SESSION_ID => value.len() == 2,
-        _ => value.len() == 4,
-    }
-}
-
-/// Whether an AVP of this Attribute Type is not there, or its value has a wrong length.
-pub fn is_wrong(avps: &[Avp<'_>], secret: &Option<ArrayVec<u8, 64>>, kind: u16) -> bool
-    ensures { result ≡ is_wrong_value kind (value_in_message (octets_of secret.now) kind (avps_of avps.now)) }
-{
-    match value_of(avps, secret, kind) {
-        Some(value) => !has_right_length(kind, value.as_slice()),
-        None => true,
     }
 }
 

@@ -2,29 +2,20 @@
 //! [`Call`] takes the control messages of one session of a tunnel and answers the control messages that the tunnel is to send.
 //! No call takes memory.
 //!
-//! `specs/Values.antt` says what the AVPs of a message say, hidden ones among them; `specs/Messages.antt` is the table of the
-//! messages that a call takes, `specs/Refusals.antt` the list of the cases in which it is refused, and `specs/Spelling.antt`
-//! what the gateway sends. `specs/Steps.antt` puts these together: a message does what `Hears` relates it to, and nothing else.
-//! The laws in `specs/Sound.antt` hold of every step: a call that stands has a number and knows the peer's, each message goes
-//! to the peer's session, and a call opens once and ends once.
+//! What AVPs say is `bng_l2tp_wire`'s. `specs/Messages.antt` is the table of the messages that a call takes,
+//! `specs/Refusals.antt` the list of the cases in which it is refused, and `specs/Spelling.antt` what the gateway sends.
+//! `specs/Steps.antt` puts these together: a message does what `Hears` relates it to, and nothing else. The laws in
+//! `specs/Sound.antt` hold of every step: a call that stands has a number and knows the peer's, each message goes to the peer's
+//! session, and a call opens once and ends once.
 #![tactic(auto)]
 
 mod call;
 mod judge;
 mod phase;
-mod placed;
 mod refusal;
 mod spelling;
-mod step;
-mod values;
 
 pub use crate::call::Call;
-pub use crate::judge::{has_right_length, has_unknown, has_wrong_avp, is_type, is_wrong};
 pub use crate::phase::Phase;
-pub use crate::placed::{Placed, has, has_unreadable, is_of, place_of};
-pub use crate::refusal::{
-    Refusal, ResultCode, administrative, code_of, general_error, result_only,
-};
-pub use crate::spelling::{avp, cdn, code_octets, icrp, spelled};
-pub use crate::step::{ended, nothing, opened, sends};
-pub use crate::values::{VALUE_MOST, Value, number_at, type_in, value_of};
+pub use crate::refusal::{Refusal, administrative, code_of};
+pub use crate::spelling::{cdn, icrp};

@@ -1,5 +1,9 @@
 ghost use Rattle.std.specs.Prelude.{◌≡◌};
-ghost use Rattle.bng_l2tp_call.specs.Spelling.{result_only as only_result, general_error as error_of, code_of as code_of_refusal, administrative as code_of_end};
+ghost use Rattle.bng_l2tp_call.specs.Spelling.{code_of as code_of_refusal, administrative as code_of_end};
+
+use bng_l2tp_wire::result_code::{
+    OUT_OF_RANGE, ResultCode, UNKNOWN_AVP, general_error, result_only,
+};
 
 /// Why a message of a call is refused (RFC 2661 section 4.4.2). Each is told by a CDN.
 #[derive(Clone, Copy)]
@@ -14,45 +18,12 @@ pub enum Refusal {
     NoSlot,
 }
 
-/// What a Result Code AVP says (RFC 2661 section 4.4.2): a Result Code, and an Error Code where it has one.
-#[derive(Clone, Copy)]
-pub struct ResultCode {
-    /// The Result Code.
-    pub code: u16,
-    /// The Error Code, if it has one.
-    pub error: Option<u16>,
-}
-
-// General error, which the Error Code tells.
-const GENERAL_ERROR: u16 = 2;
 // Administrative reasons.
 const ADMINISTRATIVE: u16 = 3;
 // A facility is lacking for now.
 const LACKING_FOR_NOW: u16 = 4;
 // A facility is lacking for ever.
 const LACKING_FOR_EVER: u16 = 5;
-
-// A field is out of range.
-const OUT_OF_RANGE: u16 = 3;
-// An AVP that must be known is not.
-const UNKNOWN_AVP: u16 = 8;
-
-/// A Result Code without an Error Code.
-pub fn result_only(code: u16) -> ResultCode
-    ensures { result ≡ only_result code }
-{
-    ResultCode { code, error: None }
-}
-
-/// Result Code 2, a general error, which the Error Code tells.
-pub fn general_error(error: u16) -> ResultCode
-    ensures { result ≡ error_of error }
-{
-    ResultCode {
-        code: GENERAL_ERROR,
-        error: Some(error),
-    }
-}
 
 /// The code of a CDN that tells a refusal.
 pub fn code_of(refusal: Refusal) -> ResultCode

@@ -1,7 +1,8 @@
 use crate::asserts::{assert_holds, assert_same};
 use arrayvec::ArrayVec;
 use bng_base::{Frame, Ip4, Peer, TunnelNo, TunnelStep};
-use bng_l2tp_tunnel::{Tunnel, TunnelRules, assigned_tunnel, message_type};
+use bng_l2tp_tunnel::{Tunnel, TunnelRules};
+use bng_l2tp_wire::values::{assigned_tunnel, message_type};
 use bng_l2tp_wire::{Control, message};
 use std::alloc::Global;
 use std::process::Abort;

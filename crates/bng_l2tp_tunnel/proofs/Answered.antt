@@ -11,19 +11,20 @@ use Rattle.bng_l2tp_tunnel.specs.declared.acknowledging.Acknowledging.TheVariant
 use Rattle.bng_l2tp_tunnel.specs.declared.phase.Phase.{Phase}
 use Rattle.bng_l2tp_tunnel.specs.declared.phase.Phase.TheVariants.{Idle, Replied, Established, Cleared}
 use Rattle.bng_l2tp_tunnel.specs.TunnelState.{TunnelState}
-use Rattle.bng_l2tp_tunnel.specs.Outs.{datagram, let_out, after_out, flight_most, zlb, with_zlb}
+use Rattle.bng_l2tp_tunnel.specs.Outs.{datagram, let_out, after_out, flight_most, zlb, or_zlb, with_zlb}
 use Rattle.bng_l2tp_tunnel.specs.declared.refusal.Refusal.{Refusal}
-use Rattle.bng_l2tp_tunnel.specs.Values.{message_type}
-use Rattle.bng_l2tp_tunnel.specs.Messages.{is_type, is_of_call}
+use Rattle.bng_l2tp_wire.specs.Values.{message_type}
+use Rattle.bng_l2tp_wire.specs.Judge.{is_type}
+use Rattle.bng_l2tp_tunnel.specs.Messages.{is_of_call}
 use Rattle.bng_l2tp_tunnel.specs.Refusals.{refusal_of}
 use Rattle.bng_l2tp_tunnel.specs.Spelling.{stop_ccn, code_of}
 use Rattle.bng_l2tp_tunnel.specs.Steps.{stands, is_established, to_peer, flushed, queued_text, handed_over, ended, established, accepted, judged, delivered, heard, heard_by, having_heard, in_phase, message_step}
 use Rattle.bng_l2tp_tunnel.specs.Sound.{IsAnswered, is_delivered, is_for_call}
 
 -- where a ZLB is due something goes out
-some_any : (tunnel : ℕ) (c : ChannelState) (outs : List (List ℕ)) → 0 < length (with_zlb ByAny tunnel c outs)
-some_any tunnel c [] = omega arith
-some_any tunnel c (o ∷ os) = omega arith
+pub any_some : (tunnel : ℕ) (c : ChannelState) (outs : List (List ℕ)) → 0 < length (or_zlb tunnel c outs)
+any_some tunnel c [] = omega arith
+any_some tunnel c (o ∷ os) = omega arith
 
 some_zlb : (tunnel : ℕ) (c : ChannelState) (outs : List (List ℕ)) → 0 < length (with_zlb ByZlb tunnel c outs)
 some_zlb tunnel c outs = omega (arith, length-append outs (zlb tunnel c ∷ []))
@@ -35,7 +36,7 @@ module _ (s : TunnelState) where
   queued_some : (text : List ℕ) (now : ℕ) → 0 < length (queued_text ByAny s text now).said.outs
   queued_some text now =
       let c = queued s.channel (record { items = text }) now in
-      some_any (to_peer s) (after_out flight_most c) (map (datagram (to_peer s)) (let_out flight_most c))
+      any_some (to_peer s) (after_out flight_most c) (map (datagram (to_peer s)) (let_out flight_most c))
 
   accepted_some : (type : Option ℕ) → 0 < length (accepted s type).said.outs
   accepted_some type =

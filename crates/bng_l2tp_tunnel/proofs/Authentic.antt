@@ -9,8 +9,9 @@ use Rattle.bng_l2tp_tunnel.specs.declared.phase.Phase.{Phase}
 use Rattle.bng_l2tp_tunnel.specs.declared.phase.Phase.TheVariants.{Idle, Replied, Established, Cleared}
 use Rattle.bng_l2tp_tunnel.specs.TunnelState.{TunnelState}
 use Rattle.bng_l2tp_tunnel.specs.declared.refusal.Refusal.{Refusal}
-use Rattle.bng_l2tp_tunnel.specs.Values.{message_type}
-use Rattle.bng_l2tp_tunnel.specs.Messages.{is_type, is_of_call}
+use Rattle.bng_l2tp_wire.specs.Values.{message_type}
+use Rattle.bng_l2tp_wire.specs.Judge.{is_type}
+use Rattle.bng_l2tp_tunnel.specs.Messages.{is_of_call}
 use Rattle.bng_l2tp_tunnel.specs.Refusals.{fails_challenge, refusal_of}
 use Rattle.bng_l2tp_tunnel.specs.Steps.{nothing, is_established, flushed, clears, opened_by, begins, opening, handed_over, ended, established, accepted, judged, heard, heard_by, having_heard, hearing, in_phase, message_step}
 use Rattle.bng_l2tp_tunnel.proofs.Refused.{passed, answers}

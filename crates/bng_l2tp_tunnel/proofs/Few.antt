@@ -1,8 +1,7 @@
 -- How many datagrams go out in a step.
-use Rattle.std.proofs.Common.{◌≡◌, ℕ, zero, suc, ◌+◌, ◌<◌, ◌≤◌, Bool, true, false, ◌&&◌, cond, nat_lt, Option, None, Some, List, [], ◌∷◌, ◌++◌, length, map, option_map, option_to_list, slice_get, refl, sym, ap, subst, ◌∙◌, arith, length-append, length-drop}
+use Rattle.std.proofs.Common.{◌≡◌, ℕ, zero, suc, ◌+◌, ◌≤◌, Bool, true, false, ◌&&◌, cond, nat_lt, Option, None, Some, List, [], ◌∷◌, ◌++◌, length, map, option_map, option_to_list, slice_get, refl, sym, ap, subst, ◌∙◌, arith, length-append, length-drop}
 use Rattle.std.proofs.lemmas.List.{length-map, append-nil}
-use Rattle.std.proofs.lemmas.Option.{slice_get_within, slice_get-get_or}
-use Rattle.std.proofs.lemmas.Bool.Decides.{nat_tests}
+use Rattle.std.proofs.lemmas.Option.{slice_get_within}
 use Rattle.bng_l2tp_reliable.specs.declared.outgoing.Outgoing.{Outgoing}
 use Rattle.bng_l2tp_reliable.specs.declared.answers.Heard.{Heard}
 use Rattle.bng_l2tp_reliable.specs.declared.answers.Heard.TheVariants.{Deliver, Repeat, Ahead, Acked}
@@ -22,15 +21,16 @@ use Rattle.bng_l2tp_tunnel.specs.declared.phase.Phase.{Phase}
 use Rattle.bng_l2tp_tunnel.specs.declared.phase.Phase.TheVariants.{Idle, Replied, Established, Cleared}
 use Rattle.bng_l2tp_tunnel.specs.declared.refusal.Refusal.{Refusal}
 use Rattle.bng_l2tp_tunnel.specs.TunnelState.{TunnelState}
-use Rattle.bng_l2tp_tunnel.specs.Values.{value_of, message_type, assigned_tunnel}
-use Rattle.bng_l2tp_tunnel.specs.Messages.{is_type, is_of_call}
+use Rattle.bng_l2tp_wire.specs.Values.{value_of, message_type, assigned_tunnel}
+use Rattle.bng_l2tp_wire.specs.Judge.{is_type}
+use Rattle.bng_l2tp_tunnel.specs.Messages.{is_of_call}
 use Rattle.bng_l2tp_tunnel.specs.Refusals.{refusal_of}
 use Rattle.bng_l2tp_tunnel.specs.Spelling.{sccrp, stop_ccn, hello, code_of, shut_down}
-use Rattle.bng_l2tp_tunnel.specs.Outs.{datagram, let_out, after_out, flight_before, flight_most, zlb, with_zlb}
+use Rattle.bng_l2tp_tunnel.specs.Outs.{datagram, let_out, after_out, flight_before, flight_most, zlb, or_zlb, with_zlb}
 use Rattle.bng_l2tp_tunnel.specs.Sound.{IsTunnel}
 use Rattle.bng_l2tp_tunnel.specs.Steps.{Step, nothing, stands, is_established, to_peer, flushed, queued_text, answered, clears, turned_away, made, opened_by, begins, opening, handed_over, ended, established, accepted, judged, delivered, heard, heard_by, having_heard, in_phase, message_step, reminded, due_step, send_step, stop_step}
 use Rattle.bng_l2tp_tunnel.proofs.Texts.{after_out-keeps}
-use Rattle.bng_l2tp_tunnel.proofs.Waiting.{IsNext, next_some}
+use Rattle.bng_l2tp_tunnel.proofs.Waiting.{next_some}
 
 at_most_one : (out : Option Outgoing) → length (option_to_list out) ≤ 1
 at_most_one None = omega arith
@@ -50,7 +50,7 @@ flight_few (suc n) c =
 
 -- What the window lets out, and a ZLB ------------------------------------------------------------------------------------------------------
 
-pub any_few : (most tunnel : ℕ) (c : ChannelState) (outs : List (List ℕ)) → 1 ≤ most → length outs ≤ most → length (with_zlb ByAny tunnel c outs) ≤ most
+pub any_few : (most tunnel : ℕ) (c : ChannelState) (outs : List (List ℕ)) → 1 ≤ most → length outs ≤ most → length (or_zlb tunnel c outs) ≤ most
 any_few most tunnel c [] one few = omega (arith, one)
 any_few most tunnel c (o ∷ os) one few = few
 

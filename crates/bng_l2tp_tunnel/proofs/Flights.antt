@@ -7,7 +7,7 @@ use Rattle.bng_l2tp_reliable.specs.declared.sent.Sent.{Sent}
 use Rattle.bng_l2tp_reliable.specs.ChannelState.{ChannelState}
 use Rattle.bng_l2tp_reliable.specs.Calls.{numbered, next_out, after_next, flight_at}
 use Rattle.bng_base.specs.Packet.{Packet}
-use Rattle.bng_l2tp_tunnel.specs.View.{payloads}
+use Rattle.bng_l2tp_wire.specs.View.{payloads}
 use Rattle.bng_l2tp_tunnel.specs.Outs.{datagram, let_out, after_out, flight_before}
 
 pub after_out-none : (c : ChannelState) → after_out 0 c ≡ c

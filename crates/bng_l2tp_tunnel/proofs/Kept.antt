@@ -13,8 +13,9 @@ use Rattle.bng_l2tp_tunnel.specs.declared.phase.Phase.{Phase}
 use Rattle.bng_l2tp_tunnel.specs.declared.phase.Phase.TheVariants.{Idle, Replied, Established, Cleared}
 use Rattle.bng_l2tp_tunnel.specs.TunnelState.{TunnelState, lasting_of}
 use Rattle.bng_l2tp_tunnel.specs.declared.refusal.Refusal.{Refusal}
-use Rattle.bng_l2tp_tunnel.specs.Values.{message_type}
-use Rattle.bng_l2tp_tunnel.specs.Messages.{is_type, is_of_call}
+use Rattle.bng_l2tp_wire.specs.Values.{message_type}
+use Rattle.bng_l2tp_wire.specs.Judge.{is_type}
+use Rattle.bng_l2tp_tunnel.specs.Messages.{is_of_call}
 use Rattle.bng_l2tp_tunnel.specs.Refusals.{refusal_of}
 use Rattle.bng_l2tp_tunnel.specs.Spelling.{stop_ccn, shut_down}
 use Rattle.bng_l2tp_tunnel.specs.Steps.{Step, nothing, stands, is_established, flushed, queued_text, answered, clears, opened_by, begins, opening, handed_over, ended, established, accepted, judged, delivered, heard, heard_by, having_heard, in_phase, message_step, reminded, due_step, send_step, stop_step}

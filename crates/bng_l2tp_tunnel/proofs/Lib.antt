@@ -1,5 +1,4 @@
 pub mod Sizes
-pub mod Placing
 pub mod Waiting
 pub mod Flights
 pub mod Answering

@@ -1,32 +1,20 @@
 -- What holds of a message that is not refused.
-use Rattle.std.proofs.Common.{◌≢◌, ◌≡◌, ℕ, ◌==◌, Bool, true, false, ◌||◌, not, cond, Option, None, Some, List, length, refl, ap, subst}
+use Rattle.std.proofs.Common.{◌≢◌, ◌≡◌, ℕ, ◌==◌, true, false, ◌||◌, not, Option, None, Some, List, refl, subst}
 use Rattle.std.specs.Prelude.{IsSome}
-use Rattle.std.proofs.lemmas.Bool.{eqb-true, eq-eqb}
-use Rattle.byteorder.specs.Endian.{big_from}
+use Rattle.std.proofs.lemmas.Bool.{eq-eqb, not-false, or_parts}
 use Rattle.bng_l2tp_wire.specs.Avps.{L2tpAvp}
 use Rattle.bng_l2tp_wire.specs.Messages.{ControlMessage}
 use Rattle.bng_l2tp_wire.specs.declared.kind.TheConstants.{PROTOCOL_VERSION, FRAMING_CAPABILITIES, HOST_NAME, ASSIGNED_TUNNEL_ID}
 use Rattle.bng_l2tp_wire.specs.declared.message.TheConstants.{SCCRQ, SCCCN}
+use Rattle.bng_l2tp_wire.proofs.Judging.{type_is, first_none, number_there}
 use Rattle.bng_l2tp_tunnel.specs.declared.phase.Phase.{Phase}
 use Rattle.bng_l2tp_tunnel.specs.declared.phase.Phase.TheVariants.{Idle, Replied, Established, Cleared}
-use Rattle.bng_l2tp_tunnel.specs.declared.refusal.Refusal.{Refusal}
-use Rattle.bng_l2tp_tunnel.specs.Values.{number_in, value_of, message_type, assigned_tunnel}
-use Rattle.bng_l2tp_tunnel.specs.Messages.{is_type, is_taken, is_wrong, lacks_needed, has_unreadable}
+use Rattle.bng_l2tp_wire.specs.Values.{value_of, message_type, assigned_tunnel, has_unreadable}
+use Rattle.bng_l2tp_wire.specs.Judge.{is_type, is_wrong}
+use Rattle.bng_l2tp_tunnel.specs.Messages.{is_taken, lacks_needed}
 use Rattle.bng_l2tp_tunnel.specs.TunnelState.{TunnelState}
 use Rattle.bng_l2tp_tunnel.specs.Refusals.{is_of_wrong_version, has_unknown_avp, has_wrong_avp, has_answer, fails_challenge, lacks_number, refusal_of}
 use Rattle.bng_l2tp_tunnel.specs.Sound.{is_replied, IsAnswerOf}
-
-first_none : (b : Bool) (r : Refusal) (rest : Option Refusal) → cond b (Some r) rest ≡ None → (b ≡ false) × (rest ≡ None)
-first_none true r rest e = absurd cc
-first_none false r rest e = (refl, e)
-
-not_false : (b : Bool) → not b ≡ false → b ≡ true
-not_false true e = refl
-not_false false e = absurd cc
-
-or_false : (a b : Bool) → (a || b) ≡ false → (a ≡ false) × (b ≡ false)
-or_false true b e = absurd cc
-or_false false b e = (refl, e)
 
 -- no case holds
 pub record IsPassed (s : TunnelState) (avps : List L2tpAvp) : Type 0 where
@@ -47,16 +35,12 @@ passed s avps e =
     let g = first_none (not (is_taken s.phase (message_type avps))) _ _ f.1 in
     let h = first_none (lacks_number s.number (message_type avps)) _ _ g.1 in
     record {
-      known = not_false s.known a.0;
+      known = not-false s.known a.0;
       wrong = d.0;
       authorized = f.0;
-      taken = not_false (is_taken s.phase (message_type avps)) g.0;
+      taken = not-false (is_taken s.phase (message_type avps)) g.0;
       numbered = h.0;
     }
-
-type_is : (type : Option ℕ) (wanted : ℕ) → is_type type wanted ≡ true → type ≡ Some wanted
-type_is None wanted e = absurd cc
-type_is (Some type) wanted e = ap (λ (n : ℕ). Some n) (eqb-true type wanted e)
 
 -- an SCCCN is taken after an SCCRP alone
 pub replied_if : (p : Phase) (type : Option ℕ) → is_type type SCCCN ≡ true → is_taken p type ≡ true → is_replied p ≡ true
@@ -69,25 +53,17 @@ replied_if p type e t =
     by_phase Established t = absurd cc
     by_phase Cleared t = absurd cc
 
-some_if : (n : ℕ) (b : Bool) → b ≡ true → IsSome {T = ℕ} (cond b (Some n) None)
-some_if n true e = refl
-some_if n false e = absurd cc
-
-number_there : (value : Option (List ℕ)) → is_wrong ASSIGNED_TUNNEL_ID value ≡ false → IsSome (number_in value)
-number_there None e = absurd cc
-number_there (Some value) e = some_if (big_from 0 2 value) (length value == 2) (not_false (length value == 2) e)
-
 -- an SCCRQ that is not refused has the peer's tunnel
 pub has_tunnel : (s : TunnelState) (avps : List L2tpAvp) → is_type (message_type avps) SCCRQ ≡ true → has_wrong_avp s.secret (message_type avps) avps ≡ false
     → IsSome (assigned_tunnel s.secret avps)
 has_tunnel s avps e w =
     let all : (lacks_needed s.secret (Some SCCRQ) avps || has_unreadable s.secret avps) ≡ false = subst (λ (x : Option ℕ). has_wrong_avp s.secret x avps ≡ false) (type_is (message_type avps) SCCRQ e) w in
     let needed : (is_wrong PROTOCOL_VERSION (value_of s.secret PROTOCOL_VERSION avps) || (is_wrong FRAMING_CAPABILITIES (value_of s.secret FRAMING_CAPABILITIES avps) || (is_wrong HOST_NAME (value_of s.secret HOST_NAME avps) || (is_wrong ASSIGNED_TUNNEL_ID (value_of s.secret ASSIGNED_TUNNEL_ID avps) || false)))) ≡ false =
-    (or_false _ false (or_false _ _ all).0).0 in
-    let framing = (or_false (is_wrong PROTOCOL_VERSION (value_of s.secret PROTOCOL_VERSION avps)) _ needed).1 in
-    let name = (or_false (is_wrong FRAMING_CAPABILITIES (value_of s.secret FRAMING_CAPABILITIES avps)) _ framing).1 in
-    let tunnel = (or_false (is_wrong HOST_NAME (value_of s.secret HOST_NAME avps)) _ name).1 in
-    number_there (value_of s.secret ASSIGNED_TUNNEL_ID avps) (or_false (is_wrong ASSIGNED_TUNNEL_ID (value_of s.secret ASSIGNED_TUNNEL_ID avps)) false tunnel).0
+    (or_parts _ false (or_parts _ _ all).0).0 in
+    let framing = (or_parts (is_wrong PROTOCOL_VERSION (value_of s.secret PROTOCOL_VERSION avps)) _ needed).1 in
+    let name = (or_parts (is_wrong FRAMING_CAPABILITIES (value_of s.secret FRAMING_CAPABILITIES avps)) _ framing).1 in
+    let tunnel = (or_parts (is_wrong HOST_NAME (value_of s.secret HOST_NAME avps)) _ name).1 in
+    number_there ASSIGNED_TUNNEL_ID (value_of s.secret ASSIGNED_TUNNEL_ID avps) (λ (octets : List ℕ). refl) (or_parts (is_wrong ASSIGNED_TUNNEL_ID (value_of s.secret ASSIGNED_TUNNEL_ID avps)) false tunnel).0
 
 -- an SCCRQ that is not refused has a number to give
 pub has_number : (s : TunnelState) (avps : List L2tpAvp) → is_type (message_type avps) SCCRQ ≡ true → lacks_number s.number (message_type avps) ≡ false → s.number ≢ 0
@@ -99,5 +75,5 @@ has_number s avps e l = λ zero_is.
 pub answers : (s : TunnelState) (m : ControlMessage) → is_type (message_type m.avps) SCCCN ≡ true → fails_challenge s.secret s.challenge (message_type m.avps) m.avps ≡ false → IsAnswerOf s m
 answers s m e f = record {
   type = type_is (message_type m.avps) SCCCN e;
-  answer = not_false (has_answer s.secret s.challenge m.avps) (subst (λ (x : Option ℕ). fails_challenge s.secret s.challenge x m.avps ≡ false) (type_is (message_type m.avps) SCCCN e) f);
+  answer = not-false (has_answer SCCCN s.secret s.challenge m.avps) (subst (λ (x : Option ℕ). fails_challenge s.secret s.challenge x m.avps ≡ false) (type_is (message_type m.avps) SCCCN e) f);
 }

@@ -1,4 +1,4 @@
--- How many octets the SCCRP has.
+-- How many octets a message has by which a tunnel is granted.
 use Rattle.std.proofs.Common.{◌≡◌, ℕ, ◌+◌, ◌≤◌, Option, None, Some, List, [], ◌∷◌, ◌++◌, length, ap, ◌∙◌, arith, length-append}
 use Rattle.std.proofs.lemmas.List.Concat.{flat_map-append}
 use Rattle.md5.specs.Md5.{md5}
@@ -6,28 +6,25 @@ use Rattle.md5.proofs.StandardFacts.{length-md5}
 use Rattle.bng_l2tp_wire.specs.Avps.{L2tpAvp, avp_text, avps_text}
 use Rattle.bng_l2tp_wire.specs.declared.kind.TheConstants.{ASSIGNED_TUNNEL_ID, RECEIVE_WINDOW_SIZE}
 use Rattle.bng_l2tp_wire.specs.declared.message.TheConstants.{SCCRP}
-use Rattle.bng_l2tp_tunnel.specs.Spelling.{number_avp, own_window, challenge_avps, response_avps, sccrp_front, sccrp}
+use Rattle.bng_l2tp_wire.specs.Spelling.{number_avp}
+use Rattle.bng_l2tp_tunnel.specs.Spelling.{own_window, challenge_avps, response_avps, front, sccrp}
 
--- one AVP more
-length-text : (a : L2tpAvp) (rest : List L2tpAvp) → length (avps_text (a ∷ rest)) ≡ 6 + length a.value + length (avps_text rest)
-length-text a rest = omega (arith, length-append (avp_text a) (avps_text rest))
-
-length-both : (xs ys : List L2tpAvp) → length (avps_text (xs ++ ys)) ≡ length (avps_text xs) + length (avps_text ys)
+pub length-both : (xs ys : List L2tpAvp) → length (avps_text (xs ++ ys)) ≡ length (avps_text xs) + length (avps_text ys)
 length-both xs ys = ap length (flat_map-append avp_text xs ys) ∙ length-append (avps_text xs) (avps_text ys)
 
-challenge_size : (secret : Option (List ℕ)) (challenge : List ℕ) → length challenge ≡ 16 → length (avps_text (challenge_avps secret challenge)) ≤ 22
+pub challenge_size : (secret : Option (List ℕ)) (challenge : List ℕ) → length challenge ≡ 16 → length (avps_text (challenge_avps secret challenge)) ≤ 22
 challenge_size None challenge e = omega arith
 challenge_size (Some secret) challenge e = omega (arith, e, length-append challenge [])
 
-response_size : (secret asked : Option (List ℕ)) → length (avps_text (response_avps secret asked)) ≤ 22
-response_size None asked = omega arith
-response_size (Some secret) None = omega arith
-response_size (Some secret) (Some asked) = omega (arith, length-md5 (SCCRP ∷ secret ++ asked), length-append (md5 (SCCRP ∷ secret ++ asked)) [])
+response_size : (type : ℕ) (secret asked : Option (List ℕ)) → length (avps_text (response_avps type secret asked)) ≤ 22
+response_size type None asked = omega arith
+response_size type (Some secret) None = omega arith
+response_size type (Some secret) (Some asked) = omega (arith, length-md5 (type ∷ secret ++ asked), length-append (md5 (type ∷ secret ++ asked)) [])
 
-front_size : (name : List ℕ) (number : ℕ) → length (avps_text (sccrp_front name number)) ≡ 48 + length name
-front_size name number = omega (arith, length-append name (avps_text (number_avp ASSIGNED_TUNNEL_ID number ∷ number_avp RECEIVE_WINDOW_SIZE own_window ∷ [])))
+pub front_size : (type : ℕ) (name : List ℕ) (number : ℕ) → length (avps_text (front type name number)) ≡ 48 + length name
+front_size type name number = omega (arith, length-append name (avps_text (number_avp ASSIGNED_TUNNEL_ID number ∷ number_avp RECEIVE_WINDOW_SIZE own_window ∷ [])))
 
 pub sccrp_size : (name : List ℕ) (number : ℕ) (secret : Option (List ℕ)) (challenge : List ℕ) (asked : Option (List ℕ)) → length name ≤ 64 → length challenge ≡ 16
     → length (avps_text (sccrp name number secret challenge asked).avps) ≤ 156
 sccrp_size name number secret challenge asked few sixteen =
-    omega (arith, few, front_size name number, challenge_size secret challenge sixteen, response_size secret asked, length-both (sccrp_front name number ++ challenge_avps secret challenge) (response_avps secret asked), length-both (sccrp_front name number) (challenge_avps secret challenge))
+    omega (arith, few, front_size SCCRP name number, challenge_size secret challenge sixteen, response_size SCCRP secret asked, length-both (front SCCRP name number ++ challenge_avps secret challenge) (response_avps SCCRP secret asked), length-both (front SCCRP name number) (challenge_avps secret challenge))

@@ -20,14 +20,15 @@ use Rattle.bng_l2tp_tunnel.specs.declared.acknowledging.Acknowledging.TheVariant
 use Rattle.bng_l2tp_tunnel.specs.declared.phase.Phase.{Phase}
 use Rattle.bng_l2tp_tunnel.specs.declared.phase.Phase.TheVariants.{Idle, Replied, Established, Cleared}
 use Rattle.bng_l2tp_tunnel.specs.TunnelState.{TunnelState}
-use Rattle.bng_l2tp_tunnel.specs.View.{Said}
+use Rattle.bng_l2tp_wire.specs.View.{Said, sends}
 use Rattle.bng_l2tp_tunnel.specs.Outs.{datagram, let_out, after_out, flight_most, zlb, with_zlb}
 use Rattle.bng_l2tp_tunnel.specs.declared.refusal.Refusal.{Refusal}
-use Rattle.bng_l2tp_tunnel.specs.Values.{value_of, message_type, assigned_tunnel, window_of}
-use Rattle.bng_l2tp_tunnel.specs.Messages.{is_type, is_of_call, is_taken}
+use Rattle.bng_l2tp_wire.specs.Values.{value_of, message_type, assigned_tunnel, window_of}
+use Rattle.bng_l2tp_wire.specs.Judge.{is_type}
+use Rattle.bng_l2tp_tunnel.specs.Messages.{is_of_call, is_taken}
 use Rattle.bng_l2tp_tunnel.specs.Refusals.{refusal_of}
 use Rattle.bng_l2tp_tunnel.specs.Spelling.{sccrp, stop_ccn, hello, code_of, shut_down}
-use Rattle.bng_l2tp_tunnel.specs.Steps.{Step, sends, nothing, stands, is_established, to_peer, flushed, queued_text, answered, clears, turned_away, made, replied, opened_by, begins, opening, handed_over, ended, established, accepted, judged, delivered, heard, is_zlb, heard_by, having_heard, hearing, in_phase, message_step, reminded, due_step, send_step, stop_step}
+use Rattle.bng_l2tp_tunnel.specs.Steps.{Step, nothing, stands, is_established, to_peer, flushed, queued_text, answered, clears, turned_away, made, replied, opened_by, begins, opening, handed_over, ended, established, accepted, judged, delivered, heard, is_zlb, heard_by, having_heard, hearing, in_phase, message_step, reminded, due_step, send_step, stop_step}
 use Rattle.bng_l2tp_tunnel.proofs.Refused.{passed, replied_if, has_tunnel, has_number}
 use Rattle.bng_l2tp_tunnel.specs.Sound.{is_replied, is_cleared, IsSpelled, AreSpelled, IsTunnel, IsSentTo, IsSound}
 use Rattle.bng_l2tp_tunnel.proofs.Texts.{AllByRecursion-append, AllByRecursion-drop, after_out-keeps, let_out_sent, flight_sent}

@@ -1,5 +1,3 @@
-pub mod Values
-pub mod View
 pub mod Messages
 pub mod TunnelState
 pub mod Refusals

@@ -1,16 +1,12 @@
 -- The control messages that a tunnel takes, by RFC 2661 sections 5.1, 6 and 7.2: a table, with a row for each message.
-use Rattle.std.specs.Prelude.{ℕ, Bool, true, false, ◌==◌, ◌&&◌, ◌||◌, not, nat_le, if◌then◌else◌, List, [], ◌∷◌, length, Option, Some, None}
+use Rattle.std.specs.Prelude.{ℕ, Bool, true, false, ◌&&◌, List, [], ◌∷◌, Option}
 use Rattle.std.specs.List.{list_any}
 use Rattle.bng_l2tp_wire.specs.Avps.{L2tpAvp}
 use Rattle.bng_l2tp_wire.specs.declared.kind.TheConstants.{RESULT_CODE, PROTOCOL_VERSION, FRAMING_CAPABILITIES, HOST_NAME, ASSIGNED_TUNNEL_ID}
 use Rattle.bng_l2tp_wire.specs.declared.message.TheConstants.{SCCRQ, SCCCN, STOP_CCN, HELLO, ICRQ, ICCN, CDN, WEN, SLI}
 use Rattle.bng_l2tp_tunnel.specs.declared.phase.Phase.{Phase}
 use Rattle.bng_l2tp_tunnel.specs.declared.phase.Phase.TheVariants.{Idle, Replied, Established, Cleared}
-use Rattle.bng_l2tp_tunnel.specs.Values.{value_of, is_unreadable, placed}
-
-abbrev pub is_type : Option ℕ → ℕ → Bool
-is_type None wanted = false
-is_type (Some type) wanted = type == wanted
+use Rattle.bng_l2tp_wire.specs.Judge.{is_type, lacks_one_of}
 
 -- the messages of a call (section 3.2)
 abbrev pub is_of_call : Option ℕ → Bool
@@ -44,24 +40,6 @@ same_phase _ _ = false
 abbrev pub is_taken : Phase → Option ℕ → Bool
 is_taken phase type = list_any (λ r. is_type type r.type && list_any (same_phase phase) r.taken) rows
 
--- A value of the right length for its Attribute Type (section 4.4). A Result Code has 2 octets, or 4 with an Error Code, after which a message
--- may stand.
-abbrev pub has_right_length : ℕ → List ℕ → Bool
-has_right_length kind value =
-    if kind == HOST_NAME then nat_le 1 (length value)
-    else (if kind == FRAMING_CAPABILITIES then length value == 4
-    else (if kind == RESULT_CODE then length value == 2 || nat_le 4 (length value)
-    else length value == 2))
-
--- there is no value, or it has a wrong length
-abbrev pub is_wrong : ℕ → Option (List ℕ) → Bool
-is_wrong kind None = true
-is_wrong kind (Some value) = not (has_right_length kind value)
-
 -- an AVP that the message must have is not there, or has a wrong length
 abbrev pub lacks_needed : Option (List ℕ) → Option ℕ → List L2tpAvp → Bool
-lacks_needed secret type avps =
-    list_any (λ r. is_type type r.type && list_any (λ kind. is_wrong kind (value_of secret kind avps)) r.needs) rows
-
-abbrev pub has_unreadable : Option (List ℕ) → List L2tpAvp → Bool
-has_unreadable secret avps = list_any (is_unreadable secret) (placed avps)
+lacks_needed secret type avps = list_any (λ r. is_type type r.type && lacks_one_of secret r.needs avps) rows

@@ -54,11 +54,15 @@ flight_before (suc n) c = flight_before n c ++ option_to_list (flight_at c n)
 abbrev pub zlb : ℕ → ChannelState → List ℕ
 zlb tunnel c = control_text (record { tunnel = tunnel; session = 0; ns = c.ns; nr = c.nr; avps = [] })
 
+-- what goes out, and a ZLB where nothing does
+abbrev pub or_zlb : ℕ → ChannelState → List (List ℕ) → List (List ℕ)
+or_zlb tunnel c [] = zlb tunnel c ∷ []
+or_zlb tunnel c (o ∷ os) = o ∷ os
+
 -- What goes out, and the ZLB that is due besides. Each message acknowledges as well as a ZLB.
 abbrev pub with_zlb : Acknowledging → ℕ → ChannelState → List (List ℕ) → List (List ℕ)
 with_zlb Never tunnel c outs = outs
-with_zlb ByAny tunnel c [] = zlb tunnel c ∷ []
-with_zlb ByAny tunnel c (o ∷ os) = o ∷ os
+with_zlb ByAny tunnel c outs = or_zlb tunnel c outs
 with_zlb ByZlb tunnel c outs = outs ++ zlb tunnel c ∷ []
 
 -- the datagrams that go out to a tunnel of the peer: the messages that the window lets out, and then the ZLB

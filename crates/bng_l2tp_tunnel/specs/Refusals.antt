@@ -1,14 +1,14 @@
 -- Why a tunnel is refused, by RFC 2661 sections 4.4.2, 5.1.1 and 7.2.1: a list of cases, of which the first that holds counts.
-use Rattle.std.specs.Prelude.{ℕ, Bool, true, false, ◌==◌, ◌&&◌, ◌||◌, not, if◌then◌else◌, bytes_eq, List, [], ◌∷◌, ◌++◌, Option, Some, None, is_some, is_none}
-use Rattle.std.specs.List.{list_any}
+use Rattle.std.specs.Prelude.{ℕ, Bool, true, false, ◌==◌, ◌&&◌, ◌||◌, not, bytes_eq, List, [], ◌∷◌, ◌++◌, Option, Some, None, is_some, is_none}
 use Rattle.md5.specs.Md5.{md5}
 use Rattle.bng_l2tp_wire.specs.Avps.{L2tpAvp}
 use Rattle.bng_l2tp_wire.specs.declared.kind.TheConstants.{PROTOCOL_VERSION, CHALLENGE, CHALLENGE_RESPONSE}
 use Rattle.bng_l2tp_wire.specs.declared.message.TheConstants.{SCCRQ, SCCCN}
 use Rattle.bng_l2tp_tunnel.specs.declared.refusal.Refusal.{Refusal}
 use Rattle.bng_l2tp_tunnel.specs.declared.refusal.Refusal.TheVariants.{NotConfigured, WrongVersion, UnknownAvp, WrongAvp, NotAuthorized, Unexpected, NoNumber}
-use Rattle.bng_l2tp_tunnel.specs.Values.{is_known, value_of, message_type}
-use Rattle.bng_l2tp_tunnel.specs.Messages.{is_type, is_of_call, is_taken, lacks_needed, has_unreadable}
+use Rattle.bng_l2tp_wire.specs.Values.{value_of, message_type, has_unreadable}
+use Rattle.bng_l2tp_wire.specs.Judge.{is_type, has_unknown, Case, if_so, first_of}
+use Rattle.bng_l2tp_tunnel.specs.Messages.{is_of_call, is_taken, lacks_needed}
 use Rattle.bng_l2tp_tunnel.specs.TunnelState.{TunnelState}
 
 -- Version 1 and Revision 0 (section 4.4.3)
@@ -23,13 +23,6 @@ is_other_than wanted (Some value) = not (bytes_eq value wanted)
 abbrev pub has_other_version : Option (List ℕ) → List L2tpAvp → Bool
 has_other_version secret avps = is_other_than version (value_of secret PROTOCOL_VERSION avps)
 
--- an AVP that is not known and must be
-abbrev pub must_be_known : L2tpAvp → Bool
-must_be_known a = a.mandatory && not (is_known a)
-
-abbrev pub has_unknown : List L2tpAvp → Bool
-has_unknown avps = list_any must_be_known avps
-
 -- the answer to a Challenge in a message of this type (section 4.4.3, as CHAP's of RFC 1994 section 4.1 with the type for its Identifier)
 abbrev pub challenge_response : (type : ℕ) (secret challenge : List ℕ) → List ℕ
 challenge_response type secret challenge = md5 (type ∷ secret ++ challenge)
@@ -38,11 +31,11 @@ abbrev pub is_value : List ℕ → Option (List ℕ) → Bool
 is_value wanted None = false
 is_value wanted (Some value) = bytes_eq value wanted
 
--- the answer that an SCCCN must have where the tunnel has a secret, and so sent a Challenge
-abbrev pub has_answer : Option (List ℕ) → List ℕ → List L2tpAvp → Bool
-has_answer None challenge avps = true
-has_answer (Some secret) challenge avps =
-    is_value (challenge_response SCCCN secret challenge) (value_of (Some secret) CHALLENGE_RESPONSE avps)
+-- the answer that a message of this type must have where the tunnel has a secret, and so sent a Challenge
+abbrev pub has_answer : ℕ → Option (List ℕ) → List ℕ → List L2tpAvp → Bool
+has_answer type None challenge avps = true
+has_answer type (Some secret) challenge avps =
+    is_value (challenge_response type secret challenge) (value_of (Some secret) CHALLENGE_RESPONSE avps)
 
 -- a Challenge is there, and no secret to answer it with
 abbrev pub is_asked_in_vain : Option (List ℕ) → List L2tpAvp → Bool
@@ -51,15 +44,7 @@ is_asked_in_vain secret avps = is_some (value_of secret CHALLENGE avps) && is_no
 -- an SCCRQ asks for an answer that cannot be made, or an SCCCN has not the right one
 abbrev pub fails_challenge : Option (List ℕ) → List ℕ → Option ℕ → List L2tpAvp → Bool
 fails_challenge secret challenge type avps =
-    is_type type SCCRQ && is_asked_in_vain secret avps || is_type type SCCCN && not (has_answer secret challenge avps)
-
--- a case, and what it refuses
-pub record Case : Type 0 where
-  pub holds : Bool
-  pub refusal : Refusal
-
-abbrev pub if_so : Bool → Refusal → Case
-if_so holds refusal = record { holds = holds; refusal = refusal }
+    is_type type SCCRQ && is_asked_in_vain secret avps || is_type type SCCCN && not (has_answer SCCCN secret challenge avps)
 
 -- What a call's message says is looked at by its call alone.
 abbrev pub is_of_wrong_version : Option (List ℕ) → Option ℕ → List L2tpAvp → Bool
@@ -76,7 +61,7 @@ abbrev pub lacks_number : ℕ → Option ℕ → Bool
 lacks_number number type = is_type type SCCRQ && number == 0
 
 -- the cases of a message of this type with these AVPs
-abbrev pub cases : TunnelState → Option ℕ → List L2tpAvp → List Case
+abbrev pub cases : TunnelState → Option ℕ → List L2tpAvp → List (Case Refusal)
 cases s type avps =
     if_so (not s.known) NotConfigured
     ∷ if_so (is_of_wrong_version s.secret type avps) WrongVersion
@@ -86,10 +71,6 @@ cases s type avps =
     ∷ if_so (not (is_taken s.phase type)) Unexpected
     ∷ if_so (lacks_number s.number type) NoNumber
     ∷ []
-
-abbrev pub first_of : List Case → Option Refusal
-first_of [] = None
-first_of (c ∷ cs) = if c.holds then Some c.refusal else first_of cs
 
 -- why the message is refused, where it is
 unfoldable pub refusal_of : TunnelState → List L2tpAvp → Option Refusal

@@ -10,7 +10,7 @@ use Rattle.bng_l2tp_wire.specs.declared.message.TheConstants.{SCCCN}
 use Rattle.bng_l2tp_tunnel.specs.declared.phase.Phase.{Phase}
 use Rattle.bng_l2tp_tunnel.specs.declared.phase.Phase.TheVariants.{Idle, Replied, Established, Cleared}
 use Rattle.bng_l2tp_tunnel.specs.TunnelState.{TunnelState}
-use Rattle.bng_l2tp_tunnel.specs.Values.{message_type}
+use Rattle.bng_l2tp_wire.specs.Values.{message_type}
 use Rattle.bng_l2tp_tunnel.specs.Messages.{is_of_call}
 use Rattle.bng_l2tp_tunnel.specs.Refusals.{has_answer}
 use Rattle.bng_l2tp_tunnel.specs.Outs.{flight_most}
@@ -72,7 +72,7 @@ is_for_call s m = is_established s.phase && (is_delivered (heard_by s m) && is_o
 -- an SCCCN that answers the tunnel's Challenge, where one was sent (section 5.1.1)
 pub record IsAnswerOf (s : TunnelState) (m : ControlMessage) : Type 0 where
   pub type : message_type m.avps ≡ Some SCCCN
-  pub answer : has_answer s.secret s.challenge m.avps ≡ true
+  pub answer : has_answer SCCCN s.secret s.challenge m.avps ≡ true
 
 -- the Nr of what goes out: that of the channel, which was begun by the message 0 where the tunnel had taken none
 abbrev pub acked : TunnelState → Step → ℕ

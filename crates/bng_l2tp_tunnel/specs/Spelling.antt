@@ -1,25 +1,14 @@
 -- The control messages that the gateway sends, by RFC 2661 sections 4.4 and 6. Numbers have their most significant octet first.
-use Rattle.std.specs.Prelude.{ℕ, true, false, List, [], ◌∷◌, ◌++◌, Option, Some, None}
-use Rattle.byteorder.specs.Endian.{big_bytes}
+use Rattle.std.specs.Prelude.{ℕ, List, [], ◌∷◌, ◌++◌, Option, Some, None}
 use Rattle.bng_l2tp_wire.specs.Avps.{L2tpAvp}
 use Rattle.bng_l2tp_wire.specs.Messages.{ControlMessage}
 use Rattle.bng_l2tp_wire.specs.declared.kind.TheConstants.{MESSAGE_TYPE, RESULT_CODE, PROTOCOL_VERSION, FRAMING_CAPABILITIES, HOST_NAME, ASSIGNED_TUNNEL_ID, RECEIVE_WINDOW_SIZE, CHALLENGE, CHALLENGE_RESPONSE}
 use Rattle.bng_l2tp_wire.specs.declared.message.TheConstants.{SCCRP, STOP_CCN, HELLO}
-use Rattle.bng_l2tp_tunnel.specs.declared.refusal.ResultCode.{ResultCode}
+use Rattle.bng_l2tp_wire.specs.declared.result_code.ResultCode.{ResultCode}
 use Rattle.bng_l2tp_tunnel.specs.declared.refusal.Refusal.{Refusal}
 use Rattle.bng_l2tp_tunnel.specs.declared.refusal.Refusal.TheVariants.{NotConfigured, WrongVersion, UnknownAvp, WrongAvp, NotAuthorized, Unexpected, NoNumber}
 use Rattle.bng_l2tp_tunnel.specs.Refusals.{version, challenge_response}
-
--- an AVP that must be known to the peer, and is not hidden
-abbrev pub avp : ℕ → List ℕ → L2tpAvp
-avp kind value = record { mandatory = true; hidden = false; reserved = 0; vendor = 0; kind = kind; value = value }
-
-abbrev pub number_avp : ℕ → ℕ → L2tpAvp
-number_avp kind number = avp kind (big_bytes 2 number)
-
--- A message for a session of the peer as it waits in the channel: the peer's tunnel and the two sequence numbers are filled in as it goes out.
-abbrev pub unsent : ℕ → List L2tpAvp → ControlMessage
-unsent session avps = record { tunnel = 0; session = session; ns = 0; nr = 0; avps = avps }
+use Rattle.bng_l2tp_wire.specs.Spelling.{avp, number_avp, unsent, result_only, general_error, code_octets}
 
 -- both synchronous and asynchronous framing (section 4.4.3)
 abbrev pub both_framings : List ℕ
@@ -38,15 +27,16 @@ abbrev pub answer_avps : Option (List ℕ) → List L2tpAvp
 answer_avps None = []
 answer_avps (Some response) = avp CHALLENGE_RESPONSE response ∷ []
 
--- the answer to the peer's Challenge, where it sent one
-abbrev pub response_avps : Option (List ℕ) → Option (List ℕ) → List L2tpAvp
-response_avps None asked = answer_avps None
-response_avps (Some secret) None = answer_avps None
-response_avps (Some secret) (Some asked) = answer_avps (Some (challenge_response SCCRP secret asked))
+-- the answer to the peer's Challenge in a message of this type, where it sent one
+abbrev pub response_avps : ℕ → Option (List ℕ) → Option (List ℕ) → List L2tpAvp
+response_avps type None asked = answer_avps None
+response_avps type (Some secret) None = answer_avps None
+response_avps type (Some secret) (Some asked) = answer_avps (Some (challenge_response type secret asked))
 
-abbrev pub sccrp_front : (name : List ℕ) (number : ℕ) → List L2tpAvp
-sccrp_front name number =
-    number_avp MESSAGE_TYPE SCCRP
+-- the AVPs that a message of this type begins with by which a tunnel is asked for or granted (sections 6.1 and 6.2)
+abbrev pub front : (type : ℕ) (name : List ℕ) (number : ℕ) → List L2tpAvp
+front type name number =
+    number_avp MESSAGE_TYPE type
     ∷ avp PROTOCOL_VERSION version
     ∷ avp FRAMING_CAPABILITIES both_framings
     ∷ avp HOST_NAME name
@@ -57,22 +47,7 @@ sccrp_front name number =
 -- the Start-Control-Connection-Reply of a tunnel with this number, to a peer that sent this Challenge, if one (section 6.2)
 abbrev pub sccrp : (name : List ℕ) (number : ℕ) (secret : Option (List ℕ)) (challenge : List ℕ) (asked : Option (List ℕ)) → ControlMessage
 sccrp name number secret challenge asked =
-    unsent 0 (sccrp_front name number ++ challenge_avps secret challenge ++ response_avps secret asked)
-
-abbrev pub result_only : ℕ → ResultCode
-result_only code = record { code = code; error = None }
-
--- a general error, which the Error Code tells
-abbrev pub general_error : ℕ → ResultCode
-general_error error = record { code = 2; error = Some error }
-
-abbrev pub error_octets : Option ℕ → List ℕ
-error_octets None = []
-error_octets (Some error) = big_bytes 2 error
-
--- a Result Code, and an Error Code where it has one (section 4.4.2)
-abbrev pub code_octets : ResultCode → List ℕ
-code_octets c = big_bytes 2 c.code ++ error_octets c.error
+    unsent 0 (front SCCRP name number ++ challenge_avps secret challenge ++ response_avps SCCRP secret asked)
 
 -- The Result Codes of a StopCCN (section 4.4.2): 4 the requester is not authorized, 5 its protocol version is not supported, 2 with 8 an AVP that
 -- must be known is not, 2 with 3 a field is out of range, 7 an error of the state machine, 2 with 4 no resources are left

@@ -18,9 +18,10 @@ use Rattle.bng_l2tp_tunnel.specs.declared.phase.Phase.TheVariants.{Idle, Replied
 use Rattle.bng_l2tp_tunnel.specs.declared.refusal.Refusal.{Refusal}
 use Rattle.bng_l2tp_tunnel.specs.declared.acknowledging.Acknowledging.{Acknowledging}
 use Rattle.bng_l2tp_tunnel.specs.declared.acknowledging.Acknowledging.TheVariants.{Never, ByAny, ByZlb}
-use Rattle.bng_l2tp_tunnel.specs.Values.{value_of, message_type, assigned_tunnel, window_of}
-use Rattle.bng_l2tp_tunnel.specs.View.{Said}
-use Rattle.bng_l2tp_tunnel.specs.Messages.{is_type, is_of_call}
+use Rattle.bng_l2tp_wire.specs.Values.{value_of, message_type, assigned_tunnel, window_of}
+use Rattle.bng_l2tp_wire.specs.View.{Said, sends}
+use Rattle.bng_l2tp_wire.specs.Judge.{is_type}
+use Rattle.bng_l2tp_tunnel.specs.Messages.{is_of_call}
 use Rattle.bng_l2tp_tunnel.specs.TunnelState.{TunnelState}
 use Rattle.bng_l2tp_tunnel.specs.Refusals.{refusal_of}
 use Rattle.bng_l2tp_tunnel.specs.Spelling.{sccrp, stop_ccn, hello, code_of, shut_down}
@@ -30,10 +31,6 @@ use Rattle.bng_l2tp_tunnel.specs.Outs.{datagram, flight_before, zlb, outs_of, af
 pub record Step : Type 0 where
   pub said : Said
   pub after : TunnelState
-
--- datagrams, and nothing else
-abbrev pub sends : List (List ℕ) → Said
-sends outs = record { outs = outs; established = false; cleared = false; call = false; opened = false; ended = false; left_out = false }
 
 abbrev pub nothing : TunnelState → Step
 nothing s = record { said = sends []; after = s }

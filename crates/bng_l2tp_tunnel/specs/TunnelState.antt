@@ -6,8 +6,8 @@ use Rattle.bng_base.specs.declared.address.TunnelNo.{TunnelNo}
 use Rattle.bng_l2tp_tunnel.specs.declared.phase.Phase.{Phase}
 use Rattle.bng_l2tp_tunnel.specs.declared.phase.Phase.TheVariants.{Idle}
 use Rattle.bng_l2tp_tunnel.specs.declared.rules.TunnelRules.{TunnelRules}
-use Rattle.bng_l2tp_tunnel.specs.Values.{default_window}
-use Rattle.bng_l2tp_tunnel.specs.View.{octets_of}
+use Rattle.bng_l2tp_wire.specs.Values.{default_window}
+use Rattle.bng_l2tp_wire.specs.View.{octets_of}
 
 pub record TunnelState : Type 0 where
   -- the gateway's Host Name

@@ -1,6 +1,5 @@
 ghost use Rattle.std.specs.Prelude.{◌≡◌, ◌&&◌};
-ghost use Rattle.bng_l2tp_wire.specs.View.{avps_of, control_of};
-ghost use Rattle.bng_l2tp_tunnel.specs.View.{payloads, said};
+ghost use Rattle.bng_l2tp_wire.specs.View.{avps_of, control_of, payloads, said};
 ghost use Rattle.bng_l2tp_tunnel.specs.Messages.{is_of_call as belongs_to_call};
 ghost use Rattle.bng_l2tp_tunnel.specs.Refusals.{refusal_of};
 ghost use Rattle.bng_l2tp_tunnel.specs.Spelling.{stop_ccn as stop_ccn_of, code_of as code_of_refusal};
@@ -9,20 +8,21 @@ ghost use Rattle.bng_l2tp_tunnel.specs.Steps.{is_established, begins as does_beg
 use crate::acknowledging::Acknowledging;
 use crate::judge::{
     fails_challenge, has_unknown_avp, has_wrong_avp, is_of_call, is_of_wrong_version, is_taken,
-    is_type, lacks_number,
+    lacks_number,
 };
-use crate::outs::{Outs, zlb};
+use crate::outs::zlb;
 use crate::phase::Phase;
 use crate::refusal::{Refusal, code_of};
 use crate::spelling::{sccrp, stop_ccn};
-use crate::step::{cleared, nothing, sends};
 use crate::tunnel::Tunnel;
-use crate::values::{number_at, type_in, value_of, window_of};
 use arrayvec::ArrayVec;
 use bng_base::TunnelStep;
 use bng_l2tp_reliable::{Channel, Heard};
+use bng_l2tp_wire::judge::is_type;
 use bng_l2tp_wire::kind::{ASSIGNED_TUNNEL_ID, CHALLENGE};
 use bng_l2tp_wire::message::{SCCCN, SCCRQ, STOP_CCN};
+use bng_l2tp_wire::step::{Outs, cleared, nothing, sends};
+use bng_l2tp_wire::values::{number_at, type_in, value_of, window_of};
 use bng_l2tp_wire::{Avp, Control};
 
 // Whether a message is an SCCRQ that is the first of its channel.

@@ -1,21 +1,20 @@
 ghost use Rattle.std.specs.Prelude.{◌≡◌, ◌<◌};
-ghost use Rattle.bng_l2tp_wire.specs.View.{avp_of, avps_of};
-ghost use Rattle.bng_l2tp_tunnel.specs.Values.{is_known as is_known_avp, value_of as value_in_message};
-ghost use Rattle.bng_l2tp_tunnel.specs.View.{octets_of};
-ghost use Rattle.bng_l2tp_tunnel.specs.Messages.{is_type as is_of_type, is_of_call as belongs_to_call, is_taken as is_taken_in, has_right_length as is_right_length, is_wrong as is_wrong_value, lacks_needed as lacks};
-ghost use Rattle.bng_l2tp_tunnel.specs.Refusals.{has_other_version as is_of_other_version, must_be_known as must_be, has_unknown as has_one_unknown, challenge_response, has_answer as answers, is_asked_in_vain as asks_in_vain, fails_challenge as fails, is_of_wrong_version as has_wrong_version, has_unknown_avp as has_unknown_one, has_wrong_avp as has_wrong_one, lacks_number as lacks_a_number};
+ghost use Rattle.bng_l2tp_wire.specs.View.{avps_of, octets_of};
+ghost use Rattle.bng_l2tp_tunnel.specs.Messages.{is_of_call as belongs_to_call, is_taken as is_taken_in, lacks_needed as lacks};
+ghost use Rattle.bng_l2tp_tunnel.specs.Refusals.{has_other_version as is_of_other_version, challenge_response, has_answer as answers, is_asked_in_vain as asks_in_vain, fails_challenge as fails, is_of_wrong_version as has_wrong_version, has_unknown_avp as has_unknown_one, has_wrong_avp as has_wrong_one, lacks_number as lacks_a_number};
 
 use crate::phase::Phase;
-use crate::placed::has_unreadable;
-use crate::values::value_of;
 use arrayvec::ArrayVec;
 use bng_digest::chap_value;
 use bng_l2tp_wire::Avp;
+use bng_l2tp_wire::judge::{has_unknown, is_type, is_wrong};
 use bng_l2tp_wire::kind::{
     ASSIGNED_TUNNEL_ID, CHALLENGE, CHALLENGE_RESPONSE, FRAMING_CAPABILITIES, HOST_NAME,
     PROTOCOL_VERSION, RESULT_CODE,
 };
 use bng_l2tp_wire::message::{CDN, HELLO, ICCN, ICRQ, SCCCN, SCCRQ, SLI, STOP_CCN, WEN};
+use bng_l2tp_wire::placed::has_unreadable;
+use bng_l2tp_wire::values::value_of;
 
 /// Version 1 and Revision 0 (RFC 2661 section 4.4.3).
 pub const VERSION: [u8; 2] = [1, 0];
@@ -25,16 +24,6 @@ pub fn is_of_call(found: Option<u16>) -> bool
     ensures { result ≡ belongs_to_call found }
 {
     matches!(found, Some(ICRQ | ICCN | CDN | WEN | SLI))
-}
-
-/// Whether a message of this type is of the wanted one.
-pub fn is_type(found: Option<u16>, wanted: u16) -> bool
-    ensures { result ≡ is_of_type found wanted }
-{
-    match found {
-        Some(found) => found == wanted,
-        None => false,
-    }
 }
 
 /// Whether a tunnel takes a message of this type in this phase (RFC 2661 section 7.2).
@@ -49,32 +38,6 @@ pub fn is_taken(phase: Phase, found: Option<u16>) -> bool
     }
 }
 
-fn is_known(avp: &Avp<'_>) -> bool
-    ensures { result ≡ is_known_avp (avp_of avp.now) }
-{
-    avp.vendor == 0 && avp.reserved == 0 && matches!(avp.kind, 0..=19 | 21..=39)
-}
-
-fn must_be_known(avp: &Avp<'_>) -> bool
-    ensures { result ≡ must_be (avp_of avp.now) }
-{
-    avp.mandatory && !is_known(avp)
-}
-
-/// Whether an AVP is not known and must be (RFC 2661 section 4.1).
-pub fn has_unknown(avps: &[Avp<'_>]) -> bool
-    ensures { result ≡ has_one_unknown (avps_of avps.now) }
-{
-    let mut left = avps;
-    while let [avp, after @ ..] = left {
-        if must_be_known(avp) {
-            return true;
-        }
-        left = after;
-    }
-    false
-}
-
 /// Whether a Protocol Version is there that is not 1.0 (RFC 2661 section 4.4.3).
 pub fn has_other_version(avps: &[Avp<'_>], secret: &Option<ArrayVec<u8, 64>>) -> bool
     ensures { result ≡ is_of_other_version (octets_of secret.now) (avps_of avps.now) }
@@ -82,28 +45,6 @@ pub fn has_other_version(avps: &[Avp<'_>], secret: &Option<ArrayVec<u8, 64>>) ->
     match value_of(avps, secret, PROTOCOL_VERSION) {
         Some(value) => value.as_slice() != VERSION.as_slice(),
         None => false,
-    }
-}
-
-/// Whether a value has the right length for its Attribute Type (RFC 2661 section 4.4).
-pub fn has_right_length(kind: u16, value: &[u8]) -> bool
-    ensures { result ≡ is_right_length kind value.now }
-{
-    match kind {
-        HOST_NAME => !value.is_empty(),
-        FRAMING_CAPABILITIES => value.len() == 4,
-        RESULT_CODE => value.len() == 2 || value.len() >= 4,
-        _ => value.len() == 2,
-    }
-}
-
-/// Whether an AVP of this Attribute Type is not there, or its value has a wrong length.
-pub fn is_wrong(avps: &[Avp<'_>], secret: &Option<ArrayVec<u8, 64>>, kind: u16) -> bool
-    ensures { result ≡ is_wrong_value kind (value_in_message (octets_of secret.now) kind (avps_of avps.now)) }
-{
-    match value_of(avps, secret, kind) {
-        Some(value) => !has_right_length(kind, value.as_slice()),
-        None => true,
     }
 }
 
@@ -134,14 +75,20 @@ pub fn challenge_response(message: u16, secret: &[u8], challenge: &[u8]) -> [u8;
     chap_value(message as u8, secret, challenge)
 }
 
-// Whether the answer to the gateway's Challenge is there, if there was one.
-fn has_answer(avps: &[Avp<'_>], secret: &Option<ArrayVec<u8, 64>>, challenge: &[u8]) -> bool
-    ensures { result ≡ answers (octets_of secret.now) challenge.now (avps_of avps.now) }
+/// Whether the answer to the gateway's Challenge in a message of this type is there, if there was one (RFC 2661 section 5.1.1).
+pub fn has_answer(
+    avps: &[Avp<'_>],
+    secret: &Option<ArrayVec<u8, 64>>,
+    challenge: &[u8],
+    message: u16,
+) -> bool
+    requires { message < 256 }
+    ensures { result ≡ answers message (octets_of secret.now) challenge.now (avps_of avps.now) }
 {
     let Some(shared) = secret else {
         return true;
     };
-    let wanted = challenge_response(SCCCN, shared.as_slice(), challenge);
+    let wanted = challenge_response(message, shared.as_slice(), challenge);
     match value_of(avps, secret, CHALLENGE_RESPONSE) {
         Some(value) => value.as_slice() == wanted.as_slice(),
         None => false,
@@ -166,7 +113,7 @@ pub fn fails_challenge(
 {
     match found {
         Some(SCCRQ) => is_asked_in_vain(avps, secret),
-        Some(SCCCN) => !has_answer(avps, secret, challenge),
+        Some(SCCCN) => !has_answer(avps, secret, challenge, SCCCN),
         _ => false,
     }
 }

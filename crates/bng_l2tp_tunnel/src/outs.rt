@@ -2,17 +2,15 @@ ghost use Rattle.std.specs.Prelude.{◌≡◌, ◌+◌, ◌<◌, ◌≤◌, ◌+
 ghost use Rattle.bng_l2tp_reliable.specs.ChannelState.{IsChannel};
 ghost use Rattle.bng_l2tp_reliable.specs.Calls.{next_out};
 ghost use Rattle.arrayvec.specs.ArrayVec.{array_vec_len};
-ghost use Rattle.bng_l2tp_tunnel.specs.View.{payloads};
+ghost use Rattle.bng_l2tp_wire.specs.View.{payloads};
 ghost use Rattle.bng_l2tp_tunnel.specs.Outs.{datagram as datagram_to, after_out, let_out as lets_out, AreFirstWaiting, flight_before, with_zlb, outs_of as outs_to, flight_most, zlb as zlb_of};
 
 use crate::acknowledging::Acknowledging;
-use crate::spelling::spelled;
 use arrayvec::ArrayVec;
 use bng_base::Frame;
 use bng_l2tp_reliable::{Channel, IN_FLIGHT_MOST, Outgoing};
-
-/// The datagrams of a step: at most eight that the window lets out, and a ZLB.
-pub type Outs = ArrayVec<Frame, 10>;
+use bng_l2tp_wire::spelling::spelled;
+use bng_l2tp_wire::step::Outs;
 
 // The octets of a control message header (RFC 2661 section 3.1).
 const HEADER: usize = 12;

@@ -1,5 +1,9 @@
 ghost use Rattle.std.specs.Prelude.{◌≡◌};
-ghost use Rattle.bng_l2tp_tunnel.specs.Spelling.{result_only as only_result, general_error as error_of, code_of as code_of_refusal, shut_down as code_of_shut_down};
+ghost use Rattle.bng_l2tp_tunnel.specs.Spelling.{code_of as code_of_refusal, shut_down as code_of_shut_down};
+
+use bng_l2tp_wire::result_code::{
+    NO_RESOURCES, OUT_OF_RANGE, ResultCode, UNKNOWN_AVP, general_error, result_only,
+};
 
 /// Why a tunnel is refused (RFC 2661 sections 4.4.2 and 7.2.1). Each is told by a StopCCN.
 #[derive(Clone, Copy)]
@@ -20,17 +24,6 @@ pub enum Refusal {
     NoNumber,
 }
 
-/// What a Result Code AVP says (RFC 2661 section 4.4.2): a Result Code, and an Error Code where it has one.
-#[derive(Clone, Copy)]
-pub struct ResultCode {
-    /// The Result Code.
-    pub code: u16,
-    /// The Error Code, if it has one.
-    pub error: Option<u16>,
-}
-
-// General error, which the Error Code tells.
-const GENERAL_ERROR: u16 = 2;
 // The requester is not authorized.
 const UNAUTHORIZED: u16 = 4;
 // The protocol version of the requester is not supported.
@@ -39,30 +32,6 @@ const UNSUPPORTED_VERSION: u16 = 5;
 const SHUT_DOWN: u16 = 6;
 // Finite state machine error.
 const STATE_ERROR: u16 = 7;
-
-// A field is out of range.
-const OUT_OF_RANGE: u16 = 3;
-// There are no resources for the operation.
-const NO_RESOURCES: u16 = 4;
-// An AVP that must be known is not.
-const UNKNOWN_AVP: u16 = 8;
-
-/// A Result Code without an Error Code.
-pub fn result_only(code: u16) -> ResultCode
-    ensures { result ≡ only_result code }
-{
-    ResultCode { code, error: None }
-}
-
-/// Result Code 2, a general error, which the Error Code tells.
-pub fn general_error(error: u16) -> ResultCode
-    ensures { result ≡ error_of error }
-{
-    ResultCode {
-        code: GENERAL_ERROR,
-        error: Some(error),
-    }
-}
 
 /// The code of a StopCCN that tells a refusal.
 pub fn code_of(refusal: Refusal) -> ResultCode

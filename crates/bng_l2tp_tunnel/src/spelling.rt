@@ -1,23 +1,20 @@
-ghost use Rattle.std.specs.Prelude.{◌≡◌, ◌+◌, ◌*◌, ◌≤◌, ◌<◌, ◌++◌, [], ◌∷◌, length, option_map};
-ghost use Rattle.std.specs.List.{AllByRecursion};
+ghost use Rattle.std.specs.Prelude.{◌≡◌, ◌+◌, ◌≤◌, ◌<◌, ◌++◌, length};
 ghost use Rattle.arrayvec.specs.ArrayVec.{array_vec_len};
-ghost use Rattle.bng_l2tp_wire.specs.Avps.{AvpFits, avps_text};
 ghost use Rattle.bng_l2tp_wire.specs.Messages.{control_text};
-ghost use Rattle.bng_l2tp_wire.specs.View.{avp_of, avps_of};
-ghost use Rattle.bng_l2tp_tunnel.specs.View.{octets_of};
-ghost use Rattle.bng_l2tp_tunnel.specs.Spelling.{avp as must_avp, sccrp as sccrp_of, stop_ccn as stop_ccn_of, hello as hello_of, code_octets as octets_of_code, challenge_avps, response_avps, answer_avps};
+ghost use Rattle.bng_l2tp_wire.specs.View.{avps_of, octets_of};
+ghost use Rattle.bng_l2tp_tunnel.specs.Spelling.{sccrp as sccrp_of, stop_ccn as stop_ccn_of, hello as hello_of, challenge_avps, response_avps, answer_avps};
 
 use crate::judge::{VERSION, challenge_response};
-use crate::refusal::ResultCode;
-use crate::values::Value;
 use arrayvec::ArrayVec;
-use bng_base::{Frame, LONGEST, Written};
+use bng_base::Frame;
 use bng_l2tp_wire::kind::{
     ASSIGNED_TUNNEL_ID, CHALLENGE, CHALLENGE_RESPONSE, FRAMING_CAPABILITIES, HOST_NAME,
     MESSAGE_TYPE, PROTOCOL_VERSION, RECEIVE_WINDOW_SIZE, RESULT_CODE,
 };
 use bng_l2tp_wire::message::{HELLO, SCCRP, STOP_CCN};
-use bng_l2tp_wire::{Avp, Control};
+use bng_l2tp_wire::result_code::{ResultCode, code_octets};
+use bng_l2tp_wire::spelling::{AvpList, avp, spelled};
+use bng_l2tp_wire::values::Value;
 
 /// How many messages the gateway takes before it acknowledges one (RFC 2661 section 4.4.3).
 pub const OWN_WINDOW: u16 = 8;
@@ -25,51 +22,18 @@ pub const OWN_WINDOW: u16 = 8;
 /// Both synchronous and asynchronous framing (RFC 2661 section 4.4.3).
 pub const BOTH_FRAMINGS: [u8; 4] = [0, 0, 0, 3];
 
-/// The AVPs of a control message.
-pub type AvpList<'a> = ArrayVec<Avp<'a>, 64>;
-
-/// An AVP that the peer must know, and that is not hidden (RFC 2661 section 4.1).
-pub fn avp<'a>(kind: u16, value: &'a [u8]) -> Avp<'a>
-    ensures { avp_of result ≡ must_avp kind value.now }
-{
-    Avp {
-        mandatory: true,
-        hidden: false,
-        reserved: 0,
-        vendor: 0,
-        kind,
-        value,
-    }
-}
-
-/// The text of a control message that is known to fit.
-pub fn spelled(tunnel: u16, session: u16, ns: u16, nr: u16, avps: AvpList<'_>) -> Frame
-    requires fit { AllByRecursion AvpFits (avps_of avps.items) }
-    requires short { 12 + length (avps_text (avps_of avps.items)) ≤ LONGEST }
-    ensures text { result.payload ≡ control_text (record { tunnel = tunnel; session = session; ns = ns; nr = nr; avps = avps_of avps.entry.items }) }
-    ensures size { length result.payload ≡ 12 + length (avps_text (avps_of avps.entry.items)) }
-{
-    let message = Control {
-        tunnel,
-        session,
-        ns,
-        nr,
-        avps,
-    };
-    let mut frame = Frame::new();
-    match message.write(&mut frame) {
-        Written::Done => frame,
-        Written::Full => unreachable!(),
-    }
-}
-
-// The answer to the peer's Challenge, where it sent one.
-fn response_to(secret: &Option<ArrayVec<u8, 64>>, asked: &Option<Value>) -> Option<[u8; 16]>
-    ensures { response_avps (octets_of secret.now) (octets_of asked.now) ≡ answer_avps result }
+/// The answer to the peer's Challenge in a message of this type, where it sent one (RFC 2661 section 4.4.3).
+pub fn response_to(
+    message: u16,
+    secret: &Option<ArrayVec<u8, 64>>,
+    asked: &Option<Value>,
+) -> Option<[u8; 16]>
+    requires { message < 256 }
+    ensures { response_avps message (octets_of secret.now) (octets_of asked.now) ≡ answer_avps result }
 {
     match (secret, asked) {
         (Some(secret), Some(asked)) => Some(challenge_response(
-            SCCRP,
+            message,
             secret.as_slice(),
             asked.as_slice(),
         )),
@@ -117,7 +81,7 @@ pub fn sccrp(
     let message = SCCRP.to_be_bytes();
     let number = number.to_be_bytes();
     let window = OWN_WINDOW.to_be_bytes();
-    let response = response_to(secret, asked);
+    let response = response_to(SCCRP, secret, asked);
     let mut avps = ArrayVec::new();
     avps.push(avp(MESSAGE_TYPE, &message));
     avps.push(avp(PROTOCOL_VERSION, &VERSION));
@@ -128,22 +92,6 @@ pub fn sccrp(
     push_challenge(&mut avps, secret, challenge);
     push_response(&mut avps, &response);
     spelled(0, 0, 0, 0, avps)
-}
-
-/// The octets of a Result Code AVP (RFC 2661 section 4.4.2).
-pub fn code_octets(code: ResultCode) -> ArrayVec<u8, 4>
-    ensures { result.items ≡ octets_of_code code }
-{
-    let mut octets = ArrayVec::new();
-    let [r1, r0] = code.code.to_be_bytes();
-    octets.push(r1);
-    octets.push(r0);
-    if let Some(error) = code.error {
-        let [e1, e0] = error.to_be_bytes();
-        octets.push(e1);
-        octets.push(e0);
-    }
-    octets
 }
 
 /// The StopCCN of the tunnel with this number (RFC 2661 section 6.4), to a tunnel of the peer and with these numbers.

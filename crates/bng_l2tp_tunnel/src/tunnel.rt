@@ -1,8 +1,7 @@
 ghost use Rattle.std.specs.Prelude.{◌≡◌, ◌≢◌, ◌≤◌, ◌<◌, ◌↔◌, ℕ, length, true, false, IsTrue};
 ghost use Rattle.bng_l2tp_reliable.specs.ChannelState.{waiting};
 ghost use Rattle.bng_l2tp_reliable.specs.Timers.{never, due_of, after_due, deadline_of};
-ghost use Rattle.bng_l2tp_wire.specs.View.{control_of};
-ghost use Rattle.bng_l2tp_tunnel.specs.View.{octets_of, payloads, said};
+ghost use Rattle.bng_l2tp_wire.specs.View.{control_of, octets_of, payloads, said};
 ghost use Rattle.bng_l2tp_tunnel.specs.Outs.{zlb as zlb_of};
 ghost use Rattle.bng_l2tp_tunnel.specs.TunnelState.{fresh, lasting_of};
 ghost use Rattle.bng_l2tp_tunnel.specs.Sound.{IsTunnel, IsSpelled, IsSound, IsAnswered, IsAnswerOf, is_for_call};
@@ -15,15 +14,14 @@ use crate::phase::Phase;
 use crate::refusal::shut_down;
 use crate::rules::TunnelRules;
 use crate::spelling::{hello, stop_ccn};
-use crate::step::{cleared, nothing, sends};
 use arrayvec::ArrayVec;
 use bng_base::{Frame, Peer, TunnelNo, TunnelStep};
 use bng_l2tp_reliable::{Channel, Due, MESSAGE_MOST, Queued, WAITING_MOST};
 use bng_l2tp_wire::Control;
+use bng_l2tp_wire::secret::{copied, copied_secret};
+use bng_l2tp_wire::step::{cleared, nothing, sends};
+use bng_l2tp_wire::values::DEFAULT_WINDOW;
 use std::marker::Model;
-
-/// The window of a peer that says none (RFC 2661 section 4.4.3).
-pub const DEFAULT_WINDOW: u16 = 4;
 
 /// A tunnel of a peer, as its network server sees it (RFC 2661 section 7.2).
 ///
@@ -42,7 +40,7 @@ pub struct Tunnel {
 
 impl Model for Tunnel {
     ghost use Rattle.bng_l2tp_tunnel.specs.TunnelState.{TunnelState};
-    ghost use Rattle.bng_l2tp_tunnel.specs.View.{octets_of};
+    ghost use Rattle.bng_l2tp_wire.specs.View.{octets_of};
 
     ghost Value = { TunnelState };
 
@@ -57,26 +55,6 @@ impl Model for Tunnel {
       challenge = t.challenge;
       channel = t.channel;
     } };
-}
-
-/// The same text once more.
-pub fn copied(text: &ArrayVec<u8, 64>) -> ArrayVec<u8, 64>
-    ensures { result.items ≡ text.now.items }
-{
-    let Ok(list) = ArrayVec::try_from(text.as_slice()) else {
-        unreachable!();
-    };
-    list
-}
-
-/// The same secret once more.
-pub fn copied_secret(secret: &Option<ArrayVec<u8, 64>>) -> Option<ArrayVec<u8, 64>>
-    ensures { octets_of result ≡ octets_of secret.now }
-{
-    match secret {
-        Some(secret) => Some(copied(secret)),
-        None => None,
-    }
 }
 
 impl Tunnel {

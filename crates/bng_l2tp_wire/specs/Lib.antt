@@ -2,5 +2,8 @@ pub mod AttributeTypes
 pub mod MessageTypes
 pub mod Avps
 pub mod Messages
+pub mod Values
 pub mod View
+pub mod Judge
+pub mod Spelling
 pub mod Reading

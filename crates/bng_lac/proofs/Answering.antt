@@ -1,7 +1,7 @@
 -- Steps that answer by a text.
 use Rattle.std.proofs.Common.{◌≡◌, ℕ, true, List, ap, ◌∙◌}
 use Rattle.bng_l2tp_tunnel.specs.declared.acknowledging.Acknowledging.{Acknowledging}
-use Rattle.bng_l2tp_tunnel.specs.View.{Said}
+use Rattle.bng_l2tp_wire.specs.View.{Said}
 use Rattle.bng_lac.specs.LacState.{LacState}
 use Rattle.bng_lac.specs.Steps.{queued_text, cleared as cleared_of, clears}
 

@@ -3,10 +3,10 @@ use Rattle.std.proofs.Common.{◌≡◌, ◌≢◌, ℕ, ◌<◌, ◌≤◌, ◌
 use Rattle.std.proofs.lemmas.Bool.{cases_lt, eqb-true, false≢true}
 use Rattle.std.proofs.lemmas.Bool.Decides.{nat_tests}
 use Rattle.bng_l2tp_wire.specs.Avps.{L2tpAvp}
-use Rattle.bng_l2tp_tunnel.specs.Values.{message_type}
-use Rattle.bng_l2tp_tunnel.specs.Messages.{is_type}
+use Rattle.bng_l2tp_wire.specs.Values.{message_type}
+use Rattle.bng_l2tp_wire.specs.Judge.{is_type}
 use Rattle.bng_l2tp_call.specs.declared.refusal.Refusal.{Refusal}
-use Rattle.bng_l2tp_call.specs.Numbers.{icrp_type, cdn_type}
+use Rattle.bng_l2tp_wire.specs.declared.message.TheConstants.{ICRP, CDN}
 use Rattle.bng_lac.specs.declared.call.LacCall.{LacCall}
 use Rattle.bng_lac.specs.Messages.{is_taken_by}
 use Rattle.bng_lac.specs.Refusals.{call_refusal_of}
@@ -105,31 +105,31 @@ module _ (n : ℕ) (c : LacCall) (differ : n ≢ c.session.0) where
 
 -- What brings a call up -------------------------------------------------------------------------------------------------------------------
 
-eq_by : (t : ℕ) → is_type (Some t) icrp_type ≡ true → t ≡ 11
+eq_by : (t : ℕ) → is_type (Some t) ICRP ≡ true → t ≡ 11
 eq_by t e = eqb-true t 11 e
 
-waits_by : (c : LacCall) (peer type : Option ℕ) → is_type type icrp_type ≡ true → is_taken_by (record c { peer = peer }) type ≡ true → (peer ≡ None) × (type ≡ Some icrp_type)
+waits_by : (c : LacCall) (peer type : Option ℕ) → is_type type ICRP ≡ true → is_taken_by (record c { peer = peer }) type ≡ true → (peer ≡ None) × (type ≡ Some ICRP)
 waits_by c peer None a b = absurd (false≢true a)
 waits_by c None (Some t) a b = (refl, ap (λ (n : ℕ). Some n) (eq_by t a))
 waits_by c (Some p) (Some t) a b =
     let P : ℕ → Type 0 = λ n. is_taken_by (record c { peer = Some p }) (Some n) ≡ true in absurd (false≢true (subst P (eq_by t a) b))
 
 module _ (secret : Option (List ℕ)) (c : LacCall) (avps : List L2tpAvp) where
-  by_type : (icrp cdn : Bool) → is_type (message_type avps) icrp_type ≡ icrp → is_taken_by c (message_type avps) ≡ true
-      → (cond icrp (opens secret c avps) (cond cdn ends (passes c))).opened ≡ true → (c.peer ≡ None) × (message_type avps ≡ Some icrp_type)
+  by_type : (icrp cdn : Bool) → is_type (message_type avps) ICRP ≡ icrp → is_taken_by c (message_type avps) ≡ true
+      → (cond icrp (opens secret c avps) (cond cdn ends (passes c))).opened ≡ true → (c.peer ≡ None) × (message_type avps ≡ Some ICRP)
   by_type true cdn is taken up = waits_by c c.peer (message_type avps) is taken
   by_type false true is taken up = absurd (false≢true up)
   by_type false false is taken up = absurd (false≢true up)
 
-  by_refusal : (cause : Option Refusal) → is_taken_by c (message_type avps) ≡ true → (judged secret c avps cause).opened ≡ true → (c.peer ≡ None) × (message_type avps ≡ Some icrp_type)
-  by_refusal None taken up = by_type (is_type (message_type avps) icrp_type) (is_type (message_type avps) cdn_type) refl taken up
+  by_refusal : (cause : Option Refusal) → is_taken_by c (message_type avps) ≡ true → (judged secret c avps cause).opened ≡ true → (c.peer ≡ None) × (message_type avps ≡ Some ICRP)
+  by_refusal None taken up = by_type (is_type (message_type avps) ICRP) (is_type (message_type avps) CDN) refl taken up
   by_refusal (Some cause) taken up = absurd (false≢true up)
 
-  by_taken : (b : Bool) → is_taken_by c (message_type avps) ≡ b → (cond b (judged secret c avps (call_refusal_of secret avps)) (passes c)).opened ≡ true → (c.peer ≡ None) × (message_type avps ≡ Some icrp_type)
+  by_taken : (b : Bool) → is_taken_by c (message_type avps) ≡ b → (cond b (judged secret c avps (call_refusal_of secret avps)) (passes c)).opened ≡ true → (c.peer ≡ None) × (message_type avps ≡ Some ICRP)
   by_taken true is up = by_refusal (call_refusal_of secret avps) is up
   by_taken false is up = absurd (false≢true up)
 
-  pub opens_waiting : (call_step secret c avps).opened ≡ true → (c.peer ≡ None) × (message_type avps ≡ Some icrp_type)
+  pub opens_waiting : (call_step secret c avps).opened ≡ true → (c.peer ≡ None) × (message_type avps ≡ Some ICRP)
   unfolding call_step
   opens_waiting up = by_taken (is_taken_by c (message_type avps)) refl up
 

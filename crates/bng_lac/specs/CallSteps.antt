@@ -2,10 +2,10 @@
 use Rattle.std.specs.Prelude.{ℕ, Bool, true, false, if◌then◌else◌, List, Option, Some, None, unwrap_or}
 use Rattle.bng_l2tp_wire.specs.Avps.{L2tpAvp}
 use Rattle.bng_l2tp_wire.specs.Messages.{control_text}
-use Rattle.bng_l2tp_tunnel.specs.Values.{value_of, number_in, message_type}
-use Rattle.bng_l2tp_tunnel.specs.Messages.{is_type}
+use Rattle.bng_l2tp_wire.specs.Values.{message_type, assigned_session}
+use Rattle.bng_l2tp_wire.specs.Judge.{is_type}
 use Rattle.bng_l2tp_call.specs.declared.refusal.Refusal.{Refusal}
-use Rattle.bng_l2tp_call.specs.Numbers.{icrp_type, cdn_type, assigned_session_id_avp}
+use Rattle.bng_l2tp_wire.specs.declared.message.TheConstants.{ICRP, CDN}
 use Rattle.bng_l2tp_call.specs.Spelling.{cdn, code_of}
 use Rattle.bng_lac.specs.declared.call.LacCall.{LacCall}
 use Rattle.bng_lac.specs.Messages.{is_taken_by}
@@ -18,10 +18,6 @@ pub record CallStep : Type 0 where
   pub after : Option LacCall
   pub opened : Bool
   pub ended : Bool
-
--- the server's Assigned Session ID in a message (section 4.4.4)
-abbrev pub assigned_session : Option (List ℕ) → List L2tpAvp → Option ℕ
-assigned_session secret avps = number_in (value_of secret assigned_session_id_avp avps)
 
 -- the session of the server that a call's messages go to, 0 where it is not known
 abbrev pub peer_session : LacCall → ℕ
@@ -61,8 +57,8 @@ refuses secret c avps cause = record {
 -- a message that is not refused
 abbrev pub accepted : Option (List ℕ) → LacCall → Option ℕ → List L2tpAvp → CallStep
 accepted secret c type avps =
-    if is_type type icrp_type then opens secret c avps
-    else (if is_type type cdn_type then ends
+    if is_type type ICRP then opens secret c avps
+    else (if is_type type CDN then ends
     else passes c)
 
 abbrev pub judged : Option (List ℕ) → LacCall → List L2tpAvp → Option Refusal → CallStep

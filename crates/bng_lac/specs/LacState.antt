@@ -3,8 +3,8 @@ use Rattle.std.specs.Prelude.{ℕ, ◌<◌, Bool, true, false, List, [], Option,
 use Rattle.std.specs.List.{AllPairs}
 use Rattle.bng_base.specs.declared.address.Peer.{Peer}
 use Rattle.bng_l2tp_reliable.specs.ChannelState.{ChannelState, begun}
-use Rattle.bng_l2tp_tunnel.specs.Values.{default_window}
-use Rattle.bng_l2tp_tunnel.specs.View.{octets_of}
+use Rattle.bng_l2tp_wire.specs.Values.{default_window}
+use Rattle.bng_l2tp_wire.specs.View.{octets_of}
 use Rattle.bng_lac.specs.declared.phase.Phase.{Phase}
 use Rattle.bng_lac.specs.declared.phase.Phase.TheVariants.{Idle, WaitReply, Established}
 use Rattle.bng_lac.specs.declared.call.LacCall.{LacCall}

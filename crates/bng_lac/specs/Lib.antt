@@ -1,4 +1,3 @@
-pub mod Numbers
 pub mod LacState
 pub mod Messages
 pub mod Refusals

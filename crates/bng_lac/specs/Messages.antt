@@ -2,17 +2,16 @@
 use Rattle.std.specs.Prelude.{ℕ, Bool, true, false, ◌&&◌, ◌||◌, List, [], ◌∷◌, Option, is_none}
 use Rattle.std.specs.List.{list_any}
 use Rattle.bng_l2tp_wire.specs.Avps.{L2tpAvp}
-use Rattle.bng_l2tp_tunnel.specs.Values.{value_of}
-use Rattle.bng_l2tp_tunnel.specs.Messages.{is_type, is_wrong}
-use Rattle.bng_l2tp_call.specs.Numbers.{icrp_type, cdn_type, wen_type, sli_type, result_code_avp, assigned_session_id_avp}
+use Rattle.bng_l2tp_wire.specs.Judge.{is_type, lacks_one_of}
+use Rattle.bng_l2tp_wire.specs.declared.message.TheConstants.{ICRP, CDN, WEN, SLI, SCCRP, STOP_CCN, HELLO}
+use Rattle.bng_l2tp_wire.specs.declared.kind.TheConstants.{RESULT_CODE, ASSIGNED_SESSION_ID, PROTOCOL_VERSION, FRAMING_CAPABILITIES, HOST_NAME, ASSIGNED_TUNNEL_ID}
 use Rattle.bng_lac.specs.declared.phase.Phase.{Phase}
 use Rattle.bng_lac.specs.declared.phase.Phase.TheVariants.{Idle, WaitReply, Established}
 use Rattle.bng_lac.specs.declared.call.LacCall.{LacCall}
-use Rattle.bng_lac.specs.Numbers.{sccrp_type, stop_ccn_type, hello_type, protocol_version_avp, framing_capabilities_avp, host_name_avp, assigned_tunnel_id_avp}
 
 -- the messages of a call that a network server sends (section 3.2)
 abbrev pub is_of_call : Option ℕ → Bool
-is_of_call type = list_any (is_type type) (icrp_type ∷ cdn_type ∷ wen_type ∷ sli_type ∷ [])
+is_of_call type = list_any (is_type type) (ICRP ∷ CDN ∷ WEN ∷ SLI ∷ [])
 
 -- a message of a tunnel: in which phases of the tunnel it is taken
 pub record Row : Type 0 where
@@ -23,7 +22,7 @@ abbrev pub row : ℕ → List Phase → Row
 row type taken = record { type = type; taken = taken }
 
 abbrev pub rows : List Row
-rows = row sccrp_type (WaitReply ∷ []) ∷ row stop_ccn_type (WaitReply ∷ Established ∷ []) ∷ row hello_type (Established ∷ []) ∷ []
+rows = row SCCRP (WaitReply ∷ []) ∷ row STOP_CCN (WaitReply ∷ Established ∷ []) ∷ row HELLO (Established ∷ []) ∷ []
 
 abbrev pub same_phase : Phase → Phase → Bool
 same_phase Idle Idle = true
@@ -38,7 +37,7 @@ is_taken phase type = list_any (λ r. is_type type r.type && list_any (same_phas
 -- A call takes an ICRP where it waits for one, and the others always.
 abbrev pub is_taken_by : LacCall → Option ℕ → Bool
 is_taken_by c type =
-    is_type type icrp_type && is_none c.peer || list_any (is_type type) (cdn_type ∷ wen_type ∷ sli_type ∷ [])
+    is_type type ICRP && is_none c.peer || list_any (is_type type) (CDN ∷ WEN ∷ SLI ∷ [])
 
 -- the AVPs that a message must have
 pub record Needs : Type 0 where
@@ -50,13 +49,12 @@ needs type kinds = record { type = type; kinds = kinds }
 
 abbrev pub all_needs : List Needs
 all_needs =
-    needs sccrp_type (protocol_version_avp ∷ framing_capabilities_avp ∷ host_name_avp ∷ assigned_tunnel_id_avp ∷ [])
-    ∷ needs stop_ccn_type (result_code_avp ∷ assigned_tunnel_id_avp ∷ [])
-    ∷ needs icrp_type (assigned_session_id_avp ∷ [])
-    ∷ needs cdn_type (result_code_avp ∷ assigned_session_id_avp ∷ [])
+    needs SCCRP (PROTOCOL_VERSION ∷ FRAMING_CAPABILITIES ∷ HOST_NAME ∷ ASSIGNED_TUNNEL_ID ∷ [])
+    ∷ needs STOP_CCN (RESULT_CODE ∷ ASSIGNED_TUNNEL_ID ∷ [])
+    ∷ needs ICRP (ASSIGNED_SESSION_ID ∷ [])
+    ∷ needs CDN (RESULT_CODE ∷ ASSIGNED_SESSION_ID ∷ [])
     ∷ []
 
 -- an AVP that the message must have is not there, or has a wrong length
 abbrev pub lacks_needed : Option (List ℕ) → Option ℕ → List L2tpAvp → Bool
-lacks_needed secret type avps =
-    list_any (λ r. is_type type r.type && list_any (λ kind. is_wrong kind (value_of secret kind avps)) r.kinds) all_needs
+lacks_needed secret type avps = list_any (λ r. is_type type r.type && lacks_one_of secret r.kinds avps) all_needs

@@ -1,14 +1,14 @@
 -- Why a message is refused, by RFC 2661 sections 4.4.2, 5.1.1 and 7.2.1: lists of cases, of which the first that holds counts.
-use Rattle.std.specs.Prelude.{ℕ, Bool, true, ◌&&◌, ◌||◌, not, if◌then◌else◌, List, [], ◌∷◌, Option, Some, None}
+use Rattle.std.specs.Prelude.{ℕ, Bool, ◌&&◌, ◌||◌, not, if◌then◌else◌, List, [], ◌∷◌, Option, Some, None}
 use Rattle.bng_l2tp_wire.specs.Avps.{L2tpAvp}
 use Rattle.bng_l2tp_tunnel.specs.declared.refusal.Refusal.{Refusal}
 use Rattle.bng_l2tp_tunnel.specs.declared.refusal.Refusal.TheVariants.{WrongVersion, UnknownAvp, WrongAvp, NotAuthorized, Unexpected}
-use Rattle.bng_l2tp_tunnel.specs.Values.{value_of, message_type}
-use Rattle.bng_l2tp_tunnel.specs.Messages.{is_type, has_unreadable}
-use Rattle.bng_l2tp_tunnel.specs.Refusals.{has_other_version, has_unknown, challenge_response, is_value, is_asked_in_vain, Case, if_so, first_of}
+use Rattle.bng_l2tp_wire.specs.Values.{message_type, has_unreadable}
+use Rattle.bng_l2tp_wire.specs.Judge.{is_type, has_unknown, Case, if_so, first_of}
+use Rattle.bng_l2tp_tunnel.specs.Refusals.{has_other_version, has_answer, is_asked_in_vain}
 use Rattle.bng_l2tp_call.specs.declared.refusal.Refusal.{Refusal as CallRefusal}
 use Rattle.bng_l2tp_call.specs.declared.refusal.Refusal.TheVariants.{UnknownAvp as UnknownAvpOfCall, WrongAvp as WrongAvpOfCall}
-use Rattle.bng_lac.specs.Numbers.{sccrp_type, challenge_response_avp}
+use Rattle.bng_l2tp_wire.specs.declared.message.TheConstants.{SCCRP}
 use Rattle.bng_lac.specs.LacState.{LacState}
 use Rattle.bng_lac.specs.Messages.{is_of_call, is_taken, lacks_needed}
 
@@ -16,19 +16,13 @@ use Rattle.bng_lac.specs.Messages.{is_of_call, is_taken, lacks_needed}
 abbrev pub has_wrong_avp : Option (List ℕ) → Option ℕ → List L2tpAvp → Bool
 has_wrong_avp secret type avps = lacks_needed secret type avps || has_unreadable secret avps
 
--- the answer that an SCCRP must have where the tunnel has a secret, and so sent a Challenge (section 5.1.1)
-abbrev pub has_answer : Option (List ℕ) → List ℕ → List L2tpAvp → Bool
-has_answer None challenge avps = true
-has_answer (Some secret) challenge avps =
-    is_value (challenge_response sccrp_type secret challenge) (value_of (Some secret) challenge_response_avp avps)
-
 -- an SCCRP asks for an answer that cannot be made, or has not the right one
 abbrev pub fails_challenge : Option (List ℕ) → List ℕ → Option ℕ → List L2tpAvp → Bool
 fails_challenge secret challenge type avps =
-    is_type type sccrp_type && (is_asked_in_vain secret avps || not (has_answer secret challenge avps))
+    is_type type SCCRP && (is_asked_in_vain secret avps || not (has_answer SCCRP secret challenge avps))
 
 -- The cases of a message of this type with these AVPs. What a call's message says is looked at by its call alone.
-abbrev pub cases : LacState → Option ℕ → List L2tpAvp → List Case
+abbrev pub cases : LacState → Option ℕ → List L2tpAvp → List (Case Refusal)
 cases s type avps =
     if_so (not (is_of_call type) && has_other_version s.secret avps) WrongVersion
     ∷ if_so (not (is_of_call type) && has_unknown avps) UnknownAvp

@@ -15,18 +15,19 @@ use Rattle.bng_l2tp_wire.specs.Messages.{ControlMessage, control_text}
 use Rattle.bng_l2tp_tunnel.specs.declared.refusal.Refusal.{Refusal}
 use Rattle.bng_l2tp_tunnel.specs.declared.acknowledging.Acknowledging.{Acknowledging}
 use Rattle.bng_l2tp_tunnel.specs.declared.acknowledging.Acknowledging.TheVariants.{Never, ByAny, ByZlb}
-use Rattle.bng_l2tp_tunnel.specs.Values.{default_window, value_of, message_type, assigned_tunnel, window_of}
-use Rattle.bng_l2tp_tunnel.specs.View.{Said}
-use Rattle.bng_l2tp_tunnel.specs.Messages.{is_type}
-use Rattle.bng_l2tp_tunnel.specs.Outs.{datagram, flight_before, zlb, outs_of, after_out, flight_most}
+use Rattle.bng_l2tp_wire.specs.Values.{default_window, value_of, message_type, assigned_tunnel, window_of}
+use Rattle.bng_l2tp_wire.specs.View.{Said, sends}
+use Rattle.bng_l2tp_wire.specs.Judge.{is_type}
+use Rattle.bng_l2tp_tunnel.specs.Outs.{datagram, flight_before, zlb, or_zlb, outs_of, after_out, flight_most}
 use Rattle.bng_l2tp_tunnel.specs.Spelling.{stop_ccn, hello, code_of, shut_down}
-use Rattle.bng_l2tp_tunnel.specs.Steps.{sends, is_zlb}
+use Rattle.bng_l2tp_tunnel.specs.Steps.{is_zlb}
 use Rattle.bng_l2tp_call.specs.Spelling.{cdn, administrative}
 use Rattle.bng_lac.specs.declared.called.Called.{Called}
 use Rattle.bng_lac.specs.declared.called.Called.TheVariants.{Asked, Full}
 use Rattle.bng_lac.specs.declared.call.LacCall.{LacCall}
 use Rattle.bng_lac.specs.declared.phase.Phase.TheVariants.{Idle, WaitReply, Established}
-use Rattle.bng_lac.specs.Numbers.{sccrp_type, stop_ccn_type, challenge_avp}
+use Rattle.bng_l2tp_wire.specs.declared.message.TheConstants.{SCCRP, STOP_CCN}
+use Rattle.bng_l2tp_wire.specs.declared.kind.TheConstants.{CHALLENGE}
 use Rattle.bng_lac.specs.LacState.{LacState, is_waiting, is_established}
 use Rattle.bng_lac.specs.Messages.{is_of_call}
 use Rattle.bng_lac.specs.Refusals.{refusal_of}
@@ -116,7 +117,7 @@ asks_each a (c ∷ cs) now = asks_each (asks a c now) cs now
 -- the channel of a server that has told its window, with the SCCCN
 abbrev pub connecting : ChannelState → Option (List ℕ) → ℕ → List L2tpAvp → ℕ → Asking
 connecting c secret serial avps now = record {
-  channel = queue (with_window c (window_of secret avps)) (scccn secret (value_of secret challenge_avp avps)) now;
+  channel = queue (with_window c (window_of secret avps)) (scccn secret (value_of secret CHALLENGE avps)) now;
   serial = serial;
   left_out = is_full (with_window c (window_of secret avps));
 }
@@ -137,8 +138,8 @@ ended s = clears (record { said = sends (zlb (to_peer s) s.channel ∷ []); afte
 -- a message that is not refused
 abbrev pub accepted : LacState → Option ℕ → List L2tpAvp → ℕ → Step
 accepted s type avps now =
-    if is_type type sccrp_type then established s avps now
-    else (if is_type type stop_ccn_type then ended s
+    if is_type type SCCRP then established s avps now
+    else (if is_type type STOP_CCN then ended s
     else flushed ByZlb s)
 
 abbrev pub judged : LacState → List L2tpAvp → ℕ → Option Refusal → Step
@@ -155,11 +156,6 @@ learned s avps = if is_waiting s.phase then record s { peer_number = assigned_tu
 abbrev pub calls_after : LacCall → Option LacCall → List LacCall → List LacCall
 calls_after c None calls = without_call c.session.0 calls
 calls_after c (Some after) calls = with_call after calls
-
--- what goes out, and a ZLB where nothing does
-abbrev pub or_zlb : ℕ → ChannelState → List (List ℕ) → List (List ℕ)
-or_zlb tunnel c [] = zlb tunnel c ∷ []
-or_zlb tunnel c (o ∷ os) = o ∷ os
 
 -- After what the window lets out, the call's answer waits, and goes out where the window lets it. It acknowledges the message; where nothing
 -- goes out, and where there is no answer, a ZLB does.

@@ -1,7 +1,6 @@
 //! What a tunnel does with the server's control messages.
 ghost use Rattle.std.specs.Prelude.{◌≡◌};
-ghost use Rattle.bng_l2tp_wire.specs.View.{avps_of, control_of};
-ghost use Rattle.bng_l2tp_tunnel.specs.View.{octets_of, said};
+ghost use Rattle.bng_l2tp_wire.specs.View.{avps_of, control_of, octets_of, said};
 ghost use Rattle.bng_l2tp_tunnel.specs.Spelling.{stop_ccn as stop_ccn_of, code_of as code_of_refusal};
 ghost use Rattle.bng_lac.specs.AskingView.{asking_of};
 ghost use Rattle.bng_lac.specs.Calls.{call_of};
@@ -18,12 +17,12 @@ use crate::tunnel::LacTunnel;
 use arrayvec::ArrayVec;
 use bng_base::TunnelStep;
 use bng_l2tp_reliable::{Channel, Heard, Queued};
-use bng_l2tp_tunnel::{
-    Acknowledging, Refusal, cleared, code_of, has_other_version, has_unknown, is_zlb, number_at,
-    sends, stop_ccn, type_in, value_of, window_of, zlb,
-};
+use bng_l2tp_tunnel::{Acknowledging, Refusal, code_of, has_other_version, is_zlb, stop_ccn, zlb};
+use bng_l2tp_wire::judge::has_unknown;
 use bng_l2tp_wire::kind::{ASSIGNED_TUNNEL_ID, CHALLENGE};
 use bng_l2tp_wire::message::{SCCRP, STOP_CCN};
+use bng_l2tp_wire::step::{cleared, sends};
+use bng_l2tp_wire::values::{number_at, type_in, value_of, window_of};
 use bng_l2tp_wire::{Avp, Control};
 
 // Hands the SCCCN to the channel of a server that has told its window.

@@ -1,25 +1,24 @@
 //! Which messages a tunnel and its calls take, and why they refuse one.
 ghost use Rattle.std.specs.Prelude.{◌≡◌, ◌&&◌};
-ghost use Rattle.bng_l2tp_wire.specs.View.{avps_of};
-ghost use Rattle.bng_l2tp_tunnel.specs.View.{octets_of};
+ghost use Rattle.bng_l2tp_wire.specs.View.{avps_of, octets_of};
 ghost use Rattle.bng_lac.specs.LacState.{is_established};
 ghost use Rattle.bng_lac.specs.Messages.{is_of_call as belongs_to_call, is_taken as is_taken_in, is_taken_by as is_taken_by_call, lacks_needed as lacks};
-ghost use Rattle.bng_lac.specs.Refusals.{has_wrong_avp as has_wrong_one, has_answer as answers, fails_challenge as fails, call_refusal_of};
+ghost use Rattle.bng_lac.specs.Refusals.{has_wrong_avp as has_wrong_one, fails_challenge as fails, call_refusal_of};
 
 use crate::call::LacCall;
 use crate::phase::Phase;
 use arrayvec::ArrayVec;
 use bng_l2tp_call::Refusal;
-use bng_l2tp_tunnel::{
-    challenge_response, has_unknown, has_unreadable, is_asked_in_vain, is_type, is_wrong, type_in,
-    value_of,
-};
+use bng_l2tp_tunnel::{has_answer, is_asked_in_vain};
 use bng_l2tp_wire::Avp;
+use bng_l2tp_wire::judge::{has_unknown, is_type, is_wrong};
 use bng_l2tp_wire::kind::{
-    ASSIGNED_SESSION_ID, ASSIGNED_TUNNEL_ID, CHALLENGE_RESPONSE, FRAMING_CAPABILITIES, HOST_NAME,
-    PROTOCOL_VERSION, RESULT_CODE,
+    ASSIGNED_SESSION_ID, ASSIGNED_TUNNEL_ID, FRAMING_CAPABILITIES, HOST_NAME, PROTOCOL_VERSION,
+    RESULT_CODE,
 };
 use bng_l2tp_wire::message::{CDN, HELLO, ICRP, SCCRP, SLI, STOP_CCN, WEN};
+use bng_l2tp_wire::placed::has_unreadable;
+use bng_l2tp_wire::values::type_in;
 
 /// Whether a message of this type is one of a call that a network server sends (RFC 2661 section 3.2).
 pub(crate) fn is_of_call(found: Option<u16>) -> bool
@@ -93,20 +92,6 @@ pub(crate) fn has_wrong_avp(
     lacks_needed(avps, secret, found) || has_unreadable(avps, secret)
 }
 
-// Whether the answer to the gateway's Challenge is there, if there was one.
-fn has_answer(avps: &[Avp<'_>], secret: &Option<ArrayVec<u8, 64>>, challenge: &[u8]) -> bool
-    ensures { result ≡ answers (octets_of secret.now) challenge.now (avps_of avps.now) }
-{
-    let Some(shared) = secret else {
-        return true;
-    };
-    let wanted = challenge_response(SCCRP, shared.as_slice(), challenge);
-    match value_of(avps, secret, CHALLENGE_RESPONSE) {
-        Some(value) => value.as_slice() == wanted.as_slice(),
-        None => false,
-    }
-}
-
 /// Whether an SCCRP asks for an answer that cannot be made, or has not the right one (RFC 2661 section 5.1.1).
 pub(crate) fn fails_challenge(
     avps: &[Avp<'_>],
@@ -117,7 +102,7 @@ pub(crate) fn fails_challenge(
     ensures { result ≡ fails (octets_of secret.now) challenge.now found (avps_of avps.now) }
 {
     is_type(found, SCCRP)
-        && (is_asked_in_vain(avps, secret) || !has_answer(avps, secret, challenge))
+        && (is_asked_in_vain(avps, secret) || !has_answer(avps, secret, challenge, SCCRP))
 }
 
 /// Why a call that takes a message refuses it, where it does.

@@ -3,10 +3,10 @@ ghost use Rattle.std.specs.Prelude.{◌≡◌, ◌+◌, ◌<◌, ◌≤◌, ◌+
 ghost use Rattle.arrayvec.specs.ArrayVec.{array_vec_len};
 ghost use Rattle.bng_l2tp_reliable.specs.ChannelState.{ChannelState};
 ghost use Rattle.bng_l2tp_reliable.specs.Calls.{next_out, after_next};
-ghost use Rattle.bng_l2tp_tunnel.specs.View.{payloads, said};
-ghost use Rattle.bng_l2tp_tunnel.specs.Outs.{datagram as datagram_to};
+ghost use Rattle.bng_l2tp_wire.specs.View.{payloads, said};
+ghost use Rattle.bng_l2tp_tunnel.specs.Outs.{datagram as datagram_to, or_zlb};
 ghost use Rattle.bng_lac.specs.AskingView.{asking_of};
-ghost use Rattle.bng_lac.specs.Steps.{asks, asks_each, flushed, queued_text, replied as replied_with, or_zlb, to_peer};
+ghost use Rattle.bng_lac.specs.Steps.{asks, asks_each, flushed, queued_text, replied as replied_with, to_peer};
 ghost use Rattle.bng_base.specs.Packet.{Packet};
 
 use crate::call::LacCall;
@@ -14,7 +14,8 @@ use crate::spelling::icrq;
 use crate::tunnel::LacTunnel;
 use bng_base::{Frame, TunnelStep};
 use bng_l2tp_reliable::{Channel, MESSAGE_MOST, Queued};
-use bng_l2tp_tunnel::{Acknowledging, Outs, datagram, let_out, outs_of, sends, zlb};
+use bng_l2tp_tunnel::{Acknowledging, datagram, let_out, outs_of, zlb};
+use bng_l2tp_wire::step::{Outs, sends};
 
 // The next message that the window lets out goes out too.
 fn push_next(outs: &mut Outs, channel: &mut Channel, tunnel: u16)

@@ -1,23 +1,21 @@
 //! The control messages that an access concentrator sends.
 ghost use Rattle.std.specs.Prelude.{◌≡◌, ◌≤◌, length};
 ghost use Rattle.bng_l2tp_wire.specs.Messages.{control_text};
-ghost use Rattle.bng_l2tp_tunnel.specs.View.{octets_of};
-ghost use Rattle.bng_l2tp_tunnel.specs.Spelling.{answer_avps};
-ghost use Rattle.bng_l2tp_call.specs.Spelling.{cdn as cdn_of};
-ghost use Rattle.bng_lac.specs.Spelling.{sccrq as sccrq_of, response_avps, scccn as scccn_of, icrq as icrq_of, iccn as iccn_of};
+ghost use Rattle.bng_l2tp_wire.specs.View.{octets_of};
+ghost use Rattle.bng_lac.specs.Spelling.{sccrq as sccrq_of, scccn as scccn_of, icrq as icrq_of, iccn as iccn_of};
 
 use arrayvec::ArrayVec;
 use bng_base::Frame;
-use bng_l2tp_call::ResultCode;
 use bng_l2tp_tunnel::{
-    BOTH_FRAMINGS, OWN_WINDOW, VERSION, Value, avp, challenge_response, push_challenge,
-    push_response, spelled,
+    BOTH_FRAMINGS, OWN_WINDOW, VERSION, push_challenge, push_response, response_to,
 };
 use bng_l2tp_wire::kind::{
     ASSIGNED_SESSION_ID, ASSIGNED_TUNNEL_ID, CALL_SERIAL_NUMBER, FRAMING_CAPABILITIES,
     FRAMING_TYPE, HOST_NAME, MESSAGE_TYPE, PROTOCOL_VERSION, RECEIVE_WINDOW_SIZE, TX_CONNECT_SPEED,
 };
 use bng_l2tp_wire::message::{ICCN, ICRQ, SCCCN, SCCRQ};
+use bng_l2tp_wire::spelling::{avp, spelled};
+use bng_l2tp_wire::values::Value;
 
 // Ten million bits a second (RFC 2661 section 4.4.6).
 const CONNECT_SPEED: u32 = 10_000_000;
@@ -49,27 +47,13 @@ pub(crate) fn sccrq(
     spelled(0, 0, 0, 0, avps)
 }
 
-// The answer to the server's Challenge, where it sent one.
-fn response_to(secret: &Option<ArrayVec<u8, 64>>, asked: &Option<Value>) -> Option<[u8; 16]>
-    ensures { response_avps (octets_of secret.now) (octets_of asked.now) ≡ answer_avps result }
-{
-    match (secret, asked) {
-        (Some(secret), Some(asked)) => Some(challenge_response(
-            SCCCN,
-            secret.as_slice(),
-            asked.as_slice(),
-        )),
-        _ => None,
-    }
-}
-
 /// The SCCCN to a server that sent this Challenge, if one (RFC 2661 section 6.3).
 pub(crate) fn scccn(secret: &Option<ArrayVec<u8, 64>>, asked: &Option<Value>) -> Frame
     ensures text { result.payload ≡ control_text (scccn_of (octets_of secret.now) (octets_of asked.now)) }
     ensures size { length result.payload ≤ 512 }
 {
     let message = SCCCN.to_be_bytes();
-    let response = response_to(secret, asked);
+    let response = response_to(SCCCN, secret, asked);
     let mut avps = ArrayVec::new();
     avps.push(avp(MESSAGE_TYPE, &message));
     push_response(&mut avps, &response);
@@ -104,12 +88,4 @@ pub(crate) fn iccn(session: u16) -> Frame
     avps.push(avp(TX_CONNECT_SPEED, &speed));
     avps.push(avp(FRAMING_TYPE, &framing));
     spelled(0, session, 0, 0, avps)
-}
-
-/// The CDN of the call of a session, for a session of the server (RFC 2661 section 6.12).
-pub(crate) fn cdn(session: u16, number: u16, code: ResultCode) -> Frame
-    ensures text { result.payload ≡ control_text (cdn_of session number code) }
-    ensures size { length result.payload ≤ 512 }
-{
-    bng_l2tp_call::cdn(session, number, code)
 }

@@ -1,20 +1,20 @@
 //! What a message does to one call.
 ghost use Rattle.std.specs.Prelude.{◌≡◌, ◌≤◌, length, IfSome, unwrap_or};
-ghost use Rattle.bng_l2tp_wire.specs.View.{avps_of};
-ghost use Rattle.bng_l2tp_tunnel.specs.View.{octets_of};
-ghost use Rattle.bng_lac.specs.CallSteps.{call_step as step_of_call, assigned_session as session_assigned, answered_session as session_answered, passes, opens, ends, refuses, accepted, judged};
+ghost use Rattle.bng_l2tp_wire.specs.Values.{assigned_session as session_assigned};
+ghost use Rattle.bng_l2tp_wire.specs.View.{avps_of, octets_of};
+ghost use Rattle.bng_lac.specs.CallSteps.{call_step as step_of_call, answered_session as session_answered, passes, opens, ends, refuses, accepted, judged};
 ghost use Rattle.bng_lac.specs.CallView.{call_step_of};
 
 use crate::call::LacCall;
 use crate::judge::{call_refusal, is_taken_by};
-use crate::spelling::{cdn, iccn};
+use crate::spelling::iccn;
 use arrayvec::ArrayVec;
 use bng_base::Frame;
-use bng_l2tp_call::{Refusal, code_of};
-use bng_l2tp_tunnel::{number_at, type_in};
+use bng_l2tp_call::{Refusal, cdn, code_of};
 use bng_l2tp_wire::Avp;
 use bng_l2tp_wire::kind::ASSIGNED_SESSION_ID;
 use bng_l2tp_wire::message::{CDN, ICRP};
+use bng_l2tp_wire::values::{number_at, type_in};
 
 /// What a call tells when a message comes to it.
 #[derive(Drop)]

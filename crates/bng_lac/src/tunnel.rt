@@ -2,8 +2,7 @@ ghost use Rattle.std.specs.Prelude.{◌≡◌, ◌≢◌, ◌⊎◌, ◌<◌, �
 ghost use Rattle.std.specs.Option.{option_and_then};
 ghost use Rattle.bng_l2tp_reliable.specs.ChannelState.{waiting};
 ghost use Rattle.bng_l2tp_reliable.specs.Timers.{never, due_of, after_due, deadline_of};
-ghost use Rattle.bng_l2tp_wire.specs.View.{control_of};
-ghost use Rattle.bng_l2tp_tunnel.specs.View.{octets_of, payloads, said};
+ghost use Rattle.bng_l2tp_wire.specs.View.{control_of, octets_of, payloads, said};
 ghost use Rattle.bng_l2tp_tunnel.specs.Spelling.{stop_ccn as stop_ccn_of, hello as hello_of, shut_down as code_of_shut_down};
 ghost use Rattle.bng_lac.specs.LacState.{unused, is_used as is_in_use, is_waiting as is_wait_reply, is_established as is_up_tunnel, AreRising};
 ghost use Rattle.bng_lac.specs.Calls.{call_of, without_call};
@@ -15,15 +14,15 @@ use crate::calls::Calls;
 use crate::error::LacError;
 use crate::phase::Phase;
 use crate::rules::LacRules;
-use crate::spelling::{cdn, icrq, sccrq};
+use crate::spelling::{icrq, sccrq};
 use bng_base::{NOBODY, Peer, SessionNo, TunnelNo, TunnelStep};
-use bng_l2tp_call::administrative;
+use bng_l2tp_call::{administrative, cdn};
 use bng_l2tp_reliable::{Channel, Due, Queued};
-use bng_l2tp_tunnel::{
-    Acknowledging, DEFAULT_WINDOW, cleared, copied, copied_secret, hello, nothing, outs_of, resent,
-    sends, shut_down, stop_ccn,
-};
+use bng_l2tp_tunnel::{Acknowledging, hello, outs_of, resent, shut_down, stop_ccn};
 use bng_l2tp_wire::Control;
+use bng_l2tp_wire::secret::{copied, copied_secret};
+use bng_l2tp_wire::step::{cleared, nothing, sends};
+use bng_l2tp_wire::values::DEFAULT_WINDOW;
 use std::alloc::Global;
 use std::marker::Model;
 
@@ -54,7 +53,7 @@ pub struct LacTunnel {
 
 impl Model for LacTunnel {
     ghost use Rattle.bng_lac.specs.LacState.{LacState};
-    ghost use Rattle.bng_l2tp_tunnel.specs.View.{octets_of};
+    ghost use Rattle.bng_l2tp_wire.specs.View.{octets_of};
 
     ghost Value = { LacState };
 

@@ -2,12 +2,13 @@
 use Rattle.std.proofs.Common.{◌≡◌, ℕ, ◌<◌, ◌≤◌, List, [], ◌∷◌, ◌++◌, length, refl, ap, arith, length-append}
 use Rattle.std.specs.List.{AllByRecursion}
 use Rattle.bng_l2tp_reliable.specs.ChannelState.{ChannelState}
-use Rattle.bng_l2tp_tunnel.specs.Outs.{zlb}
+use Rattle.bng_l2tp_tunnel.specs.Outs.{zlb, or_zlb}
 use Rattle.bng_l2tp_tunnel.specs.Sound.{IsTunnel, IsSpelled}
 use Rattle.bng_l2tp_tunnel.specs.Steps.{to_peer, send_step}
 use Rattle.bng_l2tp_tunnel.specs.TunnelState.{TunnelState}
-use Rattle.bng_l2tp_tunnel.specs.View.{Said}
-use Rattle.bng_l2tp_tunnel.proofs.Few.{send_one}
+use Rattle.bng_l2tp_wire.specs.View.{Said}
+use Rattle.bng_l2tp_tunnel.proofs.Few.{any_few, send_one}
+use Rattle.bng_l2tp_tunnel.proofs.Answered.{any_some}
 use Rattle.bng_l2tp_tunnel.proofs.Soundness.{send_sound}
 use Rattle.bng_l2tp_tunnel.proofs.Texts.{AllByRecursion-append}
 use Rattle.bng_l2tp_wire.specs.Messages.{ControlMessage}
@@ -15,8 +16,7 @@ use Rattle.bng_l2tp_call.specs.CallState.{CallState}
 use Rattle.bng_l2tp_call.specs.Sound.{IsSentTo as IsCallSentTo}
 use Rattle.bng_l2tp_call.specs.Steps.{Step as CallStep, Hears}
 use Rattle.bng_l2tp_call.proofs.Table.{hears_is}
-use Rattle.bng_l2tp_call.specs.View.{Said as CallSaid}
-use Rattle.bng_lns.specs.Exchange.{or_zlb, answered_by, exchanged, parted_by, IsCallText}
+use Rattle.bng_lns.specs.Exchange.{answered_by, exchanged, parted_by, IsCallText}
 use Rattle.bng_lns.proofs.Hearing.{sent_spelled}
 
 -- what a call tells is short enough for its tunnel
@@ -31,15 +31,7 @@ any_spelled : (tunnel : ℕ) (c : ChannelState) (outs : List (List ℕ)) → All
 any_spelled tunnel c [] h = (zlb_spelled tunnel c, tt)
 any_spelled tunnel c (o ∷ outs) h = h
 
-any_some : (tunnel : ℕ) (c : ChannelState) (outs : List (List ℕ)) → 0 < length (or_zlb tunnel c outs)
-any_some tunnel c [] = omega arith
-any_some tunnel c (o ∷ outs) = omega arith
-
-any_few : (most tunnel : ℕ) (c : ChannelState) (outs : List (List ℕ)) → 1 ≤ most → length outs ≤ most → length (or_zlb tunnel c outs) ≤ most
-any_few most tunnel c [] one few = one
-any_few most tunnel c (o ∷ outs) one few = few
-
-module _ (t : TunnelState) (heard : Said) (told : CallSaid) (now : ℕ) where
+module _ (t : TunnelState) (heard : Said) (told : Said) (now : ℕ) where
   pub answered_some : (texts : List (List ℕ)) → 0 < length (answered_by t heard told now texts).said.outs
   answered_some [] = omega (arith, length-append heard.outs (zlb (to_peer t) t.channel ∷ []))
   answered_some (text ∷ texts) =
@@ -60,7 +52,7 @@ module _ (t : TunnelState) (heard : Said) (told : CallSaid) (now : ℕ) where
       any_spelled (to_peer sent.after) sent.after.channel (heard.outs ++ sent.said.outs)
       (AllByRecursion-append IsSpelled heard.outs sent.said.outs h (sent_spelled _ _ sent.said.outs sound.outs))
 
-module _ (t : TunnelState) (told : CallSaid) (now : ℕ) where
+module _ (t : TunnelState) (told : Said) (now : ℕ) where
   pub parted_one : (texts : List (List ℕ)) → IsTunnel t → length (parted_by t told now texts).said.outs ≤ 1
   parted_one [] tunnel = omega arith
   parted_one (text ∷ texts) tunnel = send_one t text now tunnel
@@ -71,6 +63,6 @@ module _ (t : TunnelState) (told : CallSaid) (now : ℕ) where
       let sent = send_step t text now in sent_spelled _ _ sent.said.outs (send_sound t text now tunnel are.0.spelled).outs
 
 -- What a call told is what the table of its messages says.
-pub as_exchanged : (t : TunnelState) (heard : Said) (call : CallState) (m : ControlMessage) (now : ℕ) (told : CallSaid) (after : CallState) → Hears call m (record { said = told; after = after })
+pub as_exchanged : (t : TunnelState) (heard : Said) (call : CallState) (m : ControlMessage) (now : ℕ) (told : Said) (after : CallState) → Hears call m (record { said = told; after = after })
     → answered_by t heard told now told.outs ≡ exchanged t heard call m now
 as_exchanged t heard call m now told after h = ap (λ (s : CallStep). answered_by t heard s.said now s.said.outs) (hears_is call m h)

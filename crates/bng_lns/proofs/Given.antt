@@ -1,5 +1,5 @@
 -- Which number is given, and where none is.
-use Rattle.std.proofs.Common.{◌≡◌, ℕ, ◌+◌, not, nat_le, Bool, true, cond, Option, None, Some, List, length, refl, sym, ap, ◌∙◌}
+use Rattle.std.proofs.Common.{◌≡◌, ℕ, ◌+◌, not, nat_le, true, cond, Option, None, Some, List, length, refl, sym, ap, ◌∙◌}
 use Rattle.std.specs.Prelude.{find}
 use Rattle.std.proofs.lemmas.Bool.{and_parts, leb-true, not-true}
 use Rattle.std.proofs.lemmas.List.{length-map}
@@ -8,9 +8,9 @@ use Rattle.std.proofs.lemmas.Option.{slice_get_within, get_or_from_slice_get}
 use Rattle.bng_base.specs.declared.settings.Lac.{Lac}
 use Rattle.bng_l2tp_wire.specs.Messages.{ControlMessage}
 use Rattle.bng_l2tp_wire.specs.declared.message.TheConstants.{SCCRQ}
-use Rattle.bng_l2tp_tunnel.specs.Messages.{is_type}
+use Rattle.bng_l2tp_wire.specs.Judge.{is_type}
 use Rattle.bng_l2tp_tunnel.specs.Steps.{stands, message_step}
-use Rattle.bng_l2tp_tunnel.specs.Values.{message_type, assigned_tunnel}
+use Rattle.bng_l2tp_wire.specs.Values.{message_type, assigned_tunnel}
 use Rattle.bng_lns.specs.declared.place.Place.{Place}
 use Rattle.bng_lns.specs.declared.taken.Came.{Came}
 use Rattle.bng_lns.specs.Places.{is_free, is_again, is_numbered, place_of}

@@ -8,12 +8,13 @@ use Rattle.bng_l2tp_wire.specs.Messages.{ControlMessage}
 use Rattle.bng_l2tp_wire.specs.declared.message.TheConstants.{SCCRQ}
 use Rattle.bng_l2tp_tunnel.specs.declared.phase.Phase.{Phase}
 use Rattle.bng_l2tp_tunnel.specs.declared.phase.Phase.TheVariants.{Idle, Replied, Established, Cleared}
-use Rattle.bng_l2tp_tunnel.specs.Messages.{is_of_call, is_type}
+use Rattle.bng_l2tp_tunnel.specs.Messages.{is_of_call}
+use Rattle.bng_l2tp_wire.specs.Judge.{is_type}
 use Rattle.bng_l2tp_tunnel.specs.Sound.{IsTunnel, IsSentTo, IsSpelled, is_delivered, is_for_call}
 use Rattle.bng_l2tp_tunnel.specs.Steps.{Step, stands, is_established, message_step, heard_by as heard_by_channel}
 use Rattle.bng_l2tp_tunnel.specs.TunnelState.{TunnelState, Lasting, lasting_of}
-use Rattle.bng_l2tp_tunnel.specs.Values.{message_type, assigned_tunnel}
-use Rattle.bng_l2tp_tunnel.specs.View.{Said}
+use Rattle.bng_l2tp_wire.specs.Values.{message_type, assigned_tunnel}
+use Rattle.bng_l2tp_wire.specs.View.{Said}
 use Rattle.bng_lns.specs.declared.place.Place.{Place}
 use Rattle.bng_lns.specs.declared.taken.Came.{Came}
 use Rattle.bng_lns.specs.Places.{number_at, is_again, is_named, place_of, put_at, IsPlace, ArePlaces}

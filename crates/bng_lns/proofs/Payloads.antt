@@ -1,15 +1,12 @@
 -- The octets of datagrams that are put after others.
-use Rattle.std.proofs.Common.{◌≡◌, ℕ, ◌≤◌, List, [], ◌∷◌, ◌++◌, length, refl, sym, ap, ◌∙◌, arith, length-append}
-use Rattle.std.proofs.lemmas.List.{append-nil, length-map, map-append}
+use Rattle.std.proofs.Common.{◌≡◌, ◌≤◌, List, [], ◌∷◌, ◌++◌, length, refl, sym, ap, ◌∙◌, arith, length-append}
+use Rattle.std.proofs.lemmas.List.{append-nil, length-map}
 use Rattle.bng_base.specs.Packet.{Packet}
-use Rattle.bng_l2tp_tunnel.specs.View.{payloads}
+use Rattle.bng_l2tp_wire.specs.View.{payloads}
+use Rattle.bng_l2tp_tunnel.proofs.Flights.{payloads-push}
 
 pub length-payloads : (xs : List Packet) → length (payloads xs) ≡ length xs
 length-payloads xs = length-map xs (λ (p : Packet). p.payload)
-
-pub payloads-push : (before after : List Packet) (last : Packet) (octets : List ℕ) → after ≡ before ++ last ∷ [] → last.payload ≡ octets → payloads after ≡ payloads before ++ octets ∷ []
-payloads-push before after last octets e f =
-    ap payloads e ∙ map-append (λ (p : Packet). p.payload) before (last ∷ []) ∙ ap (λ (o : List ℕ). payloads before ++ o ∷ []) f
 
 empty_if : (xs : List Packet) → length xs ≤ 0 → xs ≡ []
 empty_if [] few = refl

@@ -2,29 +2,22 @@
 -- tunnel (RFC 2661 sections 3.1, 5.8 and 6.6 to 6.14).
 use Rattle.std.specs.Prelude.{◌≤◌, ℕ, Bool, false, List, [], ◌∷◌, ◌++◌, length}
 use Rattle.bng_l2tp_wire.specs.Messages.{ControlMessage}
-use Rattle.bng_l2tp_reliable.specs.ChannelState.{ChannelState}
-use Rattle.bng_l2tp_tunnel.specs.Outs.{zlb}
+use Rattle.bng_l2tp_tunnel.specs.Outs.{zlb, or_zlb}
 use Rattle.bng_l2tp_tunnel.specs.Sound.{IsSpelled}
-use Rattle.bng_l2tp_tunnel.specs.Steps.{Step, sends, to_peer, send_step}
+use Rattle.bng_l2tp_tunnel.specs.Steps.{Step, to_peer, send_step}
+use Rattle.bng_l2tp_wire.specs.View.{sends, Said}
 use Rattle.bng_l2tp_tunnel.specs.TunnelState.{TunnelState}
-use Rattle.bng_l2tp_tunnel.specs.View.{Said}
 use Rattle.bng_l2tp_call.specs.CallState.{CallState}
 use Rattle.bng_l2tp_call.specs.Cases.{message_step}
 use Rattle.bng_l2tp_call.specs.Steps.{end_step}
-use Rattle.bng_l2tp_call.specs.View.{Said as CallSaid}
 
 -- what the tunnel said, with what the call told and these datagrams
-abbrev pub joined : Said → CallSaid → Bool → List (List ℕ) → Said
+abbrev pub joined : Said → Said → Bool → List (List ℕ) → Said
 joined heard told left_out outs = record heard { outs = outs; opened = told.opened; ended = told.ended; left_out = left_out }
-
--- what goes out, and a ZLB where nothing does
-abbrev pub or_zlb : ℕ → ChannelState → List (List ℕ) → List (List ℕ)
-or_zlb tunnel c [] = zlb tunnel c ∷ []
-or_zlb tunnel c (o ∷ os) = o ∷ os
 
 -- A call's answer goes out after what the window let out, and acknowledges as well; where nothing goes out, a ZLB does. A message without an
 -- answer gets a ZLB. The texts are those that the call told, one at most.
-abbrev pub answered_by : TunnelState → Said → CallSaid → ℕ → List (List ℕ) → Step
+abbrev pub answered_by : TunnelState → Said → Said → ℕ → List (List ℕ) → Step
 answered_by t heard told now [] =
     record { said = joined heard told false (heard.outs ++ zlb (to_peer t) t.channel ∷ []); after = t }
 answered_by t heard told now (text ∷ texts) =
@@ -36,7 +29,7 @@ abbrev pub exchanged : TunnelState → Said → CallState → ControlMessage →
 exchanged t heard call m now =
     answered_by t heard (message_step call m.avps).said now (message_step call m.avps).said.outs
 
-abbrev pub parted_by : TunnelState → CallSaid → ℕ → List (List ℕ) → Step
+abbrev pub parted_by : TunnelState → Said → ℕ → List (List ℕ) → Step
 parted_by t told now [] = record { said = joined (sends []) told false []; after = t }
 parted_by t told now (text ∷ texts) =
     let sent = send_step t text now in

@@ -4,7 +4,7 @@ use Rattle.bng_base.specs.declared.address.Peer.{Peer}
 use Rattle.bng_l2tp_reliable.specs.Timers.{never}
 use Rattle.bng_l2tp_tunnel.specs.Steps.{Step, stands, due_step, stop_step}
 use Rattle.bng_l2tp_tunnel.specs.TunnelState.{TunnelState}
-use Rattle.bng_l2tp_tunnel.specs.View.{Said, said}
+use Rattle.bng_l2tp_wire.specs.View.{Said, said}
 use Rattle.bng_lns.specs.declared.place.Place.{Place}
 use Rattle.bng_lns.specs.declared.taken.Told.{Told}
 use Rattle.bng_lns.specs.Places.{earliest, is_due}

@@ -8,12 +8,12 @@ use Rattle.bng_l2tp_reliable.specs.ChannelState.{begun}
 use Rattle.bng_l2tp_wire.specs.Messages.{ControlMessage}
 use Rattle.bng_l2tp_wire.specs.declared.message.TheConstants.{SCCRQ}
 use Rattle.bng_l2tp_tunnel.specs.declared.phase.Phase.TheVariants.{Idle}
-use Rattle.bng_l2tp_tunnel.specs.Messages.{is_type}
+use Rattle.bng_l2tp_wire.specs.Judge.{is_type}
 use Rattle.bng_l2tp_tunnel.specs.Sound.{IsSpelled}
 use Rattle.bng_l2tp_tunnel.specs.Steps.{Step, stands, message_step}
 use Rattle.bng_l2tp_tunnel.specs.TunnelState.{TunnelState}
-use Rattle.bng_l2tp_tunnel.specs.Values.{default_window, message_type, assigned_tunnel}
-use Rattle.bng_l2tp_tunnel.specs.View.{Said, octets_of, said}
+use Rattle.bng_l2tp_wire.specs.Values.{default_window, message_type, assigned_tunnel}
+use Rattle.bng_l2tp_wire.specs.View.{Said, octets_of, said}
 use Rattle.bng_lns.specs.declared.place.Place.{Place}
 use Rattle.bng_lns.specs.declared.taken.Came.{Came}
 use Rattle.bng_lns.specs.declared.taken.Taken.{Taken}

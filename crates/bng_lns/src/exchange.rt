@@ -2,22 +2,18 @@
 ghost use Rattle.std.specs.Prelude.{◌≡◌, ℕ, ◌<◌, ◌≤◌, ◌++◌, ◌∷◌, [], length};
 ghost use Rattle.std.specs.List.{AllByRecursion};
 ghost use Rattle.arrayvec.specs.ArrayVec.{array_vec_len};
-ghost use Rattle.bng_l2tp_tunnel.specs.Outs.{zlb};
+ghost use Rattle.bng_l2tp_tunnel.specs.Outs.{zlb, or_zlb};
 ghost use Rattle.bng_l2tp_tunnel.specs.Sound.{IsTunnel};
-ghost use Rattle.bng_l2tp_tunnel.specs.Steps.{sends, to_peer};
+ghost use Rattle.bng_l2tp_wire.specs.View.{payloads, said};
+ghost use Rattle.bng_l2tp_tunnel.specs.Steps.{to_peer};
 ghost use Rattle.bng_l2tp_tunnel.specs.TunnelState.{lasting_of};
-ghost use Rattle.bng_l2tp_tunnel.specs.View.{payloads, said};
-ghost use Rattle.bng_l2tp_call.specs.View.{said as call_said};
 ghost use Rattle.bng_lns.specs.Places.{place_of, IsPlace};
-ghost use Rattle.bng_lns.specs.Exchange.{joined, or_zlb, answered_by, parted_by, IsCallText};
+ghost use Rattle.bng_lns.specs.Exchange.{joined, answered_by, parted_by, IsCallText};
 
 use crate::place::Place;
-use arrayvec::ArrayVec;
-use bng_base::{Frame, TunnelStep};
+use bng_base::TunnelStep;
 use bng_l2tp_tunnel::Tunnel;
-
-/// The datagrams of a step.
-type Outs = ArrayVec<Frame, 10>;
+use bng_l2tp_wire::step::{Outs, nothing};
 
 // Puts a ZLB after what goes out.
 fn push_zlb(outs: &mut Outs, tunnel: &Tunnel)
@@ -49,7 +45,7 @@ fn push_sent(outs: &mut Outs, sent: &mut Outs)
 
 // The words of a tunnel with those of its call.
 fn with_words(mut step: TunnelStep, told: &TunnelStep, left_out: bool) -> TunnelStep
-    ensures { said result ≡ joined (said step) (call_said told.now) left_out (said step).outs }
+    ensures { said result ≡ joined (said step) (said told.now) left_out (said step).outs }
 {
     step.opened = told.opened;
     step.ended = told.ended;
@@ -68,8 +64,8 @@ fn answer_over(
     requires tunnel { IsTunnel tunnel.old }
     requires few { array_vec_len heard.outs ≤ 8 }
     requires text { IsCallText text.now }
-    ensures said { said result ≡ (answered_by tunnel.old (said heard) (call_said told.now) now (text.now ∷ [])).said }
-    ensures after { tunnel.new ≡ (answered_by tunnel.old (said heard) (call_said told.now) now (text.now ∷ [])).after }
+    ensures said { said result ≡ (answered_by tunnel.old (said heard) (said told.now) now (text.now ∷ [])).said }
+    ensures after { tunnel.new ≡ (answered_by tunnel.old (said heard) (said told.now) now (text.now ∷ [])).after }
     ensures sound { IsTunnel tunnel.new }
     ensures lasting { lasting_of tunnel.new ≡ lasting_of tunnel.old }
 {
@@ -85,8 +81,8 @@ fn answer_by(tunnel: &mut Tunnel, mut heard: TunnelStep, told: &TunnelStep, now:
     requires tunnel { IsTunnel tunnel.old }
     requires few { array_vec_len heard.outs ≤ 8 }
     requires texts { AllByRecursion IsCallText (payloads told.now.outs.items) }
-    ensures said { said result ≡ (answered_by tunnel.old (said heard) (call_said told.now) now (payloads told.now.outs.items)).said }
-    ensures after { tunnel.new ≡ (answered_by tunnel.old (said heard) (call_said told.now) now (payloads told.now.outs.items)).after }
+    ensures said { said result ≡ (answered_by tunnel.old (said heard) (said told.now) now (payloads told.now.outs.items)).said }
+    ensures after { tunnel.new ≡ (answered_by tunnel.old (said heard) (said told.now) now (payloads told.now.outs.items)).after }
     ensures sound { IsTunnel tunnel.new }
     ensures lasting { lasting_of tunnel.new ≡ lasting_of tunnel.old }
 {
@@ -103,33 +99,18 @@ fn answer_by(tunnel: &mut Tunnel, mut heard: TunnelStep, told: &TunnelStep, now:
 fn part_by(tunnel: &mut Tunnel, told: &TunnelStep, now: u64) -> TunnelStep
     requires tunnel { IsTunnel tunnel.old }
     requires texts { AllByRecursion IsCallText (payloads told.now.outs.items) }
-    ensures said { said result ≡ (parted_by tunnel.old (call_said told.now) now (payloads told.now.outs.items)).said }
-    ensures after { tunnel.new ≡ (parted_by tunnel.old (call_said told.now) now (payloads told.now.outs.items)).after }
+    ensures said { said result ≡ (parted_by tunnel.old (said told.now) now (payloads told.now.outs.items)).said }
+    ensures after { tunnel.new ≡ (parted_by tunnel.old (said told.now) now (payloads told.now.outs.items)).after }
     ensures sound { IsTunnel tunnel.new }
     ensures lasting { lasting_of tunnel.new ≡ lasting_of tunnel.old }
 {
     match told.outs.as_slice() {
-        [] => with_words(quiet(), told, false),
+        [] => with_words(nothing(), told, false),
         [text, ..] => {
             let sent = tunnel.send(text.payload(), now);
             let left_out = sent.left_out;
             with_words(sent, told, left_out)
         }
-    }
-}
-
-// A step that does nothing.
-fn quiet() -> TunnelStep
-    ensures { said result ≡ sends [] }
-{
-    TunnelStep {
-        outs: ArrayVec::new(),
-        established: false,
-        cleared: false,
-        call: false,
-        opened: false,
-        ended: false,
-        left_out: false,
     }
 }
 
@@ -144,8 +125,8 @@ pub(crate) fn answer_in(
     requires tunnel { IsTunnel place.old.tunnel }
     requires few { array_vec_len heard.outs ≤ 8 }
     requires texts { AllByRecursion IsCallText (payloads told.now.outs.items) }
-    ensures said { said result ≡ (answered_by place.old.tunnel (said heard) (call_said told.now) now (payloads told.now.outs.items)).said }
-    ensures after { place.new ≡ place_of now (answered_by place.old.tunnel (said heard) (call_said told.now) now (payloads told.now.outs.items)).after }
+    ensures said { said result ≡ (answered_by place.old.tunnel (said heard) (said told.now) now (payloads told.now.outs.items)).said }
+    ensures after { place.new ≡ place_of now (answered_by place.old.tunnel (said heard) (said told.now) now (payloads told.now.outs.items)).after }
     ensures kept { (number : ℕ) → IsPlace number place.old → IsPlace number place.new }
 {
     place.since = now;
@@ -156,8 +137,8 @@ pub(crate) fn answer_in(
 pub(crate) fn part_in(place: &mut Place, told: &TunnelStep, now: u64) -> TunnelStep
     requires tunnel { IsTunnel place.old.tunnel }
     requires texts { AllByRecursion IsCallText (payloads told.now.outs.items) }
-    ensures said { said result ≡ (parted_by place.old.tunnel (call_said told.now) now (payloads told.now.outs.items)).said }
-    ensures after { place.new ≡ place_of now (parted_by place.old.tunnel (call_said told.now) now (payloads told.now.outs.items)).after }
+    ensures said { said result ≡ (parted_by place.old.tunnel (said told.now) now (payloads told.now.outs.items)).said }
+    ensures after { place.new ≡ place_of now (parted_by place.old.tunnel (said told.now) now (payloads told.now.outs.items)).after }
     ensures kept { (number : ℕ) → IsPlace number place.old → IsPlace number place.new }
 {
     place.since = now;

@@ -1,41 +1,23 @@
 ghost use Rattle.std.specs.Prelude.{◌≡◌, is_some};
 ghost use Rattle.std.specs.Option.{option_copied};
 ghost use Rattle.bng_l2tp_tunnel.specs.Sound.{IsTunnel};
-ghost use Rattle.bng_l2tp_tunnel.specs.Values.{assigned_tunnel as assigned_tunnel_of};
-ghost use Rattle.bng_l2tp_tunnel.specs.View.{octets_of};
-ghost use Rattle.bng_l2tp_wire.specs.View.{avps_of};
+ghost use Rattle.bng_l2tp_wire.specs.Values.{assigned_tunnel as assigned_tunnel_of};
+ghost use Rattle.bng_l2tp_wire.specs.View.{octets_of, avps_of};
 ghost use Rattle.bng_lns.specs.Tunnels.{lac_of as lac_with, secret_of, begun_with};
 
 use crate::taken::Came;
 use arrayvec::ArrayVec;
 use bng_base::{Ip4, Lac, TunnelNo};
-use bng_l2tp_tunnel::{Tunnel, TunnelRules, assigned_tunnel};
+use bng_l2tp_tunnel::{Tunnel, TunnelRules};
 use bng_l2tp_wire::Control;
+use bng_l2tp_wire::secret::{copied, copied_secret};
+use bng_l2tp_wire::values::assigned_tunnel;
 
 /// The configured access concentrator with this address.
 pub(crate) fn lac_of(lacs: &[Lac], ip: Ip4) -> Option<&Lac>
     ensures { option_copied result ≡ lac_with lacs.now ip }
 {
     lacs.iter().find(|l| l.ip.0 == ip.0)
-}
-
-// The same text once more.
-fn copied(text: &ArrayVec<u8, 64>) -> ArrayVec<u8, 64>
-    ensures { result.items ≡ text.now.items }
-{
-    let Ok(list) = ArrayVec::try_from(text.as_slice()) else {
-        unreachable!();
-    };
-    list
-}
-
-fn copied_secret(secret: &Option<ArrayVec<u8, 64>>) -> Option<ArrayVec<u8, 64>>
-    ensures { octets_of result ≡ octets_of secret.now }
-{
-    match secret {
-        Some(secret) => Some(copied(secret)),
-        None => None,
-    }
 }
 
 // What a tunnel of this peer, or of one that is not configured, is to know.

@@ -1,9 +1,8 @@
 ghost use Rattle.std.specs.Prelude.{◌≡◌, ◌≤◌, ℕ, true, length};
 ghost use Rattle.std.specs.List.{AllByRecursion};
-ghost use Rattle.bng_l2tp_wire.specs.View.{control_of};
+ghost use Rattle.bng_l2tp_wire.specs.View.{control_of, payloads};
 ghost use Rattle.bng_l2tp_tunnel.specs.Sound.{IsTunnel, IsSpelled};
 ghost use Rattle.bng_l2tp_tunnel.specs.Steps.{stands, message_step, due_step, stop_step};
-ghost use Rattle.bng_l2tp_tunnel.specs.View.{payloads};
 ghost use Rattle.bng_lns.specs.Places.{is_free as is_free_at, is_numbered as has_number, same_peer as is_same_peer, is_named as is_named_by, is_number as is_same_number, is_again as comes_again, place_of, deadline_in as deadline_of_place, is_due as is_due_at, IsPlace};
 ghost use Rattle.bng_lns.specs.Tunnels.{Steps, answer_of, outs_of, hands_over};
 ghost use Rattle.bng_lns.specs.Timed.{telling_of};

@@ -1,13 +1,12 @@
 ghost use Rattle.std.specs.Prelude.{◌≡◌, ◌<◌, ◌≤◌, [], true, false, length, find, slice_get, IfOk, IfSome, IsSome, option_map, None};
 ghost use Rattle.std.specs.List.{AllByRecursion};
 ghost use Rattle.std.specs.Option.{option_copied};
-ghost use Rattle.bng_l2tp_wire.specs.View.{control_of};
-ghost use Rattle.bng_l2tp_tunnel.specs.Messages.{is_type};
+ghost use Rattle.bng_l2tp_wire.specs.View.{control_of, payloads, said};
+ghost use Rattle.bng_l2tp_wire.specs.Judge.{is_type as is_of_type};
 ghost use Rattle.bng_l2tp_tunnel.specs.Sound.{IsTunnel, IsSpelled};
 ghost use Rattle.bng_l2tp_tunnel.specs.Steps.{stands, message_step};
 ghost use Rattle.bng_l2tp_tunnel.specs.TunnelState.{TunnelState};
-ghost use Rattle.bng_l2tp_tunnel.specs.Values.{message_type as type_of};
-ghost use Rattle.bng_l2tp_tunnel.specs.View.{payloads, said};
+ghost use Rattle.bng_l2tp_wire.specs.Values.{message_type as type_of};
 ghost use Rattle.bng_l2tp_call.specs.Cases.{message_step as call_step};
 ghost use Rattle.bng_l2tp_call.specs.Steps.{end_step};
 ghost use Rattle.bng_lns.specs.declared.place.Place.{Place as PlaceView};
@@ -26,9 +25,11 @@ use crate::taken::{Came, Taken, Told};
 use arrayvec::ArrayVec;
 use bng_base::{Lac, TunnelNo, TunnelStep};
 use bng_l2tp_call::Call;
-use bng_l2tp_tunnel::{Tunnel, message_type};
+use bng_l2tp_tunnel::Tunnel;
 use bng_l2tp_wire::Control;
+use bng_l2tp_wire::judge::is_type;
 use bng_l2tp_wire::message::SCCRQ;
+use bng_l2tp_wire::values::message_type;
 use std::alloc::{AllocError, Global};
 use std::marker::Model;
 
@@ -56,12 +57,9 @@ impl Model for Tunnels {
 
 // Whether a message asks for a tunnel.
 fn is_request(message: &Control<'_>) -> bool
-    ensures { result ≡ is_type (type_of (control_of message.now).avps) SCCRQ }
+    ensures { result ≡ is_of_type (type_of (control_of message.now).avps) SCCRQ }
 {
-    match message_type(message) {
-        Some(found) => found == SCCRQ,
-        None => false,
-    }
+    is_type(message_type(message), SCCRQ)
 }
 
 impl Tunnels {

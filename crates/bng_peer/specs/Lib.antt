@@ -1,4 +1,3 @@
-pub mod Avps
 pub mod Clock
 pub mod Frames
 pub mod Operator

@@ -1,19 +1,14 @@
 //! The control messages that an access concentrator sends (RFC 2661 section 6), and what it reads of the gateway's.
-ghost use Rattle.std.specs.Prelude.{◌≡◌};
-ghost use Rattle.std.specs.List.{AllByRecursion};
-ghost use Rattle.bng_l2tp_wire.specs.Avps.{AvpFits};
-ghost use Rattle.bng_l2tp_wire.specs.View.{avp_of, avps_of};
-ghost use Rattle.bng_peer.specs.Avps.{avp as must_avp};
-
 use arrayvec::ArrayVec;
-use bng_base::{Frame, Written};
+use bng_base::Frame;
+use bng_l2tp_wire::Control;
 use bng_l2tp_wire::kind::{
     ASSIGNED_SESSION_ID, ASSIGNED_TUNNEL_ID, CALL_SERIAL_NUMBER, CHALLENGE_RESPONSE,
     FRAMING_CAPABILITIES, FRAMING_TYPE, HOST_NAME, MESSAGE_TYPE, PROTOCOL_VERSION,
     RECEIVE_WINDOW_SIZE, TX_CONNECT_SPEED,
 };
 use bng_l2tp_wire::message::{ICCN, ICRQ, SCCCN, SCCRQ};
-use bng_l2tp_wire::{Avp, Control};
+use bng_l2tp_wire::spelling::{avp, spelled};
 
 /// The messages that it takes at once.
 const WINDOW: u16 = 8;
@@ -23,38 +18,6 @@ const SYNCHRONOUS: u32 = 1;
 
 /// The bits a second that a call is said to have (RFC 2661 section 4.4.4).
 const SPEED: u32 = 100_000_000;
-
-// An AVP that the peer must know, and that is not hidden.
-fn avp<'a>(kind: u16, value: &'a [u8]) -> Avp<'a>
-    ensures { avp_of result ≡ must_avp kind value.now }
-{
-    Avp {
-        mandatory: true,
-        hidden: false,
-        reserved: 0,
-        vendor: 0,
-        kind,
-        value,
-    }
-}
-
-// The text of a message for a session of the gateway. Its channel fills in Tunnel ID, Ns and Nr.
-fn spelled(session: u16, avps: ArrayVec<Avp<'_>, 64>) -> Frame
-    requires { AllByRecursion AvpFits (avps_of avps.items) }
-{
-    let message = Control {
-        tunnel: 0,
-        session,
-        ns: 0,
-        nr: 0,
-        avps,
-    };
-    let mut frame = Frame::new();
-    match message.write(&mut frame) {
-        Written::Done | Written::Full => {}
-    }
-    frame
-}
 
 /// The message that asks for a tunnel, which is given this number (RFC 2661 section 6.1).
 pub(crate) fn sccrq(number: u16) -> Frame {
@@ -69,7 +32,7 @@ pub(crate) fn sccrq(number: u16) -> Frame {
     avps.push(avp(HOST_NAME, b"lac"));
     avps.push(avp(ASSIGNED_TUNNEL_ID, &tunnel));
     avps.push(avp(RECEIVE_WINDOW_SIZE, &window));
-    spelled(0, avps)
+    spelled(0, 0, 0, 0, avps)
 }
 
 /// The message that completes a tunnel, with the answer to the gateway's Challenge (RFC 2661 section 6.3).
@@ -78,7 +41,7 @@ pub(crate) fn scccn(response: &[u8; 16]) -> Frame {
     let mut avps = ArrayVec::new();
     avps.push(avp(MESSAGE_TYPE, &message));
     avps.push(avp(CHALLENGE_RESPONSE, response));
-    spelled(0, avps)
+    spelled(0, 0, 0, 0, avps)
 }
 
 /// The message that completes a tunnel without one.
@@ -86,7 +49,7 @@ pub(crate) fn scccn_unchallenged() -> Frame {
     let message = SCCCN.to_be_bytes();
     let mut avps = ArrayVec::new();
     avps.push(avp(MESSAGE_TYPE, &message));
-    spelled(0, avps)
+    spelled(0, 0, 0, 0, avps)
 }
 
 /// The message that asks for a call, which is given this number (RFC 2661 section 6.6).
@@ -98,7 +61,7 @@ pub(crate) fn icrq(number: u16) -> Frame {
     avps.push(avp(MESSAGE_TYPE, &message));
     avps.push(avp(ASSIGNED_SESSION_ID, &session));
     avps.push(avp(CALL_SERIAL_NUMBER, &serial));
-    spelled(0, avps)
+    spelled(0, 0, 0, 0, avps)
 }
 
 /// The message that completes a call, for a session of the gateway (RFC 2661 section 6.8).
@@ -110,23 +73,12 @@ pub(crate) fn iccn(session: u16) -> Frame {
     avps.push(avp(MESSAGE_TYPE, &message));
     avps.push(avp(TX_CONNECT_SPEED, &speed));
     avps.push(avp(FRAMING_TYPE, &framing));
-    spelled(session, avps)
+    spelled(0, session, 0, 0, avps)
 }
 
 /// A message without AVPs, which only acknowledges (RFC 2661 section 5.8).
 pub(crate) fn zlb(tunnel: u16, ns: u16, nr: u16) -> Frame {
-    let message = Control {
-        tunnel,
-        session: 0,
-        ns,
-        nr,
-        avps: ArrayVec::new(),
-    };
-    let mut frame = Frame::new();
-    match message.write(&mut frame) {
-        Written::Done | Written::Full => {}
-    }
-    frame
+    spelled(tunnel, 0, ns, nr, ArrayVec::new())
 }
 
 /// The value of the first AVP of this type.

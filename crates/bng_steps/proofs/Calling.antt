@@ -14,7 +14,7 @@ use Rattle.bng_l2tp_call.specs.CallState.{CallState, fresh}
 use Rattle.bng_l2tp_tunnel.specs.Sound.{IsSpelled}
 use Rattle.bng_l2tp_tunnel.specs.Steps.{Step}
 use Rattle.bng_l2tp_tunnel.specs.TunnelState.{TunnelState}
-use Rattle.bng_l2tp_tunnel.specs.View.{Said}
+use Rattle.bng_l2tp_wire.specs.View.{Said}
 use Rattle.bng_l2tp_wire.specs.Messages.{ControlMessage}
 use Rattle.bng_lns.specs.Tunnels.{TunnelsState, tunnel_at}
 use Rattle.bng_ppp.specs.declared.whole_input.WholeInput.TheVariants.{Start}

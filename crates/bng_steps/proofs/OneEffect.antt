@@ -36,7 +36,7 @@ use Rattle.bng_l2tp_call.specs.CallState.{CallState, fresh}
 use Rattle.bng_l2tp_call.specs.Steps.{to_peer}
 use Rattle.bng_l2tp_tunnel.specs.Steps.{Step as TunnelStep}
 use Rattle.bng_l2tp_tunnel.specs.TunnelState.{TunnelState}
-use Rattle.bng_l2tp_tunnel.specs.View.{Said}
+use Rattle.bng_l2tp_wire.specs.View.{Said}
 use Rattle.bng_l2tp_wire.specs.Messages.{ControlMessage, DataMessage}
 use Rattle.bng_l2tp_wire.proofs.Exact.{one_control, one_data}
 use Rattle.bng_lcp.specs.Ask.{Ask}

@@ -16,15 +16,14 @@ use Rattle.bng_base.specs.declared.item.OutRecord.{OutRecord}
 use Rattle.bng_base.specs.declared.outside.Role.TheVariants.{Tunnel}
 use Rattle.bng_base.specs.declared.settings.Lac.{Lac}
 use Rattle.bng_l2tp_call.specs.CallState.{CallState, fresh}
-use Rattle.bng_l2tp_tunnel.specs.Messages.{is_type}
+use Rattle.bng_l2tp_wire.specs.Judge.{is_type}
 use Rattle.bng_l2tp_tunnel.specs.Sound.{IsSpelled}
 use Rattle.bng_l2tp_tunnel.specs.Steps.{Step, stands, message_step}
 use Rattle.bng_l2tp_tunnel.specs.TunnelState.{TunnelState}
-use Rattle.bng_l2tp_tunnel.specs.Values.{assigned_tunnel, message_type}
-use Rattle.bng_l2tp_tunnel.specs.View.{Said, payloads}
+use Rattle.bng_l2tp_wire.specs.Values.{assigned_tunnel, message_type}
+use Rattle.bng_l2tp_wire.specs.View.{Said, payloads, control_of, data_of}
 use Rattle.bng_l2tp_wire.specs.Messages.{ControlMessage, DataMessage, IsControl, IsData}
 use Rattle.bng_l2tp_wire.specs.declared.message.TheConstants.{SCCRQ}
-use Rattle.bng_l2tp_wire.specs.View.{control_of, data_of}
 use Rattle.bng_lns.specs.Datagrams.{CarriesOver, IsDataIn, IsReadAs}
 use Rattle.bng_lns.specs.declared.datagram.TunnelDatagram.{TunnelDatagram}
 use Rattle.bng_lns.specs.declared.datagram.TunnelDatagram.TheVariants.{Control, Data}

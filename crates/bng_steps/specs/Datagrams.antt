@@ -4,7 +4,7 @@ use Rattle.std.specs.List.{AllByRecursion}
 use Rattle.bng_base.specs.declared.fate.DropCause.TheVariants.{Malformed, NoSession}
 use Rattle.bng_base.specs.declared.item.Entry.{Entry}
 use Rattle.bng_l2tp_tunnel.specs.Sound.{IsSpelled}
-use Rattle.bng_l2tp_tunnel.specs.View.{Said}
+use Rattle.bng_l2tp_wire.specs.View.{Said}
 use Rattle.bng_l2tp_wire.specs.Messages.{ControlMessage, DataMessage}
 use Rattle.bng_lns.specs.Datagrams.{CarriesOver, IsControlIn, IsDataIn, IsNeither}
 use Rattle.bng_lns.specs.declared.taken.Came.{Came}

@@ -4,8 +4,7 @@ ghost use Rattle.std.specs.List.{AllByRecursion};
 ghost use Rattle.bng_base.specs.declared.fate.Fate.TheVariants.{Consumed};
 ghost use Rattle.bng_l2tp_tunnel.specs.Sound.{IsSpelled};
 ghost use Rattle.bng_l2tp_tunnel.specs.TunnelState.{TunnelState};
-ghost use Rattle.bng_l2tp_tunnel.specs.View.{payloads, said};
-ghost use Rattle.bng_l2tp_wire.specs.View.{control_of};
+ghost use Rattle.bng_l2tp_wire.specs.View.{payloads, said, control_of};
 ghost use Rattle.bng_lns.specs.Tunnels.{tunnel_at, with_step, IsTaken, Steps};
 ghost use Rattle.bng_ppp.specs.PppRelation.{PppSteps};
 ghost use Rattle.bng_ppp.specs.PppState.{PppState};
@@ -33,9 +32,9 @@ use crate::store::Store;
 use crate::terms::Terms;
 use crate::way::{Called, Way};
 use bng_base::{Batch, OutRecord, SessionNo, TunnelNo, TunnelStep};
-use bng_l2tp_tunnel::message_type;
 use bng_l2tp_wire::Control;
 use bng_l2tp_wire::message::ICRQ;
+use bng_l2tp_wire::values::message_type;
 use bng_ppp::WholeInput;
 
 fn is_icrq(message: &Control<'_>) -> bool

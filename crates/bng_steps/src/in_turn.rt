@@ -1,6 +1,6 @@
 //! What the tunnels of a shard tell their peers by themselves, one after another (RFC 2661 sections 5.5, 5.8 and 6.4).
 ghost use Rattle.std.specs.Prelude.{◌≡◌, ◌+◌, ◌<◌, ◌≤◌, ◌++◌, length};
-ghost use Rattle.bng_l2tp_tunnel.specs.View.{payloads};
+ghost use Rattle.bng_l2tp_wire.specs.View.{payloads};
 ghost use Rattle.bng_lns.specs.Timed.{stopped};
 ghost use Rattle.bng_steps.specs.declared.rules.Rules.{Rules as RulesOf};
 ghost use Rattle.bng_steps.specs.Deed.{tunnel_outs};

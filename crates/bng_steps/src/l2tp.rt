@@ -1,7 +1,6 @@
 //! Datagrams of the gateway's end for tunnels (RFC 2661).
 ghost use Rattle.std.specs.Prelude.{◌≡◌, ◌<◌, ◌≤◌, ◌+◌, ◌^◌, length};
-ghost use Rattle.bng_l2tp_wire.specs.View.{control_of, data_of};
-ghost use Rattle.bng_l2tp_tunnel.specs.View.{said};
+ghost use Rattle.bng_l2tp_wire.specs.View.{control_of, data_of, said};
 ghost use Rattle.bng_lns.specs.Datagrams.{IsDataIn, IsReadAs};
 ghost use Rattle.bng_lns.specs.Tunnels.{IsTaken, Steps};
 ghost use Rattle.bng_base.specs.declared.fate.Fate.TheVariants.{Consumed};

@@ -10,7 +10,7 @@ ghost use Rattle.bng_base.specs.declared.book.Profile.{Profile};
 ghost use Rattle.bng_base.specs.declared.circuit.Circuit.TheVariants.{Pppoe};
 ghost use Rattle.bng_base.specs.declared.item.OutRecord.{OutRecord};
 ghost use Rattle.bng_base.specs.declared.settings.Static.{Static};
-ghost use Rattle.bng_l2tp_tunnel.specs.View.{Said};
+ghost use Rattle.bng_l2tp_wire.specs.View.{Said};
 ghost use Rattle.bng_l2tp_wire.specs.Messages.{ControlMessage};
 ghost use Rattle.bng_lns.specs.Datagrams.{IsControlIn};
 ghost use Rattle.bng_lns.specs.Timed.{Telling, reminded};

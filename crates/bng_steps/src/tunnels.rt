@@ -1,10 +1,9 @@
 //! The tunnels of a shard, beside its sessions (RFC 2661).
 ghost use Rattle.std.specs.Prelude.{◌≡◌, ◌≤◌, IfNone, IfSome, IsSome, Some, None as Nothing, true, false, is_some, length, option_map, unwrap_or};
 ghost use Rattle.std.specs.List.{AllByRecursion};
-ghost use Rattle.bng_l2tp_wire.specs.View.{control_of};
+ghost use Rattle.bng_l2tp_wire.specs.View.{control_of, payloads, said};
 ghost use Rattle.bng_l2tp_tunnel.specs.Sound.{IsSpelled};
 ghost use Rattle.bng_l2tp_tunnel.specs.TunnelState.{TunnelState};
-ghost use Rattle.bng_l2tp_tunnel.specs.View.{payloads, said};
 ghost use Rattle.bng_lns.specs.Timed.{reminded, stopped, telling_of};
 ghost use Rattle.bng_lns.specs.Tunnels.{hear as heard_of, IsTaken, answer_of, tunnel_at, with_step};
 ghost use Rattle.bng_steps.specs.Due.{due_of};

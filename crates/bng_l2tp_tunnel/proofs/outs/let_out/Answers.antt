@@ -1,7 +1,7 @@
 use Rattle.std.proofs.Common.{rules, inr, sym, ap, ◌∙◌, arith}
 use Rattle.bng_l2tp_reliable.specs.ChannelState.{ChannelState}
 use Rattle.bng_l2tp_reliable.specs.Calls.{next_out, after_next}
-use Rattle.bng_l2tp_tunnel.specs.View.{payloads}
+use Rattle.bng_l2tp_wire.specs.View.{payloads}
 use Rattle.bng_l2tp_tunnel.specs.Outs.{after_out}
 use Rattle.bng_l2tp_tunnel.proofs.Flights.{after_out-none, after_out-next, let_out-none, more_out, goes_on, full_window}
 use Rattle.bng_l2tp_tunnel.proofs.Waiting.{first_waiting}

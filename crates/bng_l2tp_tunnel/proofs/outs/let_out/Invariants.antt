@@ -1,7 +1,7 @@
 use Rattle.std.proofs.Common.{◌≡◌, ◌<◌, ◌≤◌, ◌⊎◌, None, length, map}
 use Rattle.bng_l2tp_reliable.specs.ChannelState.{IsChannel}
 use Rattle.bng_l2tp_reliable.specs.Calls.{next_out}
-use Rattle.bng_l2tp_tunnel.specs.View.{payloads}
+use Rattle.bng_l2tp_wire.specs.View.{payloads}
 use Rattle.bng_l2tp_tunnel.specs.Outs.{datagram, after_out, let_out}
 use Rattle.bng_l2tp_tunnel.proofs.outs.let_out.Given as goal
 

@@ -1,5 +1,5 @@
 use Rattle.std.proofs.Common.{rules, arith}
-use Rattle.bng_l2tp_tunnel.specs.View.{payloads}
+use Rattle.bng_l2tp_wire.specs.View.{payloads}
 use Rattle.bng_l2tp_tunnel.proofs.Flights.{flight_before-none, more_flight}
 use Rattle.bng_l2tp_tunnel.proofs.outs.resent.Goals as goal
 

@@ -1,5 +1,5 @@
 use Rattle.std.proofs.Common.{◌≡◌, ◌≤◌, length, map}
-use Rattle.bng_l2tp_tunnel.specs.View.{payloads}
+use Rattle.bng_l2tp_wire.specs.View.{payloads}
 use Rattle.bng_l2tp_tunnel.specs.Outs.{datagram, flight_before}
 use Rattle.bng_l2tp_tunnel.proofs.outs.resent.Given as goal
 

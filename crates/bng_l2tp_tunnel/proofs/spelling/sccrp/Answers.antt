@@ -1,9 +1,9 @@
 use Rattle.std.proofs.Common.{rules, ◌≡◌, List, length, ap, ◌∙◌, arith}
 use Rattle.bng_l2tp_wire.specs.Avps.{L2tpAvp, avps_text}
 use Rattle.bng_l2tp_wire.specs.Messages.{control_text}
-use Rattle.bng_l2tp_wire.specs.View.{avps_of}
-use Rattle.bng_l2tp_tunnel.specs.View.{octets_of}
-use Rattle.bng_l2tp_tunnel.specs.Spelling.{sccrp, unsent}
+use Rattle.bng_l2tp_wire.specs.View.{avps_of, octets_of}
+use Rattle.bng_l2tp_tunnel.specs.Spelling.{sccrp}
+use Rattle.bng_l2tp_wire.specs.Spelling.{unsent}
 use Rattle.bng_l2tp_tunnel.proofs.Sizes.{sccrp_size}
 use Rattle.bng_l2tp_tunnel.proofs.spelling.sccrp.Goals as goal
 

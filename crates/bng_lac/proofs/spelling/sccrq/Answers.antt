@@ -1,9 +1,8 @@
 use Rattle.std.proofs.Common.{rules, ◌≡◌, List, length, ap, ◌∙◌, arith}
 use Rattle.bng_l2tp_wire.specs.Avps.{L2tpAvp, avps_text}
 use Rattle.bng_l2tp_wire.specs.Messages.{control_text}
-use Rattle.bng_l2tp_wire.specs.View.{avps_of}
-use Rattle.bng_l2tp_tunnel.specs.View.{octets_of}
-use Rattle.bng_l2tp_tunnel.specs.Spelling.{unsent}
+use Rattle.bng_l2tp_wire.specs.View.{avps_of, octets_of}
+use Rattle.bng_l2tp_wire.specs.Spelling.{unsent}
 use Rattle.bng_lac.specs.Spelling.{sccrq}
 use Rattle.bng_lac.proofs.Sizes.{sccrq_size}
 use Rattle.bng_lac.proofs.spelling.sccrq.Goals as goal

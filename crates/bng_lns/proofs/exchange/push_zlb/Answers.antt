@@ -1,6 +1,6 @@
 use Rattle.bng_l2tp_tunnel.specs.Outs.{zlb}
 use Rattle.bng_l2tp_tunnel.specs.Steps.{to_peer}
-use Rattle.bng_lns.proofs.Payloads.{payloads-push}
+use Rattle.bng_l2tp_tunnel.proofs.Flights.{payloads-push}
 use Rattle.bng_lns.proofs.exchange.push_zlb.Goals as goal
 
 pub returns : goal.returns

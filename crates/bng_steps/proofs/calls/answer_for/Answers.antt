@@ -1,7 +1,6 @@
 use Rattle.std.proofs.Common.{◌≡◌, ◌∙◌, ap}
 use Rattle.bng_l2tp_call.specs.CallState.{CallState}
-use Rattle.bng_l2tp_tunnel.specs.View.{said}
-use Rattle.bng_l2tp_wire.specs.View.{control_of}
+use Rattle.bng_l2tp_wire.specs.View.{said, control_of}
 use Rattle.bng_lns.specs.Tunnels.{with_step}
 use Rattle.bng_steps.specs.declared.session.Session.{Session}
 use Rattle.bng_steps.specs.declared.way.Called.{Called}

@@ -4,8 +4,7 @@ use Rattle.bng_base.specs.Packet.{Packet}
 use Rattle.bng_base.specs.declared.address.SessionNo.{SessionNo}
 use Rattle.bng_l2tp_call.specs.CallState.{CallState, fresh}
 use Rattle.bng_l2tp_tunnel.specs.TunnelState.{TunnelState}
-use Rattle.bng_l2tp_tunnel.specs.View.{payloads, said}
-use Rattle.bng_l2tp_wire.specs.View.{control_of}
+use Rattle.bng_l2tp_wire.specs.View.{payloads, said, control_of}
 use Rattle.bng_lns.specs.Tunnels.{tunnel_at, with_step}
 use Rattle.bng_steps.specs.declared.way.Called.{Called}
 use Rattle.bng_steps.specs.Calls.{MakesSession, call_after, call_step, called_over, number_for}

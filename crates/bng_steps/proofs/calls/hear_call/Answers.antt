@@ -1,6 +1,5 @@
 use Rattle.std.proofs.Common.{◌∙◌, ap, is_some, sym}
-use Rattle.bng_l2tp_tunnel.specs.View.{said}
-use Rattle.bng_l2tp_wire.specs.View.{control_of}
+use Rattle.bng_l2tp_wire.specs.View.{said, control_of}
 use Rattle.bng_sessions.specs.Sessions.{value_at}
 use Rattle.bng_steps.specs.Calls.{is_icrq}
 use Rattle.bng_steps.specs.Running.{whole}

@@ -1,8 +1,7 @@
 use Rattle.std.proofs.Common.{◌≡◌, ◌∙◌, ◌++◌, ℕ, List, Option, IsSome, ap, arith, length, length-append, refl, subst, sym}
 use Rattle.bng_base.specs.Packet.{Packet}
 use Rattle.bng_base.specs.declared.address.SessionNo.{SessionNo}
-use Rattle.bng_l2tp_tunnel.specs.View.{payloads, said}
-use Rattle.bng_l2tp_wire.specs.View.{control_of}
+use Rattle.bng_l2tp_wire.specs.View.{payloads, said, control_of}
 use Rattle.bng_lns.specs.Tunnels.{TunnelsState, tunnel_at, with_step}
 use Rattle.std.specs.Prelude.{option_map}
 use Rattle.bng_sessions.specs.Sessions.{NoneShares, value_at, without}

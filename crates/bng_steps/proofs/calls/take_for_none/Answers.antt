@@ -1,8 +1,7 @@
 use Rattle.std.proofs.Common.{◌≡◌, ◌∙◌, ◌++◌, List, ap, arith, length}
 use Rattle.bng_base.specs.Packet.{Packet}
 use Rattle.bng_l2tp_call.specs.CallState.{CallState, fresh}
-use Rattle.bng_l2tp_tunnel.specs.View.{payloads, said}
-use Rattle.bng_l2tp_wire.specs.View.{control_of}
+use Rattle.bng_l2tp_wire.specs.View.{payloads, said, control_of}
 use Rattle.bng_lns.specs.Tunnels.{tunnel_at, with_step}
 use Rattle.bng_steps.specs.declared.way.Called.{Called}
 use Rattle.bng_steps.specs.Calls.{call_step}

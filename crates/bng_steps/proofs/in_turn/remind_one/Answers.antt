@@ -1,6 +1,6 @@
 use Rattle.std.proofs.Common.{◌++◌, List, [], Option, refl, sym, ap, subst, ◌∙◌, arith, length, append-nil}
 use Rattle.bng_base.specs.Packet.{Packet}
-use Rattle.bng_l2tp_tunnel.specs.View.{payloads}
+use Rattle.bng_l2tp_wire.specs.View.{payloads}
 use Rattle.bng_lns.specs.Timed.{Telling, reminded}
 use Rattle.bng_steps.specs.Cutting.{cut_if, cut_told}
 use Rattle.bng_steps.specs.Deed.{tunnel_outs}

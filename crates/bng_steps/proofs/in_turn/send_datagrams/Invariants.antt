@@ -1,5 +1,5 @@
 use Rattle.std.proofs.Common.{◌≡◌, ◌+◌, ◌≤◌, ◌++◌, length, take}
-use Rattle.bng_l2tp_tunnel.specs.View.{payloads}
+use Rattle.bng_l2tp_wire.specs.View.{payloads}
 use Rattle.bng_steps.specs.Deed.{tunnel_outs}
 use Rattle.bng_steps.proofs.in_turn.send_datagrams.Given as goal
 

@@ -1,7 +1,6 @@
 use Rattle.std.proofs.Common.{refl, ap, subst, sym, ◌∙◌}
 use Rattle.bng_base.specs.declared.fate.Fate.TheVariants.{Consumed}
-use Rattle.bng_l2tp_tunnel.specs.View.{said}
-use Rattle.bng_l2tp_wire.specs.View.{control_of}
+use Rattle.bng_l2tp_wire.specs.View.{said, control_of}
 use Rattle.bng_steps.specs.Datagrams.{TakesStep}
 use Rattle.bng_steps.specs.Doing.{DoesWith}
 use Rattle.bng_steps.specs.Placed.{ArePlaced}

@@ -2,8 +2,7 @@ use Rattle.std.proofs.Common.{◌++◌, Bool, List, refl, ap, subst, sym, ◌∙
 use Rattle.bng_base.specs.Packet.{Packet}
 use Rattle.bng_base.specs.declared.fate.Fate.TheVariants.{Consumed}
 use Rattle.bng_base.specs.declared.item.At.{At}
-use Rattle.bng_l2tp_tunnel.specs.View.{payloads, said}
-use Rattle.bng_l2tp_wire.specs.View.{control_of}
+use Rattle.bng_l2tp_wire.specs.View.{payloads, said, control_of}
 use Rattle.bng_steps.specs.Cutting.{cut_if}
 use Rattle.bng_steps.specs.Datagrams.{TakesStep}
 use Rattle.bng_steps.specs.Deed.{at_of, handled, tunnel_outs}

@@ -4,7 +4,7 @@ use Rattle.bng_base.specs.Packet.{Packet}
 use Rattle.bng_l2tp_call.specs.CallState.{CallState}
 use Rattle.bng_l2tp_tunnel.specs.Sound.{IsSpelled}
 use Rattle.bng_l2tp_tunnel.specs.TunnelState.{TunnelState}
-use Rattle.bng_l2tp_tunnel.specs.View.{Said, payloads}
+use Rattle.bng_l2tp_wire.specs.View.{Said, payloads}
 use Rattle.bng_lns.specs.Exchange.{parted}
 use Rattle.bng_lns.specs.Tunnels.{with_step}
 use Rattle.bng_steps.specs.declared.way.Called.{Called}

@@ -1,5 +1,5 @@
 use Rattle.std.proofs.Common.{rules, ◌≡◌, ℕ, List, sym, ap, subst}
-use Rattle.bng_l2tp_call.specs.View.{Said, payloads, said}
+use Rattle.bng_l2tp_wire.specs.View.{Said, payloads, said}
 use Rattle.bng_l2tp_call.specs.Spelling.{administrative, TellsCode}
 use Rattle.bng_l2tp_call.specs.Steps.{Step, end_step}
 use Rattle.bng_l2tp_call.specs.Sound.{IsSound}

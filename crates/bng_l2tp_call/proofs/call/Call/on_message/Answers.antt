@@ -1,6 +1,5 @@
 use Rattle.std.proofs.Common.{rules}
-use Rattle.bng_l2tp_wire.specs.View.{control_of}
-use Rattle.bng_l2tp_call.specs.View.{said}
+use Rattle.bng_l2tp_wire.specs.View.{control_of, said}
 use Rattle.bng_l2tp_call.specs.Steps.{Hears}
 use Rattle.bng_l2tp_call.proofs.Table.{one_outcome}
 use Rattle.bng_l2tp_call.proofs.Soundness.{hears_sound}

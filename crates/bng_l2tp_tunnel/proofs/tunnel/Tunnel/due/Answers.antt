@@ -1,5 +1,5 @@
 use Rattle.std.proofs.Common.{rules, ◌≡◌, length, ap, ◌∙◌, arith}
-use Rattle.bng_l2tp_tunnel.specs.View.{Said, said}
+use Rattle.bng_l2tp_wire.specs.View.{Said, said}
 use Rattle.bng_l2tp_tunnel.specs.TunnelState.{TunnelState, lasting_of}
 use Rattle.bng_l2tp_tunnel.specs.Steps.{due_step}
 use Rattle.bng_l2tp_tunnel.proofs.Soundness.{as_said, due_sound}

@@ -1,6 +1,5 @@
 use Rattle.std.proofs.Common.{sym, ap, ◌∙◌}
-use Rattle.bng_l2tp_wire.specs.View.{avps_of, control_of}
-use Rattle.bng_l2tp_tunnel.specs.View.{said}
+use Rattle.bng_l2tp_wire.specs.View.{avps_of, control_of, said}
 use Rattle.bng_l2tp_tunnel.proofs.Answering.{delivers_said, delivers_after}
 use Rattle.bng_l2tp_tunnel.proofs.tunnel.Tunnel.hear.Goals as goal
 

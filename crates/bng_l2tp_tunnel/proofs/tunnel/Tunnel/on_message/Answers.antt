@@ -1,6 +1,5 @@
 use Rattle.std.proofs.Common.{rules, ◌≡◌, length, sym, ap, ◌∙◌, arith}
-use Rattle.bng_l2tp_tunnel.specs.View.{Said, payloads, said}
-use Rattle.bng_l2tp_wire.specs.View.{control_of}
+use Rattle.bng_l2tp_wire.specs.View.{Said, payloads, said, control_of}
 use Rattle.bng_l2tp_tunnel.specs.Steps.{is_established, message_step, heard_by}
 use Rattle.bng_l2tp_tunnel.proofs.Soundness.{as_said, message_sound}
 use Rattle.bng_l2tp_tunnel.proofs.Answered.{as_answered, message_answered}

@@ -2,8 +2,8 @@ use Rattle.std.proofs.Common.{ap, ◌∙◌}
 use Rattle.bng_l2tp_wire.specs.Messages.{control_text}
 use Rattle.bng_l2tp_tunnel.specs.declared.acknowledging.Acknowledging.TheVariants.{ByAny}
 use Rattle.bng_l2tp_tunnel.specs.declared.phase.Phase.TheVariants.{Cleared}
-use Rattle.bng_l2tp_tunnel.specs.declared.refusal.ResultCode.{ResultCode}
-use Rattle.bng_l2tp_tunnel.specs.View.{said}
+use Rattle.bng_l2tp_wire.specs.declared.result_code.ResultCode.{ResultCode}
+use Rattle.bng_l2tp_wire.specs.View.{said}
 use Rattle.bng_l2tp_tunnel.specs.TunnelState.{TunnelState}
 use Rattle.bng_l2tp_tunnel.specs.Spelling.{stop_ccn, code_of}
 use Rattle.bng_l2tp_tunnel.proofs.Answering.{clears_said, clears_after}

@@ -1,6 +1,5 @@
 use Rattle.std.proofs.Common.{◌≡◌, ℕ, Option, Some, IsSome, inr, refl, sym, ap, subst, ◌∙◌}
-use Rattle.bng_l2tp_wire.specs.View.{avps_of}
-use Rattle.bng_l2tp_tunnel.specs.View.{octets_of}
+use Rattle.bng_l2tp_wire.specs.View.{avps_of, octets_of}
 use Rattle.bng_lac.specs.declared.call.LacCall.{LacCall}
 use Rattle.bng_lac.specs.Calls.{call_of}
 use Rattle.bng_lac.specs.CallSteps.{CallStep, call_step}

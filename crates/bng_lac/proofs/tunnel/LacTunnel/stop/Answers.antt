@@ -1,8 +1,8 @@
 use Rattle.std.proofs.Common.{ap, ◌∙◌}
 use Rattle.bng_l2tp_wire.specs.Messages.{control_text}
 use Rattle.bng_l2tp_tunnel.specs.declared.acknowledging.Acknowledging.TheVariants.{Never}
-use Rattle.bng_l2tp_tunnel.specs.declared.refusal.ResultCode.{ResultCode}
-use Rattle.bng_l2tp_tunnel.specs.View.{said}
+use Rattle.bng_l2tp_wire.specs.declared.result_code.ResultCode.{ResultCode}
+use Rattle.bng_l2tp_wire.specs.View.{said}
 use Rattle.bng_l2tp_tunnel.specs.Spelling.{stop_ccn, shut_down}
 use Rattle.bng_lac.specs.LacState.{LacState}
 use Rattle.bng_lac.specs.Steps.{stop_step}

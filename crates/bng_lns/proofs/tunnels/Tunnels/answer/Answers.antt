@@ -3,13 +3,11 @@ use Rattle.std.specs.Prelude.{position, IsSome}
 use Rattle.std.specs.List.{AllByRecursion}
 use Rattle.std.proofs.lemmas.List.Quantifiers.{position-Some}
 use Rattle.std.proofs.lemmas.Option.{slice_get_read}
-use Rattle.bng_l2tp_wire.specs.View.{control_of}
+use Rattle.bng_l2tp_wire.specs.View.{control_of, Said, said}
 use Rattle.bng_l2tp_tunnel.specs.Sound.{IsSpelled}
 use Rattle.bng_l2tp_tunnel.specs.Steps.{Step}
 use Rattle.bng_l2tp_tunnel.specs.TunnelState.{TunnelState}
-use Rattle.bng_l2tp_tunnel.specs.View.{Said, said}
 use Rattle.bng_l2tp_call.specs.Steps.{Step as CallStep}
-use Rattle.bng_l2tp_call.specs.View.{said as call_said}
 use Rattle.bng_l2tp_call.proofs.Table.{hears_is}
 use Rattle.bng_lns.specs.Places.{number_at, is_numbered, place_of, IsPlace}
 use Rattle.bng_lns.specs.Tunnels.{TunnelsState, tunnel_at, with_step}
@@ -59,7 +57,7 @@ returns-clause-said c = λ x e.
     let d = (goal.at.returns-clause-said c).After-index_mut in
     let t : TunnelsState = record { shard = c.self.inside.shard; places = c.self.inside.places.items } in
     let heard = said c.args.heard in
-    let told = call_said c.on_message-told.result in
+    let told = said c.on_message-told.result in
     let m = control_of c.args.message.now in
     let same = same_tunnel t c.args.number.0 c.in-Some.at c.index_mut.result.now (at_place d) (there d) x (ap (λ (s : TunnelsState). tunnel_at s c.args.number.0) c.self.view_is ∙ e) in
     c.answer_in.ensures.said
@@ -71,7 +69,7 @@ returns-clause-after c = λ x e.
     let d = (goal.at.returns-clause-after c).After-index_mut in
     let t : TunnelsState = record { shard = c.self.inside.shard; places = c.self.inside.places.items } in
     let heard = said c.args.heard in
-    let told = call_said c.on_message-told.result in
+    let told = said c.on_message-told.result in
     let m = control_of c.args.message.now in
     let p = c.index_mut.result.now in
     let same = same_tunnel t c.args.number.0 c.in-Some.at p (at_place d) (there d) x (ap (λ (s : TunnelsState). tunnel_at s c.args.number.0) c.self.view_is ∙ e) in
@@ -84,20 +82,20 @@ returns-clause-after c = λ x e.
 
 pub returns-clause-acknowledged : goal.returns-clause-acknowledged
 returns-clause-acknowledged c =
-    let told = call_said c.on_message-told.result in
+    let told = said c.on_message-told.result in
     subst (λ (s : Said). 0 < length s.outs) (sym c.answer_in.ensures.said)
     (answered_some c.index_mut.result.now.tunnel (said c.args.heard) told c.args.now told.outs)
 
 pub returns-clause-few : goal.returns-clause-few
 returns-clause-few c =
     let d = (goal.at.returns-clause-few c).After-index_mut in
-    let told = call_said c.on_message-told.result in
+    let told = said c.on_message-told.result in
     omega (arith, ap (λ (s : Said). length s.outs) c.answer_in.ensures.said, answered_few c.index_mut.result.now.tunnel (said c.args.heard) told c.args.now told.outs (its_place d).sound c.requires.few)
 
 pub returns-clause-spelled : goal.returns-clause-spelled
 returns-clause-spelled c = λ h.
     let d = (goal.at.returns-clause-spelled c).After-index_mut in
-    let told = call_said c.on_message-told.result in
+    let told = said c.on_message-told.result in
     subst (λ (s : Said). AllByRecursion IsSpelled s.outs) (sym c.answer_in.ensures.said)
     (answered_spelled c.index_mut.result.now.tunnel (said c.args.heard) told c.args.now told.outs (its_place d).sound (call_texts _ _ c.on_message-told.ensures.sound.outs) h)
 

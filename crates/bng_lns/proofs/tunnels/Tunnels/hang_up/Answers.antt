@@ -5,8 +5,7 @@ use Rattle.std.proofs.lemmas.List.Quantifiers.{position-Some}
 use Rattle.std.proofs.lemmas.Option.{slice_get_read}
 use Rattle.bng_l2tp_tunnel.specs.Sound.{IsSpelled}
 use Rattle.bng_l2tp_tunnel.specs.TunnelState.{TunnelState}
-use Rattle.bng_l2tp_tunnel.specs.View.{Said}
-use Rattle.bng_l2tp_call.specs.View.{said as call_said, Said as CallSaid}
+use Rattle.bng_l2tp_wire.specs.View.{Said, said}
 use Rattle.bng_lns.specs.Places.{number_at, is_numbered, place_of, IsPlace}
 use Rattle.bng_lns.specs.Tunnels.{TunnelsState, tunnel_at, with_step}
 use Rattle.bng_lns.specs.Exchange.{parted_by, parted}
@@ -50,35 +49,35 @@ pub returns-clause-said : goal.returns-clause-said
 returns-clause-said c = λ x e.
     let d = (goal.at.returns-clause-said c).After-index_mut in
     let t : TunnelsState = record { shard = c.self.inside.shard; places = c.self.inside.places.items } in
-    let told = call_said c.end-told.result in
+    let told = said c.end-told.result in
     let same = same_tunnel t c.args.number.0 c.in-Some.at c.index_mut.result.now (at_place d) (there d) x (ap (λ (s : TunnelsState). tunnel_at s c.args.number.0) c.self.view_is ∙ e) in
     c.part_in.ensures.said
     ∙ ap (λ (y : TunnelState). (parted_by y told c.args.now told.outs).said) same
-    ∙ ap (λ (s : CallSaid). (parted_by x s c.args.now s.outs).said) c.end-told.ensures.said
+    ∙ ap (λ (s : Said). (parted_by x s c.args.now s.outs).said) c.end-told.ensures.said
 
 pub returns-clause-after : goal.returns-clause-after
 returns-clause-after c = λ x e.
     let d = (goal.at.returns-clause-after c).After-index_mut in
     let t : TunnelsState = record { shard = c.self.inside.shard; places = c.self.inside.places.items } in
-    let told = call_said c.end-told.result in
+    let told = said c.end-told.result in
     let p = c.index_mut.result.now in
     let same = same_tunnel t c.args.number.0 c.in-Some.at p (at_place d) (there d) x (ap (λ (s : TunnelsState). tunnel_at s c.args.number.0) c.self.view_is ∙ e) in
     let after = (parted x c.args.call.now c.args.now).after in
     let written = c.part_in.ensures.after
     ∙ ap (λ (y : TunnelState). place_of c.args.now (parted_by y told c.args.now told.outs).after) same
-    ∙ ap (λ (s : CallSaid). place_of c.args.now (parted_by x s c.args.now s.outs).after) c.end-told.ensures.said in
+    ∙ ap (λ (s : Said). place_of c.args.now (parted_by x s c.args.now s.outs).after) c.end-told.ensures.said in
     tunnel_stepped t c.args.number.0 c.in-Some.at p (at_place d) (there d) _ c.args.now after c.part_in.new.place c.self.invariant (found_passes (is_numbered c.args.number.0) t.places c.in-Some.at p (at_place d) (there d)) written
     ∙ ap (λ (s : TunnelsState). with_step c.args.now s c.args.number.0 after) c.self.view_is
 
 pub returns-clause-one : goal.returns-clause-one
 returns-clause-one c =
     let d = (goal.at.returns-clause-one c).After-index_mut in
-    let told = call_said c.end-told.result in
+    let told = said c.end-told.result in
     omega (arith, ap (λ (s : Said). length s.outs) c.part_in.ensures.said, parted_one c.index_mut.result.now.tunnel told c.args.now told.outs (its_place d).sound)
 
 pub returns-clause-spelled : goal.returns-clause-spelled
 returns-clause-spelled c =
     let d = (goal.at.returns-clause-spelled c).After-index_mut in
-    let told = call_said c.end-told.result in
+    let told = said c.end-told.result in
     subst (λ (s : Said). AllByRecursion IsSpelled s.outs) (sym c.part_in.ensures.said)
     (parted_spelled c.index_mut.result.now.tunnel told c.args.now told.outs (its_place d).sound (call_texts _ _ c.end-told.ensures.sound.outs))

@@ -1,7 +1,6 @@
 use Rattle.std.proofs.Common.{◌<◌, ℕ, sym, subst, ◌∙◌, arith}
-use Rattle.bng_l2tp_wire.specs.View.{control_of}
+use Rattle.bng_l2tp_wire.specs.View.{control_of, said}
 use Rattle.bng_l2tp_tunnel.specs.Steps.{message_step}
-use Rattle.bng_l2tp_tunnel.specs.View.{said}
 use Rattle.bng_lns.specs.Places.{number_at, is_free, place_of, IsPlace}
 use Rattle.bng_lns.specs.Tunnels.{free_place}
 use Rattle.bng_lns.proofs.Finding.{position_or_len-le-length}

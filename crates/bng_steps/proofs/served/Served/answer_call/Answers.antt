@@ -1,7 +1,6 @@
 use Rattle.std.proofs.Common.{◌≡◌, Some, IsSome, sym, ap, subst, ◌∙◌}
 use Rattle.bng_l2tp_tunnel.specs.TunnelState.{TunnelState}
-use Rattle.bng_l2tp_tunnel.specs.View.{said}
-use Rattle.bng_l2tp_wire.specs.View.{control_of}
+use Rattle.bng_l2tp_wire.specs.View.{said, control_of}
 use Rattle.bng_lns.specs.Exchange.{exchanged}
 use Rattle.bng_lns.specs.Tunnels.{tunnel_at, with_step}
 use Rattle.bng_steps.specs.State.{State, with_tunnels}

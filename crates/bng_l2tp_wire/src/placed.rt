@@ -1,14 +1,13 @@
+//! Where the AVPs of a control message stand: after which Random Vector (RFC 2661 section 4.3).
 ghost use Rattle.std.specs.Prelude.{◌≡◌, find, IfSome};
 ghost use Rattle.std.specs.List.{list_any};
 ghost use Rattle.std.specs.Option.{option_map};
-ghost use Rattle.bng_l2tp_wire.specs.View.{avp_of, avps_of};
-ghost use Rattle.bng_l2tp_call.specs.Values.{IsPlaced, is_of as is_avp_of, is_vector as is_random_vector, placed, is_unreadable as cannot_be_read};
-ghost use Rattle.bng_l2tp_call.specs.Messages.{has_unreadable as has_one_unreadable};
-ghost use Rattle.bng_l2tp_call.specs.View.{placed_of, octets_of};
+ghost use Rattle.bng_l2tp_wire.specs.Values.{IsPlaced, is_of as is_avp_of, is_vector as is_random_vector, placed, is_unreadable as cannot_be_read, has_unreadable as has_one_unreadable};
+ghost use Rattle.bng_l2tp_wire.specs.View.{avp_of, avps_of, placed_of, octets_of};
 
+use crate::kind::RANDOM_VECTOR;
+use crate::view::Avp;
 use arrayvec::ArrayVec;
-use bng_l2tp_wire::Avp;
-use bng_l2tp_wire::kind::RANDOM_VECTOR;
 
 /// An AVP of a message, and the last Random Vector before it (RFC 2661 section 4.3).
 #[derive(Clone, Copy)]

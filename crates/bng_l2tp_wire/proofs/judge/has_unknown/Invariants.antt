@@ -1,7 +1,7 @@
 use Rattle.std.proofs.Common.{◌≡◌, length}
 use Rattle.bng_l2tp_wire.specs.View.{avps_of}
-use Rattle.bng_l2tp_call.specs.Refusals.{has_unknown}
-use Rattle.bng_l2tp_call.proofs.judge.has_unknown.Given as goal
+use Rattle.bng_l2tp_wire.specs.Judge.{has_unknown}
+use Rattle.bng_l2tp_wire.proofs.judge.has_unknown.Given as goal
 
 abbrev pub invariant-loop-left : goal.invariant-loop-left
 invariant-loop-left l = has_unknown (avps_of l.avps) ≡ has_unknown (avps_of l.left)

@@ -2,9 +2,9 @@ use Rattle.std.proofs.Common.{◌≡◌, length}
 use Rattle.std.specs.List.{list_any}
 use Rattle.std.specs.Option.{option_map}
 use Rattle.bng_l2tp_wire.specs.View.{avp_of, avps_of}
-use Rattle.bng_l2tp_tunnel.specs.Values.{is_unreadable, placed_after, placed}
-use Rattle.bng_l2tp_tunnel.specs.View.{octets_of}
-use Rattle.bng_l2tp_tunnel.proofs.placed.has_unreadable.Given as goal
+use Rattle.bng_l2tp_wire.specs.Values.{is_unreadable, placed_after, placed}
+use Rattle.bng_l2tp_wire.specs.View.{octets_of}
+use Rattle.bng_l2tp_wire.proofs.placed.has_unreadable.Given as goal
 
 abbrev pub invariant-loop-left : goal.invariant-loop-left
 invariant-loop-left l =

@@ -1,9 +1,10 @@
 -- What the AVPs of a control message say, by RFC 2661 sections 4.1 to 4.4. Numbers have their most significant octet first.
 use Rattle.std.specs.Prelude.{◌≡◌, ℕ, ◌==◌, Bool, ◌&&◌, ◌||◌, not, nat_le, if◌then◌else◌, List, [], ◌∷◌, length, slice_get, slice_range, take, reverse, find, Option, Some, None, is_none}
+use Rattle.std.specs.List.{list_any}
 use Rattle.byteorder.specs.Endian.{big_from}
 use Rattle.bng_digest.specs.Hiding.{revealed_avp}
 use Rattle.bng_l2tp_wire.specs.Avps.{L2tpAvp}
-use Rattle.bng_l2tp_call.specs.Numbers.{message_type_avp, assigned_session_id_avp, random_vector_avp}
+use Rattle.bng_l2tp_wire.specs.declared.kind.TheConstants.{MESSAGE_TYPE, ASSIGNED_TUNNEL_ID, RECEIVE_WINDOW_SIZE, ASSIGNED_SESSION_ID, RANDOM_VECTOR}
 
 -- An AVP that is known: one of Vendor ID 0 with an Attribute Type of 0 to 19 or 21 to 39. One with a reserved bit set is to be treated as one
 -- that is not known (section 4.1).
@@ -16,7 +17,7 @@ is_of kind a = a.vendor == 0 && a.reserved == 0 && a.kind == kind
 
 -- a Random Vector, which is never hidden (section 4.3)
 abbrev pub is_vector : L2tpAvp → Bool
-is_vector a = is_of random_vector_avp a && not a.hidden
+is_vector a = is_of RANDOM_VECTOR a && not a.hidden
 
 -- an AVP of a message, and the last Random Vector before it
 pub record PlacedAvp : Type 0 where
@@ -65,6 +66,10 @@ value_in secret p =
 abbrev pub is_unreadable : Option (List ℕ) → PlacedAvp → Bool
 is_unreadable secret p = p.avp.hidden && (is_none p.vector || is_none secret)
 
+-- a hidden AVP of a message cannot be read
+abbrev pub has_unreadable : Option (List ℕ) → List L2tpAvp → Bool
+has_unreadable secret avps = list_any (is_unreadable secret) (placed avps)
+
 abbrev pub value_there : Option (List ℕ) → Option PlacedAvp → Option (List ℕ)
 value_there secret None = None
 value_there secret (Some p) = value_in secret p
@@ -81,8 +86,24 @@ number_in (Some octets) = if length octets == 2 then Some (big_from 0 2 octets) 
 -- what the Message Type says, which is the first AVP of a message (section 4.4.1) and never hidden
 abbrev pub message_type : List L2tpAvp → Option ℕ
 message_type [] = None
-message_type (a ∷ rest) = if is_of message_type_avp a && not a.hidden then number_in (Some a.value) else None
+message_type (a ∷ rest) = if is_of MESSAGE_TYPE a && not a.hidden then number_in (Some a.value) else None
+
+-- the sender's Assigned Tunnel ID (section 4.4.3)
+abbrev pub assigned_tunnel : Option (List ℕ) → List L2tpAvp → Option ℕ
+assigned_tunnel secret avps = number_in (value_of secret ASSIGNED_TUNNEL_ID avps)
 
 -- the sender's Assigned Session ID (section 4.4.4)
 abbrev pub assigned_session : Option (List ℕ) → List L2tpAvp → Option ℕ
-assigned_session secret avps = number_in (value_of secret assigned_session_id_avp avps)
+assigned_session secret avps = number_in (value_of secret ASSIGNED_SESSION_ID avps)
+
+-- the window of a peer that says none: 4 (section 4.4.3). A window of 0 is none.
+abbrev pub default_window : ℕ
+default_window = 4
+
+abbrev pub window_in : Option ℕ → ℕ
+window_in None = default_window
+window_in (Some size) = if size == 0 then default_window else size
+
+-- the sender's Receive Window Size (section 4.4.3)
+abbrev pub window_of : Option (List ℕ) → List L2tpAvp → ℕ
+window_of secret avps = window_in (number_in (value_of secret RECEIVE_WINDOW_SIZE avps))

@@ -2,7 +2,7 @@
 use Rattle.std.proofs.Common.{◌≡◌, Bool, true, false, cond, Option, None, Some, List, [], ◌∷◌, ◌++◌, length, take, find, reverse, slice_get, refl, sym, ap, subst, ◌∙◌, append_assoc}
 use Rattle.std.proofs.lemmas.List.{reverse-append}
 use Rattle.bng_l2tp_wire.specs.Avps.{L2tpAvp}
-use Rattle.bng_l2tp_call.specs.Values.{PlacedAvp, IsPlaced, is_vector, placed_after, placed}
+use Rattle.bng_l2tp_wire.specs.Values.{PlacedAvp, IsPlaced, is_vector, placed_after, placed}
 
 slice_get-middle : (seen rest : List L2tpAvp) (a : L2tpAvp) → slice_get (seen ++ a ∷ rest) (length seen) ≡ Some a
 slice_get-middle [] rest a = refl

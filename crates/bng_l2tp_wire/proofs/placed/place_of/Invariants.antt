@@ -1,8 +1,8 @@
 use Rattle.std.proofs.Common.{◌≡◌, find, length}
 use Rattle.std.specs.Option.{option_map}
 use Rattle.bng_l2tp_wire.specs.View.{avp_of, avps_of}
-use Rattle.bng_l2tp_call.specs.Values.{PlacedAvp, is_of, placed_after, placed}
-use Rattle.bng_l2tp_call.proofs.placed.place_of.Given as goal
+use Rattle.bng_l2tp_wire.specs.Values.{PlacedAvp, is_of, placed_after, placed}
+use Rattle.bng_l2tp_wire.proofs.placed.place_of.Given as goal
 
 abbrev pub invariant-loop-left : goal.invariant-loop-left
 invariant-loop-left l =

@@ -1,15 +1,18 @@
+//! What the AVPs of a control message say, hidden ones among them (RFC 2661 sections 4.1 to 4.4).
 ghost use Rattle.std.specs.Prelude.{◌≡◌, ◌≤◌, length};
 ghost use Rattle.std.specs.Option.{option_map};
 ghost use Rattle.bng_digest.specs.Hiding.{revealed_avp};
-ghost use Rattle.bng_l2tp_wire.specs.View.{avp_of, avps_of};
-ghost use Rattle.bng_l2tp_call.specs.Values.{original_value, value_in as value_in_avp, value_of as value_of_kind, number_in, message_type as type_of};
-ghost use Rattle.bng_l2tp_call.specs.View.{placed_of, octets_of};
+ghost use Rattle.bng_l2tp_wire.specs.Values.{original_value, value_in as value_in_avp, value_of as value_of_kind, number_in, message_type as type_of, assigned_tunnel as tunnel_of, window_in, window_of as size_of_window};
+ghost use Rattle.bng_l2tp_wire.specs.View.{avps_of, placed_of, octets_of};
 
+use crate::kind::{ASSIGNED_TUNNEL_ID, MESSAGE_TYPE, RECEIVE_WINDOW_SIZE};
 use crate::placed::{Placed, is_of, place_of};
+use crate::view::{Avp, Control};
 use arrayvec::ArrayVec;
 use bng_digest::unhide_avp;
-use bng_l2tp_wire::Avp;
-use bng_l2tp_wire::kind::MESSAGE_TYPE;
+
+/// The window of a peer that says none (RFC 2661 section 4.4.3).
+pub const DEFAULT_WINDOW: u16 = 4;
 
 /// The most octets of the value of an AVP, whose Length has ten bits (RFC 2661 section 4.1).
 pub const VALUE_MOST: usize = 1017;
@@ -116,4 +119,30 @@ pub fn type_in(avps: &[Avp<'_>]) -> Option<u16>
     } else {
         None
     }
+}
+
+/// The window of a peer that sent this message.
+pub fn window_of(avps: &[Avp<'_>], secret: &Option<ArrayVec<u8, 64>>) -> u16
+    ensures { result ≡ size_of_window (octets_of secret.now) (avps_of avps.now) }
+{
+    match number_at(avps, secret, RECEIVE_WINDOW_SIZE) {
+        Some(0) | None => DEFAULT_WINDOW,
+        Some(size) => size,
+    }
+}
+
+/// The Message Type of a control message (RFC 2661 section 4.4.1), by the constants of `bng_l2tp_wire::message`. None comes
+/// exactly where its first AVP is no Message Type of two octets that is not hidden, as in a ZLB.
+pub fn message_type(message: &Control<'_>) -> Option<u16>
+    ensures { result ≡ type_of (avps_of message.now.avps.items) }
+{
+    type_in(message.avps.as_slice())
+}
+
+/// The sender's Assigned Tunnel ID (RFC 2661 section 4.4.3), read with the secret that is shared with it, if any. None comes
+/// exactly where there is none of two octets, or where it is hidden and has no Random Vector before it or there is no secret.
+pub fn assigned_tunnel(message: &Control<'_>, secret: &Option<ArrayVec<u8, 64>>) -> Option<u16>
+    ensures { result ≡ tunnel_of (octets_of secret.now) (avps_of message.now.avps.items) }
+{
+    number_at(message.avps.as_slice(), secret, ASSIGNED_TUNNEL_ID)
 }
