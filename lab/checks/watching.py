@@ -6,7 +6,7 @@ import subprocess
 import urllib.error
 import urllib.request
 
-from machine.gateway import HOME, PROGRAM, Lab, run
+from machine.gateway import CAUSES, HOME, PROGRAM, Lab, run
 from peers.ipv4 import packet
 from peers.loopback import udp
 from peers.pppoe import delivery, frame
@@ -26,15 +26,9 @@ bng_worker_octets_total{worker="0",direction="in"} 168
 bng_worker_octets_total{worker="0",direction="out"} 40
 bng_profile_octets_total{profile="default",direction="in"} 168
 bng_profile_octets_total{profile="default",direction="out"} 40
-bng_dropped_packets_total{cause="Malformed"} 3
-bng_dropped_packets_total{cause="NoSession"} 0
-bng_dropped_packets_total{cause="NotOpen"} 0
-bng_dropped_packets_total{cause="Expired"} 0
-bng_dropped_packets_total{cause="Spoofed"} 0
-bng_dropped_packets_total{cause="TooBig"} 0
-bng_dropped_packets_total{cause="Exceeded"} 0
-bng_dropped_packets_total{cause="LinkFailed"} 0
-bng_dropped_packets_total{cause="WantOfMemory"} 0
+"""
+SAMPLES += "".join(f'bng_dropped_packets_total{{cause="{cause}"}} {3 if cause == "Malformed" else 0}\n' for cause in CAUSES)
+SAMPLES += """\
 bng_unacknowledged_stops 0
 bng_unacknowledged_octets{direction="in"} 0
 bng_unacknowledged_octets{direction="out"} 0

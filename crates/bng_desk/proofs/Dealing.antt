@@ -1,11 +1,11 @@
 -- One item more is dealt.
 use Rattle.std.proofs.Common.{◌≡◌, ℕ, zero, suc, ◌+◌, ◌<◌, ◌≤◌, Bool, true, false, cond, List, [], ◌∷◌, ◌++◌, map, length, get_or, set, if◌then◌else◌, refl, sym, ap, ◌∙◌, arith, eqb, add-zero, append-nil, append_assoc}
 use Rattle.std.specs.List.{AllZip, count_by, flat_map, sum_by}
+use Rattle.std.proofs.Math.Path.{fun_ext}
 use Rattle.std.proofs.lemmas.Bool.Decides.{nat_tests}
 use Rattle.std.proofs.lemmas.List.{map-append}
 use Rattle.std.proofs.lemmas.List.Sums.{sum_by-append, sum_by-cons, sum_by-set, sum_by_push}
 use Rattle.bng_base.specs.declared.fate.DropCause.{DropCause}
-use Rattle.bng_base.specs.declared.fate.DropCause.TheVariants.{Malformed, NoSession, NotOpen, Expired, Spoofed, TooBig, Exceeded, LinkFailed, WantOfMemory}
 use Rattle.bng_base.specs.declared.fate.Fate.{Fate}
 use Rattle.bng_base.specs.declared.item.Entry.{Entry}
 use Rattle.bng_base.specs.declared.item.Item.{Item}
@@ -19,7 +19,7 @@ use Rattle.bng_desk.specs.Counting.{with_fate, is_dropped, drops_of, plus}
 use Rattle.bng_desk.specs.Items.{entries_in, loose_item, loose_in, stands_in, without_claim}
 use Rattle.bng_desk.specs.Round.{entries_of}
 use Rattle.bng_desk.specs.Taking.{AreDealt}
-use Rattle.bng_desk.proofs.DropLaws.{drops_more, same}
+use Rattle.bng_desk.proofs.DropLaws.{drops_more}
 
 abbrev pub Seens : Type 0
 Seens = List (ShardView ShardState Handled)
@@ -45,7 +45,7 @@ counts_flat cause (v ∷ vs) =
 
 -- fates with the same counts
 drops_same : (xs ys : List Fate) → ((cause : DropCause) → count_by (is_dropped cause) xs ≡ count_by (is_dropped cause) ys) → drops_of xs ≡ drops_of ys
-drops_same xs ys h = same (drops_of xs) (drops_of ys) (h Malformed) (h NoSession) (h NotOpen) (h Expired) (h Spoofed) (h TooBig) (h Exceeded) (h LinkFailed) (h WantOfMemory)
+drops_same xs ys h = fun_ext h
 
 -- one fate more, wherever it stands
 pub drops_with : (d e g : Drops) (xs ys : List Fate) (f : Fate) → e ≡ plus d (drops_of xs) → g ≡ with_fate e f

@@ -31,6 +31,7 @@ use Rattle.bng_desk.specs.Kept.{IsKept, IsAsked, IsUnended, all_turns, rested, o
 use Rattle.bng_desk.specs.Model.{Desk, begun_in, keys_in, live_terms}
 use Rattle.bng_desk.specs.Opening.{line_of}
 use Rattle.bng_desk.specs.Taking.{AllTold, IsEmpty, KeepsTerms, HasFewSessions, AddsUp, AreInOrder, AreTallied, CarriesWithin, kept_in, live_by, no_stops, stopped_in}
+use Rattle.bng_desk.proofs.DropLaws.{within_none}
 use Rattle.bng_desk.proofs.Readying.{WorksBy}
 use Rattle.bng_desk.proofs.Returning.{HoldsOwn}
 use Rattle.bng_desk.proofs.Keeping.{AreKept, none_kept, one_low, unended_left}
@@ -171,7 +172,7 @@ kept_fresh d statics now cs shards few lines stopped counts some_port few_ports 
           (subst (λ (xs : List (ShardView ShardState Entry)). AddsUp (book_at 0 d.tallies) xs no_stops) (sym shards)
           (subst (λ (bs : List Book). AddsUp (book_at 0 bs) (map (fresh d.rules statics now) (range_with_len 0 d.rules.shards)) no_stops) (sym tallies)
           (fresh_sum d.rules statics now (range_with_len 0 d.rules.shards) (subst (λ (xs : List (ShardView ShardState Entry)). live_terms xs ≡ begun_in xs) shards counts))));
-      counts = subst (λ (x : Drops). Within (drops_most * all_turns d) x) (sym drops) (record { malformed = omega arith; no_session = omega arith; not_open = omega arith; expired = omega arith; spoofed = omega arith; too_big = omega arith; exceeded = omega arith; link_failed = omega arith; want_of_memory = omega arith });
+      counts = subst (λ (x : Drops). Within (drops_most * all_turns d) x) (sym drops) (within_none (drops_most * all_turns d));
       kept = staying.items;
       stays = staying.stays;
       while_serving = λ _. subst (λ (is : List Item). All IsAsked is) (sym kept) (λ k e l. absurd (omega arith));

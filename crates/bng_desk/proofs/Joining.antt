@@ -42,16 +42,13 @@ use Rattle.bng_desk.specs.Items.{entries_in, loose_in, all_loose, stands_in, wit
 use Rattle.bng_desk.specs.Round.{Round, AreClaimed, AreParts, StandsWithin, views_of, IsReturned, held_by, entries_of, of_seat, is_failed, with_failed, fates_in, handled_states, news_in, sends_stretch, starts_of, stops_of, terms_in}
 use Rattle.bng_desk.specs.Taking.{Accounts, BeginsAll, BegunTo, BooksStarts, BooksStops, HasAllowance, HasFewSessions, AreDealt, Deals, Falls, IsTurning, AllTurn, OwesNone, ReapedTo, ReportsAll, SendsAll, SentTo, ReapsAll, RoundHeld, Shown, Sight, states_of}
 use Rattle.bng_desk.proofs.Dealing.{Seens}
-use Rattle.bng_desk.proofs.DropLaws.{same}
+use Rattle.bng_desk.proofs.DropLaws.{plus_plus}
 use Rattle.bng_desk.proofs.Growing.{states_handled}
 use Rattle.bng_desk.proofs.Owed.{reports_left}
 use Rattle.bng_desk.proofs.Readying.{Shards, all_onward}
 use Rattle.bng_desk.proofs.Settles.{as_seen}
 use Rattle.bng_desk.proofs.Returning.{gives_back}
 use Rattle.bng_desk.proofs.Zips.{zip_at, zip_length}
-
-pub plus_assoc : (a b c : Drops) → plus (plus a b) c ≡ plus a (plus b c)
-plus_assoc a b c = same _ _ (omega arith) (omega arith) (omega arith) (omega arith) (omega arith) (omega arith) (omega arith) (omega arith) (omega arith)
 
 -- Sums that are low -----------------------------------------------------------------------------------------------------
 
@@ -343,7 +340,7 @@ module _ (r : Rules) (pool mid pool' : PlainView) (a b c : Accounts) (named : Na
             ∙ ap (λ (x : Drops). plus x (with_failed failed)) deals.drops_are
             ∙ ap (λ (fs : List Fate). plus (plus d (drops_of (first ++ fs))) (with_failed failed)) (sym k.fates)
             ∙ ap (λ (ys : List Loose). plus (plus d (drops_of (map (λ (l : Loose). l.fate) ys ++ flat_map fates_by xs))) (with_failed failed)) ls
-            ∙ plus_assoc d (drops_of (fates_in (items ∷ []) round)) (with_failed failed);
+            ∙ plus_plus d (drops_of (fates_in (items ∷ []) round)) (with_failed failed);
         told = subst (λ (os : List OutRecord). ExtendsPlant p p' (sends_stretch os)) seen.sends s.told;
         record_told = is
             ∙ ap (λ (zs : List ℕ). told_of named zs journals loose outs) (allowances_kept ∙ sym allowed)

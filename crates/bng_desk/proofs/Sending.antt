@@ -4,6 +4,7 @@ use Rattle.std.specs.List.{AllByRecursion, count_by, sum_by}
 use Rattle.std.proofs.lemmas.List.{length-map, map-append}
 use Rattle.std.proofs.lemmas.List.Sums.{sum_by-le-sum_by, sum_by_push, sum_by-append, sum_by-cons}
 use Rattle.bng_base.specs.declared.book.Book.{Book}
+use Rattle.bng_base.specs.declared.fate.DropCause.TheVariants.{LinkFailed}
 use Rattle.bng_base.specs.declared.item.Charge.{Charge}
 use Rattle.bng_base.specs.declared.item.Entry.{Entry}
 use Rattle.bng_base.specs.declared.item.OutRecord.{OutRecord}
@@ -38,7 +39,7 @@ use Rattle.bng_desk.specs.Counting.{plus, Within}
 use Rattle.bng_desk.specs.Reading.{sending}
 use Rattle.bng_desk.specs.Round.{is_failed, with_failed, not_sent, sends_stretch}
 use Rattle.bng_desk.specs.Taking.{is_lost, lost_part, IsEmpty, IsLight, IsTurning, Turns, Covers, Falls, Sends}
-use Rattle.bng_desk.proofs.DropLaws.{same}
+use Rattle.bng_desk.proofs.DropLaws.{more_of_cause, most_of_cause, none_of_cause, plus_none, plus_plus, within_plus}
 use Rattle.bng_desk.proofs.Going.{count_pushed}
 
 -- some of its outs were sent, and these are left
@@ -57,24 +58,14 @@ pub record SendsSome (v w : ShardView ShardState Entry) (old new : PlantTold) (o
 -- Drops -----------------------------------------------------------------------------------------------------------------
 
 pub failed_none : (d : Drops) → d ≡ plus d (with_failed 0)
-failed_none d = same _ _ (omega arith) (omega arith) (omega arith) (omega arith) (omega arith) (omega arith) (omega arith) (omega arith) (omega arith)
+failed_none d = sym (ap (plus d) (none_of_cause LinkFailed) ∙ plus_none d)
 
 pub failed_more : (d : Drops) (a b : ℕ) → plus (plus d (with_failed a)) (with_failed b) ≡ plus d (with_failed (a + b))
-failed_more d a b = same _ _ (omega arith) (omega arith) (omega arith) (omega arith) (omega arith) (omega arith) (omega arith) (omega arith) (omega arith)
+failed_more d a b = plus_plus d (with_failed a) (with_failed b) ∙ ap (plus d) (more_of_cause LinkFailed a b)
 
 -- each out more raises one count by at most one
 pub failed_within : (m n k : ℕ) (d e : Drops) → m + n ≤ k → Within m d → e ≡ plus d (with_failed n) → Within k e
-failed_within m n k d e le w is = subst (λ (x : Drops). Within k x) (sym is) (record {
-  malformed = omega (arith, w.malformed);
-  no_session = omega (arith, w.no_session);
-  not_open = omega (arith, w.not_open);
-  expired = omega (arith, w.expired);
-  spoofed = omega (arith, w.spoofed);
-  too_big = omega (arith, w.too_big);
-  exceeded = omega (arith, w.exceeded);
-  link_failed = omega (arith, w.link_failed);
-  want_of_memory = omega (arith, w.want_of_memory);
-})
+failed_within m n k d e le w is = within_plus m n k d e (with_failed n) le (most_of_cause LinkFailed n) w is
 
 lost_is : (charge : Option Charge) (sent : Bool) (o : OutRecord) → o.charge ≡ charge → o.sent ≡ sent → is_lost (charged_as charge) sent ≡ is_failed o
 lost_is None sent o e f = sym (ap (λ (x : Option Charge). is_some x && not o.sent) e)

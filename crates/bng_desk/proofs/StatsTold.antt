@@ -7,7 +7,6 @@ use Rattle.bng_steps.specs.declared.sums.Traffic.{Traffic}
 use Rattle.bng_steps.specs.Sums.{IsLow}
 use Rattle.bng_desk.specs.declared.accounts.Stopped.{Stopped}
 use Rattle.bng_desk.specs.declared.settlement.Works.{Works}
-use Rattle.bng_desk.specs.Counting.{by_number}
 use Rattle.bng_desk.specs.Kept.{octets_most, rested}
 use Rattle.bng_desk.specs.Model.{Desk, live_of, plus_book, traffic_by, traffic_under}
 use Rattle.bng_desk.specs.Report.{MayTell, report_text, stats_by, stats_text}
@@ -23,7 +22,7 @@ stats_seen d w =
     let vs = w.shards.items in
     let ps = d.rules.profiles in
     let s = w.accounts.stopped.carried in
-    let text = λ (live : Book) (under : List Traffic). report_text s live (plus_book s live) (traffic_by w.tally ∷ []) ps under [] [] (by_number w.drops) in
+    let text = λ (live : Book) (under : List Traffic). report_text s live (plus_book s live) (traffic_by w.tally ∷ []) ps under [] [] w.drops.counts in
     ap (λ (b : Book). text b (map (traffic_under vs) (range_with_len 0 (length ps)))) (sym (live_rested vs)) ∙ ap (λ (ts : List Traffic). text (live_of (map rested vs)) ts) (all_under_rested vs (range_with_len 0 (length ps)))
 
 pub may_tell : (r : Rules) (vs : Shards) (stopped : Stopped) (tally : Book) (turns : ℕ) → length r.profiles ≤ 16 → length vs ≤ 64 → All (WorksBy r) vs → AddsUp tally vs stopped → turns ≤ 2 ^ 41 → IsLow (octets_most * turns) tally → MayTell vs stopped r.profiles

@@ -25,7 +25,6 @@ use Rattle.bng_desk.specs.declared.desk.DeskState.TheVariants.{Serving, Ending, 
 use Rattle.bng_desk.specs.declared.drops.Drops.{Drops}
 use Rattle.bng_desk.specs.declared.line.Line.{Line}
 use Rattle.bng_desk.specs.declared.sums.Sums.{Sums}
-use Rattle.bng_desk.specs.Counting.{by_number}
 use Rattle.bng_desk.specs.Reading.{is_empty}
 
 -- By what it serves, the provisioned circuits in the order of the configuration, what the Stops of all terms say that were formed so far,
@@ -185,7 +184,7 @@ sums_of d = record {
   total = plus_book d.stopped_book (live_of d.shards);
   terms = begun_in d.shards;
   stops = d.stops;
-  drops = by_number d.drops;
+  drops = d.drops.counts;
 }
 
 abbrev pub all_carried : Desk → List Traffic

@@ -12,30 +12,13 @@ use Rattle.bng_engine.specs.Quantities.{Quantity, in_book}
 use Rattle.bng_engine.specs.Views.{ShardView}
 use Rattle.bng_schema.specs.Address.{address_text}
 use Rattle.bng_base.specs.declared.fate.DropCause.{DropCause}
-use Rattle.bng_base.specs.declared.fate.DropCause.TheVariants.{Malformed, NoSession, NotOpen, Expired, Spoofed, TooBig, Exceeded, LinkFailed, WantOfMemory}
 use Rattle.bng_steps.specs.Protocol.{ShardState}
 use Rattle.bng_desk.specs.declared.accounts.Stopped.{Stopped}
 use Rattle.bng_desk.specs.declared.drops.Drops.{Drops}
 use Rattle.bng_desk.specs.declared.line.Line.{Line}
-use Rattle.bng_desk.specs.Counting.{by_number}
+use Rattle.bng_desk.specs.Causes.{causes}
 use Rattle.bng_desk.specs.Model.{Desk, by_profile, live_of, plus_book, sums_of, traffic_by, traffic_under}
 use Rattle.bng_steps.specs.declared.sums.Traffic.{Traffic}
-
--- the causes, by number
-abbrev pub causes : List DropCause
-causes =
-    Malformed ∷ NoSession ∷ NotOpen ∷ Expired ∷ Spoofed ∷ TooBig ∷ Exceeded ∷ LinkFailed ∷ WantOfMemory ∷ []
-
-abbrev pub cause_name : DropCause → List ℕ
-cause_name Malformed = codes "Malformed"
-cause_name NoSession = codes "NoSession"
-cause_name NotOpen = codes "NotOpen"
-cause_name Expired = codes "Expired"
-cause_name Spoofed = codes "Spoofed"
-cause_name TooBig = codes "TooBig"
-cause_name Exceeded = codes "Exceeded"
-cause_name LinkFailed = codes "LinkFailed"
-cause_name WantOfMemory = codes "WantOfMemory"
 
 -- octets in and out, and the end of the line
 abbrev pub quantities : ℕ → ℕ → List ℕ
@@ -74,14 +57,15 @@ static_lines [] traffic = []
 static_lines (s ∷ ss) [] = []
 static_lines (s ∷ ss) (t ∷ ts) = static_line s.address t ++ static_lines ss ts
 
-abbrev pub drop_line : DropCause → ℕ → List ℕ
-drop_line cause items = codes "drop " ++ cause_name cause ++ codes " " ++ decimal items ++ codes "\n"
+-- the items dropped by the cause of this name
+abbrev pub drop_line : List ℕ → ℕ → List ℕ
+drop_line name items = codes "drop " ++ name ++ codes " " ++ decimal items ++ codes "\n"
 
 -- a line for each cause with its number of items
-abbrev pub drop_lines : List DropCause → List ℕ → List ℕ
+abbrev pub drop_lines : List (DropCause × List ℕ) → List ℕ → List ℕ
 drop_lines _ [] = []
 drop_lines [] (items ∷ others) = []
-drop_lines (cause ∷ more) (items ∷ others) = drop_line cause items ++ drop_lines more others
+drop_lines (cause ∷ more) (items ∷ others) = drop_line cause.1 items ++ drop_lines more others
 
 -- of what the Stops say, what the terms carried that have no Stop yet, and both together the octets; each worker, each profile, each
 -- circuit, and what was dropped by each cause
@@ -98,7 +82,7 @@ report_text stopped live total workers profiles under circuits traffic drops =
 -- the report without its lines of circuits: of these shards, what the Stops say, what the one worker passed, and what was dropped
 abbrev pub stats_by : List (ShardView ShardState Entry) → Stopped → Book → Drops → List Profile → List ℕ
 stats_by shards stopped tally drops profiles =
-    report_text stopped.carried (live_of shards) (plus_book stopped.carried (live_of shards)) (traffic_by tally ∷ []) profiles (map (traffic_under shards) (range_with_len 0 (length profiles))) [] [] (by_number drops)
+    report_text stopped.carried (live_of shards) (plus_book stopped.carried (live_of shards)) (traffic_by tally ∷ []) profiles (map (traffic_under shards) (range_with_len 0 (length profiles))) [] [] drops.counts
 
 -- each shard has a book for each of these profiles, of which there are 16 at most, and no sum wraps
 pub record MayTell (shards : List (ShardView ShardState Entry)) (stopped : Stopped) (profiles : List Profile) : Type 0 where

@@ -3,6 +3,7 @@ use Rattle.std.specs.Prelude.{◌≡◌, ℕ, ◌+◌, ◌<◌, ◌==◌, Bool, 
 use Rattle.std.specs.List.{All, AllZip, Contains, flat_map, list_any}
 use Rattle.bng_base.specs.declared.address.Ip4.{Ip4}
 use Rattle.bng_base.specs.declared.book.Book.{Book}
+use Rattle.bng_base.specs.declared.fate.DropCause.TheVariants.{LinkFailed, WantOfMemory}
 use Rattle.bng_base.specs.declared.fate.Fate.{Fate}
 use Rattle.bng_base.specs.declared.item.Entry.{Entry}
 use Rattle.bng_base.specs.declared.item.Item.{Item}
@@ -25,8 +26,7 @@ use Rattle.bng_steps.specs.declared.whose.Whose.TheVariants.{Loose as IsLoose, S
 use Rattle.bng_steps.specs.Protocol.{ShardState, Handled, pppoe}
 use Rattle.bng_steps.specs.Tenures.{Tenure}
 use Rattle.bng_steps.specs.Whose.{IsWhose}
-use Rattle.bng_desk.specs.declared.drops.Drops.{Drops}
-use Rattle.bng_desk.specs.Counting.{no_drops, drops_of, plus}
+use Rattle.bng_desk.specs.Counting.{Amounts, both, drops_of, of_cause}
 use Rattle.bng_desk.specs.Items.{entries_in, all_loose, is_from_outside, without_claim}
 
 -- Whose each item of each seat's list was; each shard as the engine sees it once the round is settled: with what its entries did, what
@@ -165,12 +165,12 @@ fates_in lists round = map (λ l. l.fate) (all_loose 0 lists round.whose) ++ fla
 abbrev pub is_failed : OutRecord → Bool
 is_failed o = is_some o.charge && not o.sent
 
-abbrev pub with_failed : ℕ → Drops
-with_failed n = record no_drops { link_failed = n }
+abbrev pub with_failed : ℕ → Amounts
+with_failed n = of_cause LinkFailed n
 
 -- what a round drops: by the fates, and the packets whose own send failed
-abbrev pub drops_in : List (List Item) → Round → Drops
-drops_in lists round = plus (drops_of (fates_in lists round)) (with_failed (count_by is_failed (all_sends round.shards)))
+abbrev pub drops_in : List (List Item) → Round → Amounts
+drops_in lists round = both (drops_of (fates_in lists round)) (with_failed (count_by is_failed (all_sends round.shards)))
 
 -- a send that the plant did not take
 abbrev pub not_sent : OutRecord → Bool
@@ -209,5 +209,5 @@ refused_record number moment wall shards items = record {
   refused = refused_of items;
 }
 
-abbrev pub with_refused : ℕ → Drops
-with_refused n = record no_drops { want_of_memory = n }
+abbrev pub with_refused : ℕ → Amounts
+with_refused n = of_cause WantOfMemory n

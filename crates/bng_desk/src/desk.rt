@@ -293,7 +293,7 @@ impl Desk {
             total: plus_book(stopped.carried, live),
             terms: begun_in(shards),
             stops: stopped.stops,
-            drops: self.works.drops.by_number(),
+            drops: self.works.drops.counts,
         }
     }
 

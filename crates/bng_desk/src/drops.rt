@@ -1,34 +1,44 @@
-ghost use Rattle.std.specs.Prelude.{◌≡◌, ◌≤◌, ◌^◌};
-ghost use Rattle.bng_desk.specs.Counting.{by_number, with_fate, plus, Within};
+ghost use Rattle.std.specs.Prelude.{◌≡◌, ◌≤◌, ◌<◌, ◌^◌, length};
+ghost use Rattle.bng_desk.specs.Causes.{name_at};
+ghost use Rattle.bng_desk.specs.Counting.{plus, with_fate, Within};
 ghost use Rattle.bng_desk.specs.Round.{with_refused};
 
 use bng_base::{DropCause, Fate};
 
-/// How many items were dropped, by cause.
+/// The names of the causes of drops, by number. The report tells them in this order.
+const NAMES: [&str; CAUSES] = [
+    "Malformed",
+    "NoSession",
+    "NotOpen",
+    "Expired",
+    "Spoofed",
+    "TooBig",
+    "Exceeded",
+    "LinkFailed",
+    "WantOfMemory",
+];
+
+/// How many causes there are.
+pub const CAUSES: usize = 9;
+
+/// The name of the cause with this number.
+pub(crate) fn name_of(number: usize) -> &'static str
+    requires { number < CAUSES }
+    ensures name { result.now ≡ name_at number }
+    ensures short { length result.now ≤ 20 }
+{
+    NAMES[number]
+}
+
+/// How many items were dropped, by the number of the cause.
 #[derive(Clone, Copy)]
 pub struct Drops {
-    pub malformed: u64,
-    pub no_session: u64,
-    pub not_open: u64,
-    pub expired: u64,
-    pub spoofed: u64,
-    pub too_big: u64,
-    pub exceeded: u64,
-    pub link_failed: u64,
-    pub want_of_memory: u64,
+    pub counts: [u64; CAUSES],
 }
 
 /// No item was dropped yet.
 pub(crate) const NO_DROPS: Drops = Drops {
-    malformed: 0,
-    no_session: 0,
-    not_open: 0,
-    expired: 0,
-    spoofed: 0,
-    too_big: 0,
-    exceeded: 0,
-    link_failed: 0,
-    want_of_memory: 0,
+    counts: [0; CAUSES],
 };
 
 /// Counts an item with this fate.
@@ -36,19 +46,8 @@ pub(crate) fn count(drops: &mut Drops, fate: Fate)
     requires { Within (2 ^ 63) drops.old }
     ensures { drops.new ≡ with_fate drops.old fate }
 {
-    let Fate::Dropped(cause) = fate else {
-        return;
-    };
-    match cause {
-        DropCause::Malformed => drops.malformed += 1,
-        DropCause::NoSession => drops.no_session += 1,
-        DropCause::NotOpen => drops.not_open += 1,
-        DropCause::Expired => drops.expired += 1,
-        DropCause::Spoofed => drops.spoofed += 1,
-        DropCause::TooBig => drops.too_big += 1,
-        DropCause::Exceeded => drops.exceeded += 1,
-        DropCause::LinkFailed => drops.link_failed += 1,
-        DropCause::WantOfMemory => drops.want_of_memory += 1,
+    if let Fate::Dropped(cause) = fate {
+        drops.counts[cause.number()] += 1;
     }
 }
 
@@ -58,35 +57,5 @@ pub(crate) fn count_refused(drops: &mut Drops, items: usize)
     requires few { items ≤ 2 ^ 62 }
     ensures { drops.new ≡ plus drops.old (with_refused items) }
 {
-    drops.want_of_memory += items as u64;
-}
-
-impl Drops {
-    /// The counts, by the number of the cause.
-    pub(crate) fn by_number(&self) -> [u64; 9]
-        ensures { result ≡ by_number self.now }
-    {
-        let Drops {
-            malformed,
-            no_session,
-            not_open,
-            expired,
-            spoofed,
-            too_big,
-            exceeded,
-            link_failed,
-            want_of_memory,
-        } = *self;
-        [
-            malformed,
-            no_session,
-            not_open,
-            expired,
-            spoofed,
-            too_big,
-            exceeded,
-            link_failed,
-            want_of_memory,
-        ]
-    }
+    drops.counts[DropCause::WantOfMemory.number()] += items as u64;
 }

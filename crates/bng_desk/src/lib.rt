@@ -42,7 +42,7 @@ mod turns;
 mod unanswered;
 
 pub use crate::desk::{Desk, DeskError, DeskState, Turned};
-pub use crate::drops::Drops;
+pub use crate::drops::{CAUSES, Drops};
 pub use crate::laws::rounds_are_traced;
 pub use crate::line::Line;
 pub use crate::reading::Ended;

@@ -1,29 +1,18 @@
-ghost use Rattle.std.specs.Prelude.{◌≡◌, ◌≤◌, ◌++◌, codes, IfOk, OnOk, length, map, string_bytes};
+ghost use Rattle.std.specs.Prelude.{◌≡◌, ◌<◌, ◌≤◌, ◌++◌, codes, IfOk, OnOk, length, map, string_bytes};
 ghost use Rattle.std.specs.List.{All, range_with_len};
 ghost use Rattle.bng_schema.specs.Address.{address_text};
+ghost use Rattle.bng_desk.specs.Causes.{causes, name_at};
 ghost use Rattle.bng_desk.specs.Model.{traffic_by, traffic_under};
-ghost use Rattle.bng_desk.specs.Report.{report_text, traffic_line, worker_line, worker_lines, profile_line, profile_lines, static_line, static_lines, drop_line, drop_lines, causes, quantities, cause_name};
+ghost use Rattle.bng_desk.specs.Report.{report_text, traffic_line, worker_line, worker_lines, profile_line, profile_lines, static_line, static_lines, drop_line, drop_lines, quantities};
 
+use crate::drops::{CAUSES, name_of};
 use crate::line::Line;
 use crate::sums::{Sums, sent_under};
 use arrayvec::ArrayVec;
-use bng_base::{Book, DropCause, Ip4, Profile};
+use bng_base::{Book, Ip4, Profile};
 use bng_shard::Shard;
 use bng_steps::Traffic;
 use std::alloc::{AllocError, Global};
-
-/// The causes, by number.
-pub(crate) const CAUSES: [DropCause; 9] = [
-    DropCause::Malformed,
-    DropCause::NoSession,
-    DropCause::NotOpen,
-    DropCause::Expired,
-    DropCause::Spoofed,
-    DropCause::TooBig,
-    DropCause::Exceeded,
-    DropCause::LinkFailed,
-    DropCause::WantOfMemory,
-];
 
 /// The report: the octets that the Stops say, those that the terms carried that have no Stop yet, and both together; a line for each
 /// worker, from 0, for each profile, with what was sent under it as the books of the shards say, and for each circuit; and the items
@@ -157,11 +146,11 @@ fn push_static_line(text: &mut String, address: Ip4, carried: Traffic) -> Result
     push_quantities(text, u128::from(carried.input), u128::from(carried.output))
 }
 
-fn push_drop_lines(text: &mut String, drops: &[u64; 9]) -> Result<(), AllocError>
+fn push_drop_lines(text: &mut String, drops: &[u64; CAUSES]) -> Result<(), AllocError>
     ensures { OnOk result (string_bytes text.new ≡ string_bytes text.old ++ drop_lines causes drops.now) }
 {
     for (number, items) in drops.iter().enumerate() {
-        push_drop_line(text, CAUSES[number], *items)?;
+        push_drop_line(text, number, *items)?;
     }
     Ok(())
 }
@@ -187,26 +176,10 @@ pub(crate) fn push_address(text: &mut String, address: Ip4) -> Result<(), AllocE
     write!(text, "{first}.{second}.{third}.{fourth}")
 }
 
-fn push_drop_line(text: &mut String, cause: DropCause, items: u64) -> Result<(), AllocError>
-    ensures { OnOk result (string_bytes text.new ≡ string_bytes text.old ++ drop_line cause items) }
+fn push_drop_line(text: &mut String, number: usize, items: u64) -> Result<(), AllocError>
+    requires { number < CAUSES }
+    ensures { OnOk result (string_bytes text.new ≡ string_bytes text.old ++ drop_line (name_at number) items) }
 {
-    let name = name_of(cause);
+    let name = name_of(number);
     write!(text, "drop {name} {items}\n")
-}
-
-/// The name of a cause.
-pub(crate) fn name_of(cause: DropCause) -> &'static str
-    ensures { result.now ≡ cause_name cause }
-{
-    match cause {
-        DropCause::Malformed => "Malformed",
-        DropCause::NoSession => "NoSession",
-        DropCause::NotOpen => "NotOpen",
-        DropCause::Expired => "Expired",
-        DropCause::Spoofed => "Spoofed",
-        DropCause::TooBig => "TooBig",
-        DropCause::Exceeded => "Exceeded",
-        DropCause::LinkFailed => "LinkFailed",
-        DropCause::WantOfMemory => "WantOfMemory",
-    }
 }

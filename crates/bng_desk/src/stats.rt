@@ -1,17 +1,18 @@
 //! What Control is told where it asks for `stats`: the report without its lines of circuits. It is written into a frame, and takes no
 //! memory.
-ghost use Rattle.std.specs.Prelude.{◌≡◌, ◌+◌, ◌≤◌, ◌++◌, ◌∷◌, [], length, map};
+ghost use Rattle.std.specs.Prelude.{◌≡◌, ◌+◌, ◌*◌, ◌<◌, ◌≤◌, ◌++◌, ◌∷◌, [], length, map};
 ghost use Rattle.std.specs.Fmt.{decimal};
 ghost use Rattle.std.specs.List.{All, range_with_len};
+ghost use Rattle.bng_desk.specs.Causes.{causes, name_at};
 ghost use Rattle.bng_desk.specs.Model.{traffic_under};
-ghost use Rattle.bng_desk.specs.Report.{MayTell, causes, drop_line, drop_lines, profile_line, profile_lines, quantities, stats_by, traffic_line, worker_lines};
+ghost use Rattle.bng_desk.specs.Report.{MayTell, drop_line, drop_lines, profile_line, profile_lines, quantities, stats_by, traffic_line, worker_lines};
 
 use crate::accounts::Accounts;
-use crate::drops::Drops;
-use crate::report::{CAUSES, name_of, octets_of};
+use crate::drops::{CAUSES, Drops, name_of};
+use crate::report::octets_of;
 use crate::sums::{live, plus_book, sent_under};
 use arrayvec::ArrayVec;
-use bng_base::{Book, DropCause, Frame, Profile};
+use bng_base::{Book, Frame, Profile};
 use bng_shard::Shard;
 use bng_steps::Traffic;
 use itoa::Buffer;
@@ -102,28 +103,29 @@ fn put_profiles(text: &mut Frame, profiles: &[Profile], shards: &[Shard])
     }
 }
 
-// Appends the line of a cause with its number of items.
-fn put_drop(text: &mut Frame, cause: DropCause, items: u64)
-    requires room { text.old.headroom + length text.old.payload + 60 ≤ 4160 }
-    ensures text { text.new.payload ≡ text.old.payload ++ drop_line cause items }
-    ensures few { length text.new.payload ≤ length text.old.payload + 60 }
+// Appends the line of the cause with this number, and its items.
+fn put_drop(text: &mut Frame, number: usize, items: u64)
+    requires number { number < CAUSES }
+    requires room { text.old.headroom + length text.old.payload + 70 ≤ 4160 }
+    ensures text { text.new.payload ≡ text.old.payload ++ drop_line (name_at number) items }
+    ensures few { length text.new.payload ≤ length text.old.payload + 70 }
     ensures headroom { text.new.headroom ≡ text.old.headroom }
 {
     text.put_back(b"drop ");
-    text.put_back(name_of(cause).as_bytes());
+    text.put_back(name_of(number).as_bytes());
     text.put_back(b" ");
     put_number(text, u128::from(items));
     text.put_back(b"\n");
 }
 
 // Appends a line for each cause.
-fn put_drops(text: &mut Frame, drops: &[u64; 9])
-    requires room { text.old.headroom + length text.old.payload + 540 ≤ 4160 }
+fn put_drops(text: &mut Frame, drops: &[u64; CAUSES])
+    requires room { text.old.headroom + length text.old.payload + 70 * CAUSES ≤ 4160 }
     ensures text { text.new.payload ≡ text.old.payload ++ drop_lines causes drops.now }
     ensures headroom { text.new.headroom ≡ text.old.headroom }
 {
     for (number, items) in drops.iter().enumerate() {
-        put_drop(text, CAUSES[number], *items);
+        put_drop(text, number, *items);
     }
 }
 
@@ -141,5 +143,5 @@ pub(crate) fn put_stats(text: &mut Frame, counted: &Counted<'_>)
     put_traffic(text, b"total", octets_of(total));
     put_worker(text, octets_of(counted.tally));
     put_profiles(text, counted.profiles, counted.shards);
-    put_drops(text, &counted.drops.by_number());
+    put_drops(text, &counted.drops.counts);
 }

@@ -6,6 +6,7 @@ ghost use Rattle.bng_desk.specs.Model.{begun_in, sessions_in, carried_on, live_o
 ghost use Rattle.bng_desk.specs.Taking.{CarriesWithin, LinesWithin, far};
 ghost use Rattle.bng_steps.specs.Protocol.{row_at};
 
+use crate::drops::CAUSES;
 use crate::line::Line;
 use bng_base::{Book, Ip4, SessionNo};
 use bng_shard::Shard;
@@ -58,9 +59,8 @@ pub struct Sums {
     pub terms: u64,
     /// The Stops that were formed, whether or not the server of accounting has acknowledged them.
     pub stops: u64,
-    /// The items that were dropped, by the number of the cause: Malformed, NoSession, NotOpen, Expired, Spoofed, TooBig, Exceeded,
-    /// LinkFailed, WantOfMemory.
-    pub drops: [u64; 9],
+    /// The items that were dropped, by the number of the cause.
+    pub drops: [u64; CAUSES],
 }
 
 /// One book and the other together.

@@ -1,27 +1,23 @@
 -- The drops of a run are those of its rounds.
-use Rattle.std.proofs.Common.{◌≡◌, List, [], ◌∷◌, ◌++◌, map, Option, Some, None, refl, sym, ap, ◌∙◌, arith}
+use Rattle.std.proofs.Common.{◌≡◌, ℕ, ◌+◌, List, [], ◌∷◌, ◌++◌, map, Option, Some, None, refl, sym, ap, ◌∙◌, arith}
+use Rattle.std.proofs.Math.Path.{fun_ext}
+use Rattle.bng_base.specs.declared.fate.DropCause.{DropCause}
 use Rattle.bng_base.specs.declared.item.Item.{Item}
 use Rattle.bng_desk.specs.declared.drops.Drops.{Drops}
-use Rattle.bng_desk.specs.Counting.{no_drops, plus}
+use Rattle.bng_desk.specs.Counting.{Amounts, both, by_number, no_drops, plus}
 use Rattle.bng_desk.specs.Model.{Desk}
 use Rattle.bng_desk.specs.Round.{Round}
 use Rattle.bng_desk.specs.Turn.{Turn, Step, after_round, items_of, ending_items}
-use Rattle.bng_desk.proofs.DropLaws.{same}
+use Rattle.bng_desk.proofs.DropLaws.{plus_none, plus_plus, from_none}
 use Rattle.bng_gate.specs.Rounds.{round_drops, drops_made, drops_ended, all_drops, drops_of_run}
 use Rattle.bng_gate.specs.Serving.{Made, MadeEnd, Late, Ends, Waits, LateStep, Run, EndRun}
 
-plus_assoc : (a b c : Drops) → plus (plus a b) c ≡ plus a (plus b c)
-plus_assoc a b c = same _ _ (omega arith) (omega arith) (omega arith) (omega arith) (omega arith) (omega arith) (omega arith) (omega arith) (omega arith)
-
-plus_none : (a : Drops) → plus a no_drops ≡ a
-plus_none a = same _ _ (omega arith) (omega arith) (omega arith) (omega arith) (omega arith) (omega arith) (omega arith) (omega arith) (omega arith)
-
-none_plus : (a : Drops) → plus no_drops a ≡ a
-none_plus a = same _ _ (omega arith) (omega arith) (omega arith) (omega arith) (omega arith) (omega arith) (omega arith) (omega arith) (omega arith)
-
-all_append : (xs ys : List Drops) → plus (all_drops xs) (all_drops ys) ≡ all_drops (xs ++ ys)
-all_append [] ys = none_plus (all_drops ys)
-all_append (x ∷ xs) ys = plus_assoc x (all_drops xs) (all_drops ys) ∙ ap (plus x) (all_append xs ys)
+-- those of one list after another
+all_append : (xs ys : List Amounts) → both (all_drops xs) (all_drops ys) ≡ all_drops (xs ++ ys)
+all_append [] ys = refl
+all_append (x ∷ xs) ys =
+    let assoc : both (both x (all_drops xs)) (all_drops ys) ≡ both x (both (all_drops xs) (all_drops ys)) = fun_ext (λ (cause : DropCause). omega arith) in
+    assoc ∙ ap (both x) (all_append xs ys)
 
 -- what a round adds
 drops_after : (d : Desk) (items : List Item) (round : Option Round) → (after_round d items round).drops ≡ plus d.drops (round_drops items round)
@@ -43,8 +39,8 @@ run_drops d d' (m ∷ turns) run =
     let later = all_drops (map (λ (x : Made). drops_made x.desk x.turn) turns) in
     run_drops run.0 d' turns run.2
     ∙ ap (λ (x : Drops). plus x later) (step_drops d run.0 m.turn run.1.1)
-    ∙ plus_assoc d.drops (drops_made d m.turn) later
-    ∙ ap (λ (x : Desk). plus d.drops (plus (drops_made x m.turn) later)) (sym run.1.0)
+    ∙ plus_plus d.drops (drops_made d m.turn) later
+    ∙ ap (λ (x : Desk). plus d.drops (both (drops_made x m.turn) later)) (sym run.1.0)
 
 ending_drops : (d d' : Desk) (endings : List MadeEnd) → EndRun d endings d' → d'.drops ≡ plus d.drops (all_drops (map (λ m. drops_ended m.desk m.turn) endings))
 ending_drops d d' [] run = ap (λ (x : Desk). x.drops) run ∙ sym (plus_none d.drops)
@@ -52,14 +48,19 @@ ending_drops d d' (m ∷ endings) run =
     let later = all_drops (map (λ (x : MadeEnd). drops_ended x.desk x.turn) endings) in
     ending_drops run.0 d' endings run.2
     ∙ ap (λ (x : Drops). plus x later) (end_drops d run.0 m.turn run.1.1)
-    ∙ plus_assoc d.drops (drops_ended d m.turn) later
-    ∙ ap (λ (x : Desk). plus d.drops (plus (drops_ended x m.turn) later)) (sym run.1.0)
+    ∙ plus_plus d.drops (drops_ended d m.turn) later
+    ∙ ap (λ (x : Desk). plus d.drops (both (drops_ended x m.turn) later)) (sym run.1.0)
 
--- from a desk that has dropped nothing
-pub all_dropped : (d over last : Desk) (turns : List Made) (endings : List MadeEnd) → d.drops ≡ no_drops → Run d turns over → EndRun over endings last → last.drops ≡ drops_of_run turns endings
+-- from a desk that has dropped nothing, by the number of the cause
+pub all_dropped : (d over last : Desk) (turns : List Made) (endings : List MadeEnd) → d.drops ≡ no_drops → Run d turns over → EndRun over endings last
+    → last.drops.counts ≡ by_number (drops_of_run turns endings)
 all_dropped d over last turns endings none run ending =
-    let serving = map (λ (m : Made). drops_made m.desk m.turn) turns in
-    let after = map (λ (m : MadeEnd). drops_ended m.desk m.turn) endings in
+    let serving = all_drops (map (λ (m : Made). drops_made m.desk m.turn) turns) in
+    let after = all_drops (map (λ (m : MadeEnd). drops_ended m.desk m.turn) endings) in
+    let both_are : last.drops ≡ plus no_drops (both serving after) =
     ending_drops over last endings ending
-    ∙ ap (λ (x : Drops). plus x (all_drops after)) (run_drops d over turns run ∙ ap (λ (x : Drops). plus x (all_drops serving)) none ∙ none_plus (all_drops serving))
-    ∙ all_append serving after
+    ∙ ap (λ (x : Drops). plus x after) (run_drops d over turns run ∙ ap (λ (x : Drops). plus x serving) none)
+    ∙ plus_plus no_drops serving after in
+    ap (λ (x : Drops). x.counts) both_are
+    ∙ from_none (both serving after)
+    ∙ ap by_number (all_append (map (λ (m : Made). drops_made m.desk m.turn) turns) (map (λ (m : MadeEnd). drops_ended m.desk m.turn) endings))

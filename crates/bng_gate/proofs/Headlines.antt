@@ -31,7 +31,6 @@ use Rattle.bng_steps.specs.declared.sums.Traffic.{Traffic}
 use Rattle.bng_steps.specs.Protocol.{ShardState, Handled, pppoe}
 use Rattle.bng_steps.proofs.StepLaws.{pppoe_laws}
 use Rattle.bng_desk.specs.declared.desk.DeskState.TheVariants.{Ended}
-use Rattle.bng_desk.specs.declared.drops.Drops.{Drops}
 use Rattle.bng_desk.specs.declared.line.Line.{Line}
 use Rattle.bng_desk.specs.Accounting.{FormedRecord}
 use Rattle.bng_desk.specs.Counting.{by_number}
@@ -193,7 +192,7 @@ module _ (config : Config) (rules : KeepsRules config) (most : ℕ) (seed : List
   sends : on_data sent ≡ on_data (went (sends_of rounds))
   sends = sent_are course.turns course.endings
 
-  drops : course.last.drops ≡ drops_of_run course.turns course.endings
+  drops : course.last.drops.counts ≡ by_number (drops_of_run course.turns course.endings)
   drops = all_dropped course.opening course.over course.last course.turns course.endings (ap (λ (d : Desk). d.drops) course.begins.is_opened.desk) course.run course.ending
 
   granted : Granted config seed course.turns course.endings
@@ -289,9 +288,6 @@ module _ (config : Config) (rules : KeepsRules config) (most : ℕ) (seed : List
         ∙ ap (λ (b : Book). let ts : List Traffic = traffic_by b ∷ [] in ts) total
 
     -- the report, by what the Stops say and what is live, of which the total is made
-    abbrev report_by : Book → Book → Book → List Traffic → List Profile → List Traffic → List Line → List Traffic → Drops → List ℕ
-    report_by stopped live total workers metered passed lines traffic drops = report_text stopped live total workers metered passed lines traffic (by_number drops)
-
     report : report_of course.last ≡ report_text (total_in sent) empty_book (total_in sent) (traffic_by (total_in sent) ∷ []) config.profiles (all_profile_traffic config rounds) (map line_of config.statics) (all_traffic config sent) (by_number (drops_of_run course.turns course.endings))
     report =
         let sum = total_in sent in
@@ -299,16 +295,16 @@ module _ (config : Config) (rules : KeepsRules config) (most : ℕ) (seed : List
         let d = course.last in
         let ps = config.profiles in
         let us = all_profile_traffic config rounds in
-        ap (λ (b : Book). report_by b (live_of d.shards) (plus_book b (live_of d.shards)) (map traffic_by d.tallies) d.rules.profiles (by_profile d) d.lines (all_carried d) d.drops) stopped_all_say
-        ∙ ap (λ (b : Book). report_by sum b (plus_book sum b) (map traffic_by d.tallies) d.rules.profiles (by_profile d) d.lines (all_carried d) d.drops) none_live
-        ∙ ap (λ (b : Book). report_by sum empty_book b (map traffic_by d.tallies) d.rules.profiles (by_profile d) d.lines (all_carried d) d.drops) (plus_none sum)
-        ∙ ap (λ (ws : List Traffic). report_by sum empty_book sum ws d.rules.profiles (by_profile d) d.lines (all_carried d) d.drops) workers
-        ∙ ap (λ (ts : List Traffic). report_by sum empty_book sum one d.rules.profiles ts d.lines (all_carried d) d.drops) under
-        ∙ ap (λ (xs : List Profile). report_by sum empty_book sum one xs us d.lines (all_carried d) d.drops) profiles
-        ∙ ap (λ (ls : List Line). report_by sum empty_book sum one ps us ls (map (carried_on d.shards) ls) d.drops) lines
-        ∙ ap (λ (ts : List Traffic). report_by sum empty_book sum one ps us (map (line_after (stops_of rounds)) (map line_of config.statics)) ts d.drops) (traffic_same sent (stops_of rounds) exact d.shards no_rows config.statics)
-        ∙ report_told sum empty_book sum one ps us (stops_of rounds) (map line_of config.statics) (all_traffic config sent) (by_number d.drops)
-        ∙ ap (λ (x : Drops). report_by sum empty_book sum one ps us (map line_of config.statics) (all_traffic config sent) x) drops
+        ap (λ (b : Book). report_text b (live_of d.shards) (plus_book b (live_of d.shards)) (map traffic_by d.tallies) d.rules.profiles (by_profile d) d.lines (all_carried d) d.drops.counts) stopped_all_say
+        ∙ ap (λ (b : Book). report_text sum b (plus_book sum b) (map traffic_by d.tallies) d.rules.profiles (by_profile d) d.lines (all_carried d) d.drops.counts) none_live
+        ∙ ap (λ (b : Book). report_text sum empty_book b (map traffic_by d.tallies) d.rules.profiles (by_profile d) d.lines (all_carried d) d.drops.counts) (plus_none sum)
+        ∙ ap (λ (ws : List Traffic). report_text sum empty_book sum ws d.rules.profiles (by_profile d) d.lines (all_carried d) d.drops.counts) workers
+        ∙ ap (λ (ts : List Traffic). report_text sum empty_book sum one d.rules.profiles ts d.lines (all_carried d) d.drops.counts) under
+        ∙ ap (λ (xs : List Profile). report_text sum empty_book sum one xs us d.lines (all_carried d) d.drops.counts) profiles
+        ∙ ap (λ (ls : List Line). report_text sum empty_book sum one ps us ls (map (carried_on d.shards) ls) d.drops.counts) lines
+        ∙ ap (λ (ts : List Traffic). report_text sum empty_book sum one ps us (map (line_after (stops_of rounds)) (map line_of config.statics)) ts d.drops.counts) (traffic_same sent (stops_of rounds) exact d.shards no_rows config.statics)
+        ∙ report_told sum empty_book sum one ps us (stops_of rounds) (map line_of config.statics) (all_traffic config sent) d.drops.counts
+        ∙ ap (λ (x : List ℕ). report_text sum empty_book sum one ps us (map line_of config.statics) (all_traffic config sent) x) drops
 
     responded : AreAnswered (coa_of config.coa).secret (coa_calls_of course.turns course.endings)
     responded = ended_answers config most seed course.begins.bound.now course.begins.bound.wall course.opening course.over course.last course.turns course.endings course.begins.is_opened course.run course.ending ended
@@ -338,10 +334,10 @@ module _ (config : Config) (rules : KeepsRules config) (most : ℕ) (seed : List
         let d = course.last in
         let terms = length (all_terms_of config rounds) in
         let stops = length (stops_of rounds) in
-        ap (λ (n : ℕ). exercise_text subscribers n (sums_of d).total (sums_of d).stops (sum (by_number d.drops))) (all_terms each)
-        ∙ ap (λ (b : Book). exercise_text subscribers terms b (sums_of d).stops (sum (by_number d.drops))) all_total
-        ∙ ap (λ (n : ℕ). exercise_text subscribers terms (total_in sent) n (sum (by_number d.drops))) all_stops
-        ∙ ap (λ (x : Drops). exercise_text subscribers terms (total_in sent) stops (sum (by_number x))) drops
+        ap (λ (n : ℕ). exercise_text subscribers n (sums_of d).total (sums_of d).stops (sum d.drops.counts)) (all_terms each)
+        ∙ ap (λ (b : Book). exercise_text subscribers terms b (sums_of d).stops (sum d.drops.counts)) all_total
+        ∙ ap (λ (n : ℕ). exercise_text subscribers terms (total_in sent) n (sum d.drops.counts)) all_stops
+        ∙ ap (λ (x : List ℕ). exercise_text subscribers terms (total_in sent) stops (sum x)) drops
 
     -- no Stop is open exactly where each was acknowledged
     answered : (unanswered_of course.last ≡ []) ↔ StopsAreAcknowledged (calls_in_run config most seed old new course)

@@ -13,8 +13,7 @@ use Rattle.bng_engine.specs.Views.{turn_in}
 use Rattle.bng_lane.specs.Sends.{LaneSend}
 use Rattle.bng_steps.specs.Protocol.{ShardState, Handled}
 use Rattle.bng_steps.specs.Reader.{is_tunnel}
-use Rattle.bng_desk.specs.declared.drops.Drops.{Drops}
-use Rattle.bng_desk.specs.Counting.{no_drops, plus}
+use Rattle.bng_desk.specs.Counting.{Amounts, both, no_items}
 use Rattle.bng_desk.specs.Model.{Desk}
 use Rattle.bng_desk.specs.Items.{DataReading}
 use Rattle.bng_desk.specs.Accounting.{record_sends}
@@ -175,25 +174,25 @@ is_lost s = not s.sent
 
 -- what a round drops: by the fates of its items and the packets whose own send failed, or all items of the outside, where it
 -- was not opened
-abbrev pub round_drops : List Item → Option Round → Drops
+abbrev pub round_drops : List Item → Option Round → Amounts
 round_drops items None = with_refused (length (refused_of items))
 round_drops items (Some round) = drops_in (items ∷ []) round
 
 -- a turn that wanted memory took nothing, and drops nothing; nor does one of the grace
-abbrev pub drops_made : Desk → Option Turn → Drops
-drops_made d None = no_drops
+abbrev pub drops_made : Desk → Option Turn → Amounts
+drops_made d None = no_items
 drops_made d (Some t) = round_drops (items_of d t) t.round
 
-abbrev pub drops_ended : Desk → Late → Drops
-drops_ended d (Ends None) = no_drops
+abbrev pub drops_ended : Desk → Late → Amounts
+drops_ended d (Ends None) = no_items
 drops_ended d (Ends (Some t)) = round_drops (ending_items d) t.round
-drops_ended d (Waits t) = no_drops
+drops_ended d (Waits t) = no_items
 
 -- cause by cause, the sums
-abbrev pub all_drops : List Drops → Drops
-all_drops [] = no_drops
-all_drops (d ∷ ds) = plus d (all_drops ds)
+abbrev pub all_drops : List Amounts → Amounts
+all_drops [] = no_items
+all_drops (d ∷ ds) = both d (all_drops ds)
 
 -- what the turns drop
-abbrev pub drops_of_run : List Made → List MadeEnd → Drops
+abbrev pub drops_of_run : List Made → List MadeEnd → Amounts
 drops_of_run turns endings = all_drops (map (λ m. drops_made m.desk m.turn) turns ++ map (λ m. drops_ended m.desk m.turn) endings)

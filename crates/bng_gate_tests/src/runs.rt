@@ -24,6 +24,7 @@ mod logins;
 mod metering;
 mod mru;
 mod refusals;
+mod reports;
 mod running;
 mod sent;
 mod sequence;

@@ -3,11 +3,11 @@ ghost use Rattle.std.specs.Prelude.{◌≡◌, ◌++◌, IfOk, OnOk, string_byte
 ghost use Rattle.bng_gate.specs.Exercise.{exercise_text, input_text, number_text, output_text, stops_text, terms_text};
 
 use bng_base::Book;
-use bng_desk::Sums;
+use bng_desk::{CAUSES, Sums};
 use std::alloc::{AllocError, Global};
 
 // How many items were dropped, by whatever cause.
-fn dropped(drops: &[u64; 9]) -> u128
+fn dropped(drops: &[u64; CAUSES]) -> u128
     ensures { result ≡ sum drops.now }
 {
     let mut sum: u128 = 0;

@@ -7,7 +7,8 @@ use super::concentrator::{
 };
 use super::host::{framed, request};
 use super::logins::{ANY as PPP_ANY, FROM_CORE, UP, records, response, run_in};
-use super::{Ended, assert_err, assert_out, assert_status, has, loopback};
+use super::reports::{Counted, assert_report};
+use super::{Ended, assert_err, assert_status, has, loopback};
 use crate::asserts::{assert_holds, assert_octets, assert_same};
 use bng_base::{Peer, Role};
 use bng_plant::Arrival;
@@ -288,11 +289,16 @@ fn a_subscriber_of_a_call_is_served_and_accounted_for(rt: HostRuntime) -> Result
     let ended = run_in(&rt, alloc, TUNNELS, visit(alloc)?, 1000)?;
     assert_err(&rt, &ended, b"");
     assert_status(&rt, &ended, 0);
-    assert_out(
+    assert_report(
         &rt,
+        alloc,
         &ended,
-        b"stopped in=160 out=28\nlive in=0 out=0\ntotal in=160 out=28\nworker 0 in=160 out=28\nprofile default in=160 out=28\ndrop Malformed 0\ndrop NoSession 0\ndrop NotOpen 0\ndrop Expired 0\ndrop Spoofed 0\ndrop TooBig 0\ndrop Exceeded 0\ndrop LinkFailed 0\ndrop WantOfMemory 0\n",
-    );
+        &Counted {
+            octets: "in=160 out=28",
+            lines: &["profile default in=160 out=28"],
+            drops: &[],
+        },
+    )?;
     sends_to_core(&rt, &ended, UP, 4);
     asks(&rt, alloc, &ended, CHAP_QUESTION)?;
     tells(&rt, alloc, &ended, TOLD)?;

@@ -1,7 +1,8 @@
 //! What a run has counted, while it serves and in the end.
 use super::forwarding::{FROM_CORE, PADDED, SPOOFED};
+use super::reports::{Counted, assert_report, stats};
 use super::running::{SERVE, run_over};
-use super::{Ended, PACKET, TWO_PORTS, a_turn_later, assert_out, frame_of, has_all, loopback};
+use super::{Ended, PACKET, TWO_PORTS, a_turn_later, frame_of, has_all, loopback};
 use crate::asserts::{assert_count, assert_octets};
 use bng_base::Role;
 use bng_plant::Arrival;
@@ -67,16 +68,29 @@ fn sums_count_octets_packets_terms_stops_and_drops(rt: HostRuntime) -> Result<()
     let alloc = rt.alloc();
     let script = packets(alloc)?;
     let ended = run_over(&rt, alloc, &SERVE, TWO_PORTS, script, &[], &[])?;
-    first_answer(
+    let told = stats(
+        alloc,
+        &Counted {
+            octets: "in=104 out=20",
+            lines: &["profile default in=104 out=20"],
+            drops: &[("Spoofed", 1)],
+        },
+    )?;
+    first_answer(&rt, &ended, told.as_bytes());
+    assert_report(
         &rt,
+        alloc,
         &ended,
-        b"stopped in=0 out=0\nlive in=104 out=20\ntotal in=104 out=20\nworker 0 in=104 out=20\nprofile default in=104 out=20\ndrop Malformed 0\ndrop NoSession 0\ndrop NotOpen 0\ndrop Expired 0\ndrop Spoofed 1\ndrop TooBig 0\ndrop Exceeded 0\ndrop LinkFailed 0\ndrop WantOfMemory 0\n",
-    );
-    assert_out(
-        &rt,
-        &ended,
-        b"stopped in=104 out=20\nlive in=0 out=0\ntotal in=104 out=20\nworker 0 in=104 out=20\nprofile default in=104 out=20\nstatic 10.0.0.2 in=104 out=20\nstatic 10.0.0.3 in=0 out=0\ndrop Malformed 0\ndrop NoSession 0\ndrop NotOpen 0\ndrop Expired 0\ndrop Spoofed 1\ndrop TooBig 0\ndrop Exceeded 0\ndrop LinkFailed 0\ndrop WantOfMemory 0\n",
-    );
+        &Counted {
+            octets: "in=104 out=20",
+            lines: &[
+                "profile default in=104 out=20",
+                "static 10.0.0.2 in=104 out=20",
+                "static 10.0.0.3 in=0 out=0",
+            ],
+            drops: &[("Spoofed", 1)],
+        },
+    )?;
     // Nobody acknowledges them, so each is sent eleven times.
     assert_count(&rt, records(&ended, STOP), 11);
     assert_count(&rt, records(&ended, EMPTY_STOP), 11);

@@ -1,8 +1,9 @@
 //! Sessions that hosts ask for.
 use super::authentication::stop;
 use super::host::{HOST, PADS, PADT, SESSIONS, request};
+use super::reports::{Counted, assert_report};
 use super::running::{SERVE, run_by, run_over};
-use super::{Ended, assert_out, assert_status, loopback, sends};
+use super::{Ended, assert_status, loopback, sends};
 use crate::asserts::{assert_holds, assert_same};
 use bng_base::Role;
 use bng_plant::{Arrival, MemoryPlant};
@@ -96,8 +97,11 @@ last = "10.0.0.101"
 "#;
 
 /// A report of no circuit, with nothing dropped.
-pub(super) const NOTHING: &[u8] =
-    b"stopped in=0 out=0\nlive in=0 out=0\ntotal in=0 out=0\nworker 0 in=0 out=0\nprofile default in=0 out=0\ndrop Malformed 0\ndrop NoSession 0\ndrop NotOpen 0\ndrop Expired 0\ndrop Spoofed 0\ndrop TooBig 0\ndrop Exceeded 0\ndrop LinkFailed 0\ndrop WantOfMemory 0\n";
+pub(super) const NOTHING: Counted<'static> = Counted {
+    octets: "in=0 out=0",
+    lines: &["profile default in=0 out=0"],
+    drops: &[],
+};
 
 /// The three PADIs and the PADR for the service video come from the host; then a PADR for any service with one bit of its cookie changed,
 /// twice one with the right cookie, and `stop`.
@@ -139,7 +143,7 @@ fn a_host_is_offered_a_session_and_gets_it_once(rt: HostRuntime) -> Result<(), F
     let alloc = rt.alloc();
     let ended = run_over(&rt, alloc, &SERVE, SESSIONS, asked(alloc)?, &[], &[])?;
     assert_status(&rt, &ended, 0);
-    assert_out(&rt, &ended, NOTHING);
+    assert_report(&rt, alloc, &ended, &NOTHING)?;
     sends(&rt, &ended, ANSWERED);
     Ok(())
 }
@@ -196,7 +200,7 @@ fn a_shard_has_1022_sessions(rt: HostRuntime) -> Result<(), Fail> {
     let plant = MemoryPlant::new(alloc, all_ask(alloc)?, Vec::new(alloc), 4096)?;
     let ended = run_by(&rt, alloc, ONE_SHARD, plant, 10)?;
     assert_status(&rt, &ended, 0);
-    assert_out(&rt, &ended, NOTHING);
+    assert_report(&rt, alloc, &ended, &NOTHING)?;
     all_but_last_have_sessions(&rt, &ended);
     Ok(())
 }

@@ -1,8 +1,9 @@
 //! Packets of provisioned circuits, beside a server of accounting that says nothing: so the Stops go out again until the grace is over.
+use super::reports::{Counted, assert_report};
 use super::running::{SERVE, run_over};
 use super::{
-    CONFIGURATION, Ended, FALLING_NUMBERS, PACKET, TWO_PORTS, accounts, assert_err, assert_out,
-    assert_sent, assert_status, frame_and_stop, loopback, script_of, sends,
+    CONFIGURATION, Ended, FALLING_NUMBERS, PACKET, TWO_PORTS, accounts, assert_err, assert_sent,
+    assert_status, frame_and_stop, loopback, script_of, sends,
 };
 use crate::asserts::{assert_count, assert_holds, assert_octets, assert_same};
 use bng_base::Role;
@@ -79,11 +80,11 @@ fn reports<R: Threads + Wait + Sync + Abort>(
     configuration: &str,
     script: Vec<Arrival>,
     fails: &[u64],
-    report: &[u8],
+    counted: &Counted<'_>,
 ) -> Result<Ended, Fail> {
     let ended = run_over(rt, alloc, &SERVE, configuration, script, fails, &[])?;
     assert_status(rt, &ended, 6);
-    assert_out(rt, &ended, report);
+    assert_report(rt, alloc, &ended, counted)?;
     Ok(ended)
 }
 
@@ -94,11 +95,11 @@ fn passes<R: Threads + Wait + Sync + Abort>(
     configuration: &str,
     come: &[(Role, u16, &[u8])],
     fails: &[u64],
-    report: &[u8],
+    counted: &Counted<'_>,
     wanted: &[(Role, u16, &[u8])],
 ) -> Result<(), Fail> {
     let script = script_of(alloc, come)?;
-    let ended = reports(rt, alloc, configuration, script, fails, report)?;
+    let ended = reports(rt, alloc, configuration, script, fails, counted)?;
     sends(rt, &ended, wanted);
     Ok(())
 }
@@ -143,7 +144,11 @@ fn a_packet_is_forwarded_with_ttl_and_sum_changed(rt: HostRuntime) -> Result<(),
         CONFIGURATION,
         script,
         &[],
-        b"stopped in=84 out=0\nlive in=0 out=0\ntotal in=84 out=0\nworker 0 in=84 out=0\nprofile default in=84 out=0\nstatic 10.0.0.2 in=84 out=0\ndrop Malformed 0\ndrop NoSession 0\ndrop NotOpen 0\ndrop Expired 0\ndrop Spoofed 0\ndrop TooBig 0\ndrop Exceeded 0\ndrop LinkFailed 0\ndrop WantOfMemory 0\n",
+        &Counted {
+            octets: "in=84 out=0",
+            lines: &["profile default in=84 out=0", "static 10.0.0.2 in=84 out=0"],
+            drops: &[],
+        },
     )?;
     assert_err(
         &rt,
@@ -170,7 +175,11 @@ fn failed_is_a_drop<R: Threads + Wait + Sync + Abort>(rt: &R, alloc: Global) -> 
         CONFIGURATION,
         script,
         &[12],
-        b"stopped in=0 out=0\nlive in=0 out=0\ntotal in=0 out=0\nworker 0 in=0 out=0\nprofile default in=0 out=0\nstatic 10.0.0.2 in=0 out=0\ndrop Malformed 0\ndrop NoSession 0\ndrop NotOpen 0\ndrop Expired 0\ndrop Spoofed 0\ndrop TooBig 0\ndrop Exceeded 0\ndrop LinkFailed 1\ndrop WantOfMemory 0\n",
+        &Counted {
+            octets: "in=0 out=0",
+            lines: &["profile default in=0 out=0", "static 10.0.0.2 in=0 out=0"],
+            drops: &[("LinkFailed", 1)],
+        },
     )?;
     Ok(())
 }
@@ -184,7 +193,11 @@ fn spoofed_is_a_drop<R: Threads + Wait + Sync + Abort>(rt: &R, alloc: Global) ->
         CONFIGURATION,
         script,
         &[],
-        b"stopped in=0 out=0\nlive in=0 out=0\ntotal in=0 out=0\nworker 0 in=0 out=0\nprofile default in=0 out=0\nstatic 10.0.0.2 in=0 out=0\ndrop Malformed 0\ndrop NoSession 0\ndrop NotOpen 0\ndrop Expired 0\ndrop Spoofed 1\ndrop TooBig 0\ndrop Exceeded 0\ndrop LinkFailed 0\ndrop WantOfMemory 0\n",
+        &Counted {
+            octets: "in=0 out=0",
+            lines: &["profile default in=0 out=0", "static 10.0.0.2 in=0 out=0"],
+            drops: &[("Spoofed", 1)],
+        },
     )?;
     // The Start, `stopping` and eleven times the Stop.
     assert_sent(rt, &spoofed, 13);
@@ -219,7 +232,11 @@ fn what_comes_after_a_failed_send_is_sent(rt: HostRuntime) -> Result<(), Fail> {
         CONFIGURATION,
         TWO_PACKETS,
         &[13],
-        b"stopped in=20 out=0\nlive in=0 out=0\ntotal in=20 out=0\nworker 0 in=20 out=0\nprofile default in=20 out=0\nstatic 10.0.0.2 in=20 out=0\ndrop Malformed 0\ndrop NoSession 0\ndrop NotOpen 0\ndrop Expired 0\ndrop Spoofed 0\ndrop TooBig 0\ndrop Exceeded 0\ndrop LinkFailed 1\ndrop WantOfMemory 0\n",
+        &Counted {
+            octets: "in=20 out=0",
+            lines: &["profile default in=20 out=0", "static 10.0.0.2 in=20 out=0"],
+            drops: &[("LinkFailed", 1)],
+        },
         ONE_PASSES,
     )
 }
@@ -246,7 +263,14 @@ fn packets_pass_both_ways_without_their_padding(rt: HostRuntime) -> Result<(), F
         CONFIGURATION,
         BOTH_WAYS,
         &[],
-        b"stopped in=20 out=20\nlive in=0 out=0\ntotal in=20 out=20\nworker 0 in=20 out=20\nprofile default in=20 out=20\nstatic 10.0.0.2 in=20 out=20\ndrop Malformed 0\ndrop NoSession 0\ndrop NotOpen 0\ndrop Expired 0\ndrop Spoofed 0\ndrop TooBig 0\ndrop Exceeded 0\ndrop LinkFailed 0\ndrop WantOfMemory 0\n",
+        &Counted {
+            octets: "in=20 out=20",
+            lines: &[
+                "profile default in=20 out=20",
+                "static 10.0.0.2 in=20 out=20",
+            ],
+            drops: &[],
+        },
         BOTH_PASS,
     )
 }
@@ -274,7 +298,15 @@ fn each_circuit_gets_its_own_packets_on_its_own_port(rt: HostRuntime) -> Result<
         TWO_PORTS,
         TO_BOTH,
         &[],
-        b"stopped in=20 out=40\nlive in=0 out=0\ntotal in=20 out=40\nworker 0 in=20 out=40\nprofile default in=20 out=40\nstatic 10.0.0.2 in=20 out=20\nstatic 10.0.0.3 in=0 out=20\ndrop Malformed 1\ndrop NoSession 0\ndrop NotOpen 0\ndrop Expired 0\ndrop Spoofed 0\ndrop TooBig 0\ndrop Exceeded 0\ndrop LinkFailed 0\ndrop WantOfMemory 0\n",
+        &Counted {
+            octets: "in=20 out=40",
+            lines: &[
+                "profile default in=20 out=40",
+                "static 10.0.0.2 in=20 out=20",
+                "static 10.0.0.3 in=0 out=20",
+            ],
+            drops: &[("Malformed", 1)],
+        },
         EACH_GETS,
     )
 }
@@ -318,7 +350,15 @@ fn circuits_stand_in_any_order(rt: HostRuntime) -> Result<(), Fail> {
         FALLING_NUMBERS,
         FALLING,
         &[],
-        b"stopped in=20 out=40\nlive in=0 out=0\ntotal in=20 out=40\nworker 0 in=20 out=40\nprofile default in=20 out=40\nstatic 10.0.0.2 in=20 out=20\nstatic 10.0.0.3 in=0 out=20\ndrop Malformed 0\ndrop NoSession 0\ndrop NotOpen 0\ndrop Expired 0\ndrop Spoofed 0\ndrop TooBig 0\ndrop Exceeded 0\ndrop LinkFailed 0\ndrop WantOfMemory 0\n",
+        &Counted {
+            octets: "in=20 out=40",
+            lines: &[
+                "profile default in=20 out=40",
+                "static 10.0.0.2 in=20 out=20",
+                "static 10.0.0.3 in=0 out=20",
+            ],
+            drops: &[],
+        },
         FALLING_PASS,
     )
 }
@@ -380,7 +420,11 @@ fn what_does_not_pass_is_counted_by_its_cause(rt: HostRuntime) -> Result<(), Fai
         CONFIGURATION,
         script,
         &[],
-        b"stopped in=0 out=0\nlive in=0 out=0\ntotal in=0 out=0\nworker 0 in=0 out=0\nprofile default in=0 out=0\nstatic 10.0.0.2 in=0 out=0\ndrop Malformed 2\ndrop NoSession 3\ndrop NotOpen 0\ndrop Expired 1\ndrop Spoofed 0\ndrop TooBig 0\ndrop Exceeded 0\ndrop LinkFailed 0\ndrop WantOfMemory 0\n",
+        &Counted {
+            octets: "in=0 out=0",
+            lines: &["profile default in=0 out=0", "static 10.0.0.2 in=0 out=0"],
+            drops: &[("Malformed", 2), ("NoSession", 3), ("Expired", 1)],
+        },
     )?;
     assert_sent(&rt, &ended, 14);
     offers_first(&rt, &ended);

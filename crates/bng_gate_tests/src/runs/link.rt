@@ -1,9 +1,10 @@
 //! The link of a session.
+use super::assert_status;
 use super::authentication::stop;
 use super::host::{ACK, ACKED, ASKED, PADS, REQUEST, SESSIONS, session};
+use super::reports::{Counted, assert_report};
 use super::running::{SERVE, run_over};
 use super::sent::{OVER, STOPPING, Sent, sends_list};
-use super::{assert_out, assert_status};
 use bng_base::Role;
 use std::test::Fail;
 
@@ -65,10 +66,15 @@ fn a_link_comes_to_opened_and_answers_echoes(rt: HostRuntime) -> Result<(), Fail
     script.push(stop(0))?;
     let ended = run_over(&rt, alloc, &SERVE, SESSIONS, script, &[], &[])?;
     assert_status(&rt, &ended, 0);
-    assert_out(
+    assert_report(
         &rt,
+        alloc,
         &ended,
-        b"stopped in=0 out=0\nlive in=0 out=0\ntotal in=0 out=0\nworker 0 in=0 out=0\nprofile default in=0 out=0\ndrop Malformed 0\ndrop NoSession 0\ndrop NotOpen 1\ndrop Expired 0\ndrop Spoofed 0\ndrop TooBig 0\ndrop Exceeded 0\ndrop LinkFailed 0\ndrop WantOfMemory 0\n",
-    );
+        &Counted {
+            octets: "in=0 out=0",
+            lines: &["profile default in=0 out=0"],
+            drops: &[("NotOpen", 1)],
+        },
+    )?;
     sends_list(&rt, alloc, &ended, ANSWERED)
 }

@@ -5,9 +5,10 @@ use super::authentication::{
     stop,
 };
 use super::host::{ACKED, REQUEST, framed, from_host, request, then_hears};
+use super::reports::{Counted, assert_report};
 use super::running::run_by;
 use super::sent::{OVER, STOPPING, Sent, sends_list_from};
-use super::{Ended, assert_err, assert_out, assert_status, goes_to, has, loopback};
+use super::{Ended, assert_err, assert_status, goes_to, has, loopback};
 use crate::asserts::{assert_holds, assert_same};
 use bng_base::Role;
 use bng_plant::{Arrival, MemoryPlant};
@@ -249,11 +250,16 @@ fn a_subscriber_logs_in_and_is_accounted_for(rt: HostRuntime) -> Result<(), Fail
     let alloc = rt.alloc();
     let ended = run_in(&rt, alloc, PAP, visit(alloc)?, 1000)?;
     assert_err(&rt, &ended, b"");
-    assert_out(
+    assert_report(
         &rt,
+        alloc,
         &ended,
-        b"stopped in=40 out=28\nlive in=0 out=0\ntotal in=40 out=28\nworker 0 in=40 out=28\nprofile default in=40 out=28\ndrop Malformed 0\ndrop NoSession 0\ndrop NotOpen 0\ndrop Expired 0\ndrop Spoofed 0\ndrop TooBig 0\ndrop Exceeded 0\ndrop LinkFailed 0\ndrop WantOfMemory 0\n",
-    );
+        &Counted {
+            octets: "in=40 out=28",
+            lines: &["profile default in=40 out=28"],
+            drops: &[],
+        },
+    )?;
     sends_after(&rt, alloc, &ended, 0, SENT_TO_LEAVING)?;
     records(&rt, alloc, &ended, &[START, STOP])
 }

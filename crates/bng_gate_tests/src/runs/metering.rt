@@ -8,10 +8,10 @@ use super::host::{from_host, then_hears};
 use super::logins::{
     ANY, ASKS, FROM_HOST, GETS, TAKES, TO_BE, UP as UP_OF_HOST, records, response, run_in,
 };
+use super::reports::{Counted, assert_report};
 use super::running::{SERVE, run_over};
 use super::sent::{OVER, STOPPING, Sent};
-use super::{CONFIGURATION, Ended, assert_out, assert_status, loopback, script_of, sends};
-use crate::asserts::assert_holds;
+use super::{CONFIGURATION, Ended, assert_status, loopback, script_of, sends};
 use bng_base::Role;
 use bng_plant::Arrival;
 use std::alloc::{AllocError, Global};
@@ -131,11 +131,20 @@ fn a_packet_passes_from_the_millisecond_of_its_last_token_on(rt: HostRuntime) ->
     assert_status(&rt, &ended, 0);
     // Token 20 has come by 334 ms, token 40 by 667 ms and token 60 by 1,000 ms, and none of them a millisecond sooner. So the packets at
     // 333 and 666 ms are red. They take no tokens: else those a millisecond later were red too.
-    assert_out(
+    assert_report(
         &rt,
+        alloc,
         &ended,
-        b"stopped in=80 out=0\nlive in=0 out=0\ntotal in=80 out=0\nworker 0 in=80 out=0\nprofile bronze in=0 out=0\nprofile gold in=80 out=0\nstatic 10.0.0.2 in=80 out=0\ndrop Malformed 0\ndrop NoSession 0\ndrop NotOpen 0\ndrop Expired 0\ndrop Spoofed 0\ndrop TooBig 0\ndrop Exceeded 2\ndrop LinkFailed 0\ndrop WantOfMemory 0\n",
-    );
+        &Counted {
+            octets: "in=80 out=0",
+            lines: &[
+                "profile bronze in=0 out=0",
+                "profile gold in=80 out=0",
+                "static 10.0.0.2 in=80 out=0",
+            ],
+            drops: &[("Exceeded", 2)],
+        },
+    )?;
     sends(&rt, &ended, BY_THE_MILLISECOND);
     records(&rt, alloc, &ended, &[START, STOP])
 }
@@ -180,11 +189,20 @@ fn green_and_yellow_packets_pass_and_red_ones_do_not(rt: HostRuntime) -> Result<
     let script = three_and_two(alloc)?;
     let ended = run_in(&rt, alloc, configuration.as_str(), script, 334)?;
     assert_status(&rt, &ended, 6);
-    assert_out(
+    assert_report(
         &rt,
+        alloc,
         &ended,
-        b"stopped in=60 out=40\nlive in=0 out=0\ntotal in=60 out=40\nworker 0 in=60 out=40\nprofile bronze in=0 out=0\nprofile gold in=60 out=40\nstatic 10.0.0.2 in=60 out=40\ndrop Malformed 0\ndrop NoSession 0\ndrop NotOpen 0\ndrop Expired 0\ndrop Spoofed 0\ndrop TooBig 0\ndrop Exceeded 5\ndrop LinkFailed 0\ndrop WantOfMemory 0\n",
-    );
+        &Counted {
+            octets: "in=60 out=40",
+            lines: &[
+                "profile bronze in=0 out=0",
+                "profile gold in=60 out=40",
+                "static 10.0.0.2 in=60 out=40",
+            ],
+            drops: &[("Exceeded", 5)],
+        },
+    )?;
     sends(&rt, &ended, GREEN_AND_YELLOW);
     Ok(())
 }
@@ -219,13 +237,23 @@ fn run_thirds<R: Threads + Wait + Sync>(
 fn a_packet_whose_send_fails_is_in_no_book(rt: HostRuntime) -> Result<(), Fail> {
     // Five binds, the receives of Control, of Acct, of Auth, three times of the access port and twice of the core, and then the first send.
     // Its packet was green and has taken its tokens, so the second one is red.
-    let ended = run_thirds(&rt, rt.alloc(), &[14])?;
+    let alloc = rt.alloc();
+    let ended = run_thirds(&rt, alloc, &[14])?;
     assert_status(&rt, &ended, 6);
-    assert_out(
+    assert_report(
         &rt,
+        alloc,
         &ended,
-        b"stopped in=0 out=20\nlive in=0 out=0\ntotal in=0 out=20\nworker 0 in=0 out=20\nprofile bronze in=0 out=0\nprofile gold in=0 out=20\nstatic 10.0.0.2 in=0 out=20\ndrop Malformed 0\ndrop NoSession 0\ndrop NotOpen 0\ndrop Expired 0\ndrop Spoofed 0\ndrop TooBig 0\ndrop Exceeded 1\ndrop LinkFailed 1\ndrop WantOfMemory 0\n",
-    );
+        &Counted {
+            octets: "in=0 out=20",
+            lines: &[
+                "profile bronze in=0 out=0",
+                "profile gold in=0 out=20",
+                "static 10.0.0.2 in=0 out=20",
+            ],
+            drops: &[("Exceeded", 1), ("LinkFailed", 1)],
+        },
+    )?;
     sends(
         &rt,
         &ended,
@@ -256,16 +284,20 @@ fn days_of_silence_fill_the_buckets_and_no_more(rt: HostRuntime) -> Result<(), F
     let alloc = rt.alloc();
     let configuration = metered(alloc, SLOW_AND_FAST)?;
     let ended = run_in(&rt, alloc, configuration.as_str(), days(alloc)?, 86_400_000)?;
-    assert_holds(
+    assert_report(
         &rt,
-        ended.out.text().starts_with(
-            b"stopped in=80 out=120\nlive in=0 out=0\ntotal in=80 out=120\nworker 0 in=80 out=120\nprofile bronze in=0 out=0\nprofile gold in=80 out=120\n",
-        ),
-    );
-    assert_holds(
-        &rt,
-        ended.out.text().ends_with(b"drop Exceeded 2\ndrop LinkFailed 0\ndrop WantOfMemory 0\n"),
-    );
+        alloc,
+        &ended,
+        &Counted {
+            octets: "in=80 out=120",
+            lines: &[
+                "profile bronze in=0 out=0",
+                "profile gold in=80 out=120",
+                "static 10.0.0.2 in=80 out=120",
+            ],
+            drops: &[("Exceeded", 2)],
+        },
+    )?;
     Ok(())
 }
 
@@ -299,11 +331,16 @@ fn a_host_is_metered_by_the_profile_that_its_accept_names(rt: HostRuntime) -> Re
     let configuration = PAP.replace(alloc, "[[pool]]", HOSTS)?;
     let script = metered_host(alloc)?;
     let ended = run_in(&rt, alloc, configuration.as_str(), script, 10)?;
-    assert_out(
+    assert_report(
         &rt,
+        alloc,
         &ended,
-        b"stopped in=40 out=0\nlive in=0 out=0\ntotal in=40 out=0\nworker 0 in=40 out=0\nprofile bronze in=0 out=0\nprofile gold in=40 out=0\ndrop Malformed 0\ndrop NoSession 0\ndrop NotOpen 0\ndrop Expired 0\ndrop Spoofed 0\ndrop TooBig 0\ndrop Exceeded 1\ndrop LinkFailed 0\ndrop WantOfMemory 0\n",
-    );
+        &Counted {
+            octets: "in=40 out=0",
+            lines: &["profile bronze in=0 out=0", "profile gold in=40 out=0"],
+            drops: &[("Exceeded", 1)],
+        },
+    )?;
     sends_after(&rt, alloc, &ended, 6, ONE_PASSES)
 }
 

@@ -1,6 +1,7 @@
 //! What Control is told of a run: the report without its lines of circuits.
 use super::authentication::stop;
 use super::changes::{packet_100, run_changes};
+use super::reports::{Counted, stats};
 use super::{Ended, loopback};
 use crate::asserts::{assert_holds, assert_octets, assert_same};
 use bng_base::{Datagram, Ip4, Peer, Role};
@@ -10,11 +11,17 @@ use std::process::Abort;
 use std::test::Fail;
 
 /// Before anything passed, and once a packet of 100 octets has.
-const NOTHING: &[u8] =
-    b"stopped in=0 out=0\nlive in=0 out=0\ntotal in=0 out=0\nworker 0 in=0 out=0\nprofile bronze in=0 out=0\nprofile gold in=0 out=0\ndrop Malformed 0\ndrop NoSession 0\ndrop NotOpen 0\ndrop Expired 0\ndrop Spoofed 0\ndrop TooBig 0\ndrop Exceeded 0\ndrop LinkFailed 0\ndrop WantOfMemory 0\n";
+const NOTHING: Counted<'static> = Counted {
+    octets: "in=0 out=0",
+    lines: &["profile bronze in=0 out=0", "profile gold in=0 out=0"],
+    drops: &[],
+};
 
-const PASSED: &[u8] =
-    b"stopped in=0 out=0\nlive in=100 out=0\ntotal in=100 out=0\nworker 0 in=100 out=0\nprofile bronze in=100 out=0\nprofile gold in=0 out=0\ndrop Malformed 1\ndrop NoSession 0\ndrop NotOpen 0\ndrop Expired 0\ndrop Spoofed 0\ndrop TooBig 0\ndrop Exceeded 0\ndrop LinkFailed 0\ndrop WantOfMemory 0\n";
+const PASSED: Counted<'static> = Counted {
+    octets: "in=100 out=0",
+    lines: &["profile bronze in=100 out=0", "profile gold in=0 out=0"],
+    drops: &[("Malformed", 1)],
+};
 
 /// Who may not ask.
 const STRANGER: Peer = Peer {
@@ -41,9 +48,6 @@ fn questions(alloc: Global) -> Result<Vec<Arrival>, AllocError> {
     Ok(script)
 }
 
-/// The texts of the answers.
-const ANSWERS: &[&[u8]] = &[NOTHING, NOTHING, b"unknown\n", PASSED, b"stopping\n"];
-
 /// This is the answer to port 5 of 127.0.0.1 with this text.
 fn assert_answer(rt: &impl Abort, found: Option<&Datagram>, text: &[u8]) {
     let answer = found.expect(rt, "an answer");
@@ -65,6 +69,18 @@ fn answers(rt: &impl Abort, ended: &Ended, wanted: &[&[u8]]) {
 fn stats_is_answered_by_what_was_counted_so_far(rt: HostRuntime) -> Result<(), Fail> {
     let alloc = rt.alloc();
     let ended = run_changes(&rt, alloc, questions(alloc)?, 10)?;
-    answers(&rt, &ended, ANSWERS);
+    let nothing = stats(alloc, &NOTHING)?;
+    let passed = stats(alloc, &PASSED)?;
+    answers(
+        &rt,
+        &ended,
+        &[
+            nothing.as_bytes(),
+            nothing.as_bytes(),
+            b"unknown\n",
+            passed.as_bytes(),
+            b"stopping\n",
+        ],
+    );
     Ok(())
 }

@@ -6,8 +6,9 @@ use super::concentrator::{
 };
 use super::discovery::NOTHING;
 use super::logins::run_in as run_tunnels;
+use super::reports::assert_report;
 use super::running::{SERVE, run_over};
-use super::{Ended, assert_err, assert_out, assert_status, loopback};
+use super::{Ended, assert_err, assert_status, loopback};
 use crate::asserts::{assert_count, assert_holds, assert_same};
 use bng_base::{Bind, Peer, Role};
 use bng_plant::Arrival;
@@ -57,7 +58,7 @@ fn messages_that_come_twice_make_one_tunnel(rt: HostRuntime) -> Result<(), Fail>
     let alloc = rt.alloc();
     let ended = run_tunnels(&rt, alloc, TUNNELS, twice(alloc)?, 10)?;
     assert_status(&rt, &ended, 0);
-    assert_out(&rt, &ended, NOTHING);
+    assert_report(&rt, alloc, &ended, &NOTHING)?;
     binds_tunnel_sixth(&rt, &ended);
     tells(&rt, alloc, &ended, TOLD_TWICE)
 }

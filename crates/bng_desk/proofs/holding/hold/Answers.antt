@@ -4,6 +4,7 @@ use Rattle.std.proofs.lemmas.List.Sums.{count_by-le-length, length-filter}
 use Rattle.std.specs.List.{All, AllZip}
 use Rattle.std.specs.Vec.{with_items}
 use Rattle.bng_base.specs.Batches.{Batch}
+use Rattle.bng_base.specs.declared.fate.DropCause.TheVariants.{WantOfMemory}
 use Rattle.bng_base.specs.declared.item.Entry.{Entry}
 use Rattle.bng_base.specs.declared.item.Item.{Item}
 use Rattle.bng_base.specs.declared.round.RoundRecord.{RoundRecord}
@@ -12,12 +13,13 @@ use Rattle.bng_engine.specs.Views.{ShardView}
 use Rattle.bng_steps.specs.Protocol.{ShardState}
 use Rattle.bng_desk.specs.declared.settlement.Works.{Works}
 use Rattle.bng_desk.specs.Allowing.{allowance_of, free_in}
-use Rattle.bng_desk.specs.Counting.{Within, plus}
+use Rattle.bng_desk.specs.Counting.{plus}
 use Rattle.bng_desk.specs.Items.{is_from_outside, kept_of}
 use Rattle.bng_desk.specs.Kept.{octets_most, drops_most}
 use Rattle.bng_desk.specs.Round.{refused_of, with_refused}
 use Rattle.bng_desk.specs.Settlement.{IsReady}
 use Rattle.bng_desk.specs.Taking.{HasRows, IsEmpty}
+use Rattle.bng_desk.proofs.DropLaws.{most_of_cause, within_plus, within_wider}
 use Rattle.bng_desk.proofs.Joining.{low_kept, low_wider, books_kept, books_wider}
 use Rattle.bng_desk.proofs.OneMore.{low_more}
 use Rattle.bng_desk.proofs.Prepared.{keeps_still, made, ready_still, same_count}
@@ -170,18 +172,7 @@ returns-clause-keeps g c =
       tallied = still.tallied;
       adds_up = still.adds_up;
       billed = still.billed;
-      counts = λ most within. subst (Within (most + drops_most)) (sym c.count_refused.ensures)
-          (record {
-            malformed = omega (arith, within.malformed);
-            no_session = omega (arith, within.no_session);
-            not_open = omega (arith, within.not_open);
-            expired = omega (arith, within.expired);
-            spoofed = omega (arith, within.spoofed);
-            too_big = omega (arith, within.too_big);
-            exceeded = omega (arith, within.exceeded);
-            link_failed = omega (arith, within.link_failed);
-            want_of_memory = omega (arith, within.want_of_memory, few);
-          });
+      counts = λ most within. within_plus most n (most + drops_most) w.drops c.count_refused.new.drops (with_refused n) (omega (arith, few)) (most_of_cause WantOfMemory n) within c.count_refused.ensures;
       drawn = omega arith;
       handed = refl;
       room = c.part-outside.ensures.capacity;

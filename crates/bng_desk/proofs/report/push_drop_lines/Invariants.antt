@@ -1,5 +1,6 @@
 use Rattle.std.proofs.Common.{◌≡◌, ◌++◌, take, string_bytes}
-use Rattle.bng_desk.specs.Report.{causes, drop_lines}
+use Rattle.bng_desk.specs.Causes.{causes}
+use Rattle.bng_desk.specs.Report.{drop_lines}
 use Rattle.bng_desk.proofs.report.push_drop_lines.Given as goal
 
 -- the lines of the causes so far follow what was written before

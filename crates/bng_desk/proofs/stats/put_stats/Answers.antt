@@ -5,9 +5,9 @@ use Rattle.bng_base.specs.Packet.{Packet}
 use Rattle.bng_steps.specs.declared.sums.Traffic.{Traffic}
 use Rattle.bng_engine.specs.Quantities.{in_book}
 use Rattle.bng_desk.specs.declared.accounts.Stopped.{Stopped}
-use Rattle.bng_desk.specs.Counting.{by_number}
+use Rattle.bng_desk.specs.Causes.{causes}
 use Rattle.bng_desk.specs.Model.{live_of, plus_book, traffic_by, traffic_under}
-use Rattle.bng_desk.specs.Report.{causes, drop_lines, profile_lines, traffic_line, worker_lines}
+use Rattle.bng_desk.specs.Report.{drop_lines, profile_lines, traffic_line, worker_lines}
 use Rattle.bng_desk.proofs.Texts.{onto}
 use Rattle.bng_desk.proofs.stats.put_stats.Goals as goal
 
@@ -102,6 +102,5 @@ returns c =
     let text₃ = onto o b (traffic_line (codes "total") (traffic_by (plus_book s (live_of vs)))) c.put_traffic-2.new.text.payload c.put_traffic-3.new.text.payload text₂ (c.put_traffic-3.ensures.text ∙ ap (λ (t : Traffic). c.put_traffic-2.new.text.payload ++ traffic_line (codes "total") t) total) in
     let text₄ = onto o d (worker_lines 0 (traffic_by counted.tally ∷ [])) c.put_traffic-3.new.text.payload c.put_worker.new.text.payload text₃ (c.put_worker.ensures.text ∙ ap (λ (t : Traffic). c.put_traffic-3.new.text.payload ++ worker_lines 0 (t ∷ [])) c.octets_of-4.ensures) in
     let text₅ = onto o e (profile_lines counted.profiles.now under) c.put_worker.new.text.payload c.put_profiles.new.text.payload text₄ c.put_profiles.ensures.text ∙ ap (λ (xs : List ℕ). o ++ xs) (sym (append-nil f)) in
-    onto o (f ++ []) (drop_lines causes (by_number counted.drops.now)) c.put_profiles.new.text.payload c.put_drops.new.text.payload text₅
-    (c.put_drops.ensures.text ∙ ap (λ (ns : List ℕ). c.put_profiles.new.text.payload ++ drop_lines causes ns) c.by_number.ensures)
-    ∙ ap (λ (p : Packet). p.payload ++ ((f ++ []) ++ drop_lines causes (by_number counted.drops.now))) c.requires.blank
+    onto o (f ++ []) (drop_lines causes counted.drops.now.counts) c.put_profiles.new.text.payload c.put_drops.new.text.payload text₅ c.put_drops.ensures.text
+    ∙ ap (λ (p : Packet). p.payload ++ ((f ++ []) ++ drop_lines causes counted.drops.now.counts)) c.requires.blank

@@ -52,12 +52,11 @@ returns-clause-sums c =
     let seen = map rested vs in
     let kept = works.accounts.stopped in
     let sum = plus_book kept.carried (live_of seen) in
-    subst (λ (d : Desk). told t c.live-live.result c.plus_book.result c.begun_in.result c.by_number.result ≡ sums_of d) c.self.view_is
-    (ap (λ (b : Book). told t c.live-live.result b c.begun_in.result c.by_number.result) c.plus_book.ensures
-    ∙ ap (λ (x : Stopped). told x c.live-live.result (plus_book x.carried c.live-live.result) c.begun_in.result c.by_number.result) c.stopped-stopped.ensures
-    ∙ ap (λ (b : Book). told kept b (plus_book kept.carried b) c.begun_in.result c.by_number.result) live
-    ∙ ap (λ (n : ℕ). told kept (live_of seen) sum n c.by_number.result) begun
-    ∙ ap (λ (ns : List ℕ). told kept (live_of seen) sum (begun_in seen) ns) c.by_number.ensures)
+    subst (λ (d : Desk). told t c.live-live.result c.plus_book.result c.begun_in.result works.drops.counts ≡ sums_of d) c.self.view_is
+    (ap (λ (b : Book). told t c.live-live.result b c.begun_in.result works.drops.counts) c.plus_book.ensures
+    ∙ ap (λ (x : Stopped). told x c.live-live.result (plus_book x.carried c.live-live.result) c.begun_in.result works.drops.counts) c.stopped-stopped.ensures
+    ∙ ap (λ (b : Book). told kept b (plus_book kept.carried b) c.begun_in.result works.drops.counts) live
+    ∙ ap (λ (n : ℕ). told kept (live_of seen) sum n works.drops.counts) begun)
 
 pub returns-clause-adds_up : goal.returns-clause-adds_up
 returns-clause-adds_up c =
