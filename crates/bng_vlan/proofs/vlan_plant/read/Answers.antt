@@ -22,7 +22,7 @@ returns-in-Empty-clause-reads g c =
     let both = g.met.P.TrunkPlant.more c.args.plant.now c.loop.plant c.recv.new.self (trunk_stretch t inv.came Stopped) (receiving (role_of t) Empty c.recv.new.into.payload) inv.adds one in (
       inv.came,
       subst (λ (s : PlantStretch). g.P.TrunkPlant.adds c.args.plant.now s c.recv.new.self) (was_empty t inv.came c.recv.new.into.payload) both,
-      is_dry (map_of c.args.backlog.now) c.args.place c.args.entry (waiting_of c.args.backlog.now) inv.came c.requires (waiting_of c.loop.backlog) inv.far few none,
+      is_dry (map_of c.args.backlog.now) c.args.place c.args.entry (waiting_of c.args.backlog.now) inv.came c.requires (waiting_of c.loop.backlog) inv.far few none (free_of g c inv),
     )
 
 pub returns-in-Failed-clause-reads : goal.returns-in-Failed-clause-reads
@@ -35,7 +35,7 @@ returns-in-Failed-clause-reads g c =
     let both = g.met.P.TrunkPlant.more c.args.plant.now c.loop.plant c.recv.new.self (trunk_stretch t inv.came Stopped) (receiving (role_of t) Failed c.recv.new.into.payload) inv.adds one in (
       inv.came,
       subst (λ (s : PlantStretch). g.P.TrunkPlant.adds c.args.plant.now s c.recv.new.self) (had_failed t inv.came c.recv.new.into.payload) both,
-      is_broken (map_of c.args.backlog.now) c.args.place c.args.entry (waiting_of c.args.backlog.now) inv.came c.requires (waiting_of c.loop.backlog) inv.far few none,
+      is_broken (map_of c.args.backlog.now) c.args.place c.args.entry (waiting_of c.args.backlog.now) inv.came c.requires (waiting_of c.loop.backlog) inv.far few none (free_of g c inv),
     )
 
 pub loop-preserved : goal.loop-preserved
