@@ -77,7 +77,8 @@ module _ (m : Trunks) (sound : IsMap m) where
       let each = sum_same (λ e. length (given_to e (d ∷ taken))) (λ (e : VlanEntry). cond (is_port e.access d.role) 1 0 + length (given_to e taken)) m.entries (λ e. given_more d (is_port e.access d.role) (given_to e taken)) in
       let split = sum_plus (λ (e : VlanEntry). cond (is_port e.access d.role) 1 0) (λ e. length (given_to e taken)) m.entries in
       let one = single (λ (e : VlanEntry). is_port e.access d.role) 1 m.entries (λ i j x y at there hit also. sound.ports i j x y at there (one_port x.access y.access d.role hit also)) in
-      let found : cond (is_some (entry_of m d.role)) 1 0 ≡ cond (list_any (λ (e : VlanEntry). is_port e.access d.role) m.entries) 1 0 = ap (λ b. cond b 1 0) (find_any (λ (e : VlanEntry). is_port e.access d.role) m.entries) in
+      let bit : Bool → ℕ = λ b. cond b 1 0 in
+      let found : bit (is_some (entry_of m d.role)) ≡ bit (list_any (λ (e : VlanEntry). is_port e.access d.role) m.entries) = ap bit (find_any (λ (e : VlanEntry). is_port e.access d.role) m.entries) in
       omega (arith, sum_by-cons (λ (x : Datagram). cond (is_some (entry_of m x.role)) 1 0) d taken, given taken, each, split, one, found)
 
 abbrev Frames : Type 0

@@ -3,6 +3,7 @@ use Rattle.std.proofs.Common.{◌≡◌, ℕ, ◌+◌, ◌-◌, ◌*◌, ◌/◌
 use Rattle.std.specs.Prelude.{slice_index}
 use Rattle.std.specs.List.{slice_get}
 use Rattle.std.proofs.lemmas.Bool.{eq-eqb, le-leb}
+use Rattle.std.proofs.lemmas.Bool.Decides.{nat_tests}
 use Rattle.std.proofs.lemmas.List.{take_at, drop_at, take-append-drop, get_or-append_right}
 use Rattle.bng_base.specs.declared.address.Peer.{Peer}
 use Rattle.bng_vlan.specs.declared.map.VlanEntry.{VlanEntry}
@@ -49,6 +50,9 @@ module _ (octets : List ℕ) (long : 12 ≤ length octets) where
 same_vlan : (vlan : ℕ) → IsVlan vlan → (256 * (vlan / 256) + vlan % 256) % 4096 ≡ vlan
 same_vlan vlan is = omega (arith, is.0, is.1)
 
+four_more : (n k : ℕ) → k ≡ 4 + n → nat_le 18 k ≡ nat_le 14 n
+four_more n k is = grind (arith, nat_tests, is)
+
 -- one tag
 module _ (outer : ℕ) (octets : List ℕ) (long : 12 ≤ length octets) where
   abbrev one_tag : List ℕ
@@ -62,7 +66,7 @@ module _ (outer : ℕ) (octets : List ℕ) (long : 12 ≤ length octets) where
   later =
       let rest = drop 12 octets in
       let sizes : nat_le 18 (length with_one) ≡ nat_le 14 (length octets) =
-      ap (λ (n : ℕ). nat_le 18 n) (let s : length with_one ≡ 4 + length octets = omega (arith, size_behind octets long one_tag, length-drop 12 octets, long) in s)
+      four_more (length octets) (length with_one) (omega (arith, size_behind octets long one_tag, length-drop 12 octets, long))
       in
       let own : word_at 12 (take 12 octets ++ rest) ≡ 256 * slice_index rest 0 + slice_index rest 1 = word_behind octets long rest 12 0 refl in
       let moved : word_at 16 with_one ≡ 256 * slice_index rest 0 + slice_index rest 1 = word_behind octets long one_tag 16 4 refl in
