@@ -1,4 +1,4 @@
--- Where a request that was followed times out, and where none does.
+-- How often an Access-Request in hand was sent to each server, where one times out, and where none does.
 use Rattle.std.proofs.Common.{◌≡◌, ⊎_elim, ℕ, ◌+◌, ◌≤◌, ◌<◌, ◌++◌, Bool, true, false, List, length, take, replicate, Some, refl, sym, ap, ◌∙◌, arith, get_or}
 use Rattle.std.specs.Prelude.{sum_by, ◌&&◌, nat_le}
 use Rattle.std.proofs.lemmas.Bool.{leb-true, le-leb}
@@ -7,20 +7,21 @@ use Rattle.std.proofs.lemmas.List.{length-append, length-map, length-replicate, 
 use Rattle.std.proofs.lemmas.List.Concat.{length-flat_map}
 use Rattle.std.proofs.lemmas.List.Sums.{sum_by_more, sum_by_more_le}
 use Rattle.std.proofs.lemmas.Option.{slice_get_within}
+use Rattle.bng_base.specs.Chain.{Chain}
 use Rattle.bng_base.specs.declared.address.Peer.{Peer}
 use Rattle.bng_rad_client.specs.declared.pending.Pending.{Pending}
 use Rattle.bng_rad_client.specs.declared.rules.Lane.TheVariants.{Auth}
 use Rattle.bng_rad_client.specs.declared.rules.Owner.{Owner}
 use Rattle.bng_failover.specs.declared.rules.FailoverRules.{FailoverRules}
 use Rattle.bng_failover.specs.declared.server.Server.{Server}
-use Rattle.bng_failover.specs.Calls.{Call}
+use Rattle.bng_failover.specs.Calls.{Call, Does}
 use Rattle.bng_failover.specs.Due.{IsGivenUp, NoneGivenUp}
-use Rattle.bng_failover.specs.Sends.{Sending, FollowsOne, WentInTurn, WentToEach, sends_for, each_times}
+use Rattle.bng_failover.specs.Sends.{Sending, sending, WentInTurn, WentToEach, each_times, trails_of}
 use Rattle.bng_failover.specs.Servers.{request_at}
-use Rattle.bng_failover.specs.State.{State}
+use Rattle.bng_failover.specs.State.{State, IsOpened}
 use Rattle.bng_failover.proofs.Held.{holder, at_holder}
-use Rattle.bng_failover.proofs.Sent.{followed, last_rules}
-use Rattle.bng_failover.proofs.Turns.{each_more, peers_of}
+use Rattle.bng_failover.proofs.Turns.{each_more, peers_of, InTurn, asked_in_turn, sent_in_turn}
+use Rattle.bng_failover.proofs.Ways.{BeginsSo, GoesOnSo, followed, last_rules}
 
 both_true : (a b : Bool) → (a && b) ≡ true → (a ≡ true) × (b ≡ true)
 both_true true true e = (refl, refl)
@@ -94,33 +95,46 @@ module _ (peers : List Peer) (tries : ℕ) where
         let moments : w.last.moment ≡ e.last.moment = ap (λ (s : Sending). s.moment) one in
         omega (arith, moments, w.moment, e.over)
 
-module _ (rules : FailoverRules) (last : State) (calls : List Call) (test : Owner → Bool) (some : 0 < rules.tries) (byte : rules.tries < 256) (f : FollowsOne rules Auth test calls last) where
+module _ (rules : FailoverRules) (opening last : State) (calls : List Call) (some : 0 < rules.tries) (byte : rules.tries < 256) (opened : IsOpened rules opening) (chain : Chain Does opening calls last) where
+  abbrev sends_of : (at id : ℕ) → List Sending
+  sends_of at id = (trails_of Auth calls at id).sends
+
+  begins_so : BeginsSo Auth rules.auth rules.tries (InTurn rules.auth rules.tries)
+  begins_so old new c is w =
+      asked_in_turn rules.auth rules.tries old.auth new.auth w.owner w.request old.secret w.moment w.peer w.frame w.asked (sending w.owner w.peer w.moment w.frame) refl refl is.servers some
+
+  goes_on_so : GoesOnSo Auth rules.auth rules.tries (InTurn rules.auth rules.tries)
+  goes_on_so old new c is w t was =
+      sent_in_turn rules.auth rules.tries old.auth new.auth old.secret old.tries w.moment w.whose.owner w.peer w.frame w.from.sent is.servers is.count some byte t was (sending w.whose.owner w.peer w.moment w.frame) refl refl
+
+  pub in_turn : (at id : ℕ) (r : Pending) → request_at last.auth at id ≡ Some r → WentInTurn rules.auth rules.tries (sends_of at id) at r
+  in_turn at id r there = (followed rules opening last calls Auth opened chain (InTurn rules.auth rules.tries) begins_so goes_on_so at id r there).1
+
   as_many : length last.auth ≡ length rules.auth
   as_many =
       let map_length : length (peers_of last.auth) ≡ length last.auth = length-map last.auth (λ (s : Server). s.peer) in
-      let same : length (peers_of last.auth) ≡ length rules.auth = ap (λ (l : List Peer). length l) (last_rules test rules calls last f).servers in
+      let same : length (peers_of last.auth) ≡ length rules.auth = ap (λ (l : List Peer). length l) (last_rules rules opening last calls Auth opened chain).servers in
       omega (arith, map_length, same)
 
   tries_are : last.tries ≡ rules.tries
-  tries_are = (last_rules test rules calls last f).count
+  tries_are = (last_rules rules opening last calls Auth opened chain).count
 
-  pub timed_out : (left : List Server) (now : ℕ) (owner : Owner) → IsGivenUp last.auth left last.tries now owner → test owner ≡ true → WentToEach rules.auth rules.tries now (sends_for Auth test calls)
-  timed_out left now owner g is_one =
+  pub timed_out : (left : List Server) (now : ℕ) (owner : Owner) (g : IsGivenUp last.auth left last.tries now owner) → WentToEach rules.auth rules.tries now (sends_of g.at g.due.id)
+  timed_out left now owner g =
       let r : Pending = g.first.oldest.request in
-      let pass : test r.owner ≡ true = ap test (sym g.owner_is) ∙ is_one in
-      let w = followed test rules calls last f some byte g.at g.due.id r (at_holder last.auth g.at g.due.id g.first.server r g.first.is g.first.oldest.is) pass in
+      let w = in_turn g.at g.due.id r (at_holder last.auth g.at g.due.id g.first.server r g.first.is g.first.oldest.is) in
       let wants = both_true (nat_le (r.sent_at + 3000) now) (nat_le last.tries r.sends) g.first.oldest.wants in
-      to_each rules.auth rules.tries (sends_for Auth test calls) g.at now r w
+      to_each rules.auth rules.tries (sends_of g.at g.due.id) g.at now r w
       (omega (arith, g.first.last, as_many))
       (omega (arith, leb-true last.tries r.sends wants.1, tries_are))
       (leb-true (r.sent_at + 3000) now wants.0)
 
-  pub not_out : (now at id : ℕ) (r : Pending) → NoneGivenUp last.auth last.tries now → id < 256 → request_at last.auth at id ≡ Some r → test r.owner ≡ true → WentToEach rules.auth rules.tries now (sends_for Auth test calls) → ⊥
-  not_out now at id r none small there pass e =
-      let w = followed test rules calls last f some byte at id r there pass in
-      let end = is_end rules.auth rules.tries (sends_for Auth test calls) at now r w e some in
-      let full = is_full rules.auth rules.tries (sends_for Auth test calls) at now r w e some in
-      let over = is_over rules.auth rules.tries (sends_for Auth test calls) at now r w e in
+  pub not_out : (now at id : ℕ) (r : Pending) → NoneGivenUp last.auth last.tries now → id < 256 → request_at last.auth at id ≡ Some r → WentToEach rules.auth rules.tries now (sends_of at id) → ⊥
+  not_out now at id r none small there e =
+      let w = in_turn at id r there in
+      let end = is_end rules.auth rules.tries (sends_of at id) at now r w e some in
+      let full = is_full rules.auth rules.tries (sends_of at id) at now r w e some in
+      let over = is_over rules.auth rules.tries (sends_of at id) at now r w e in
       let h = holder last.auth at id r there in
       let enough : last.tries ≤ r.sends = omega (arith, full, tries_are) in
       none at h.server (omega (arith, end, as_many)) h.is id r small h.request

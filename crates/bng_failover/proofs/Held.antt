@@ -31,6 +31,12 @@ stands [] i x y e = absurd (let both : None ≡ Some y = e in cc)
 stands (a ∷ l) zero x y e = refl
 stands (a ∷ l) (suc i) x y e = stands l i x y e
 
+-- nothing stands where none was written
+none_there : (places : List (Option Pending)) (id : ℕ) → request_of (set places id None) id ≡ None
+none_there [] id = refl
+none_there (p ∷ places) zero = refl
+none_there (p ∷ places) (suc id) = none_there places id
+
 -- the server that holds a request
 pub record IsHeld (servers : List Server) (at id : ℕ) (r : Pending) : Type 0 where
   pub server : Server
@@ -86,9 +92,19 @@ module _ (old : List Server) (at : ℕ) (s : Server) (is : slice_get old at ≡ 
       let one : one_at (is_of test) (request_of s.requests.places id) ≡ 1 = ap (one_at (is_of test)) mine ∙ ap (λ (b : Bool). cond b 1 0) pass in
       omega (arith, count, one)
 
+  -- under the freed identifier none is in hand
+  pub freed_gone : (a j : ℕ) (r : Pending) → request_at (without old at s id) a j ≡ Some r → a ≡ at → j ≡ id → ⊥
+  freed_gone a j r e same_at same_id =
+      let h = holder (without old at s id) a j r e in
+      let freed : Server = record s { requests = record s.requests { places = set s.requests.places id None } } in
+      let both : Some freed ≡ Some h.server = sym (stands old at freed s is) ∙ ap (λ (k : ℕ). slice_get (without old at s id) k) (sym same_at) ∙ h.is in
+      let one : freed ≡ h.server = cc in
+      let there : request_of (set s.requests.places id None) j ≡ Some r = ap (λ (x : Server). request_of x.requests.places j) one ∙ h.request in
+      absurd (let both : None ≡ Some r = sym (none_there s.requests.places id) ∙ ap (λ (k : ℕ). request_of (set s.requests.places id None) k) (sym same_id) ∙ there in cc)
+
   -- a request in hand is the one that an identifier was given, or is in hand with that identifier freed
   pub given : (table : Table) (x : Option Pending) → table.places ≡ set s.requests.places id x → (a j : ℕ) (r : Pending) → request_at (with_table old at s table) a j ≡ Some r
-      → ((a ≡ at) × (x ≡ Some r)) ⊎ (request_at (without old at s id) a j ≡ Some r)
+      → ((a ≡ at) × (j ≡ id) × (x ≡ Some r)) ⊎ (request_at (without old at s id) a j ≡ Some r)
   given table x set_one a j r e =
       let h = holder (with_table old at s table) a j r e in
       let full : Server = record s { requests = table } in
@@ -98,7 +114,7 @@ module _ (old : List Server) (at : ℕ) (s : Server) (is : slice_get old at ≡ 
       let there : request_of (set s.requests.places id x) j ≡ Some r =
       sym (ap (λ (ps : List (Option Pending)). request_of ps j) set_one) ∙ ap (λ (y : Server). request_of y.requests.places j) (sym here.1) ∙ h.request in
       ⊎_elim
-      (λ mine. inl (here.0, sym mine.1 ∙ there))
+      (λ mine. inl (here.0, mine.0, sym mine.1 ∙ there))
       (λ other. inr (at_holder (without old at s id) a j freed r (ap (λ (k : ℕ). slice_get (without old at s id) k) here.0 ∙ stands old at freed s is) (sym other ∙ there)))
       (rewritten_or s.requests.places id j x None None))
       (λ same. inr (at_holder (without old at s id) a j h.server r same h.request))

@@ -8,7 +8,8 @@ pub mod Once
 pub mod Twice
 pub mod Saying
 pub mod Held
+pub mod Trails
 pub mod Turns
-pub mod Sent
+pub mod Ways
 pub mod Ends
 pub mod Words

@@ -13,16 +13,17 @@ use Rattle.bng_failover.specs.declared.rules.FailAsked.{FailAsked}
 use Rattle.bng_failover.specs.declared.rules.FailAsked.TheVariants.{Send, Waiting}
 use Rattle.bng_failover.specs.Servers.{Gains, Keeps, Leaves, one_of, held, request_at}
 use Rattle.bng_failover.specs.Asking.{IsAskedAt, WhenSend, WhenWaiting}
+use Rattle.bng_failover.specs.Due.{Whose, IsSentFrom, NoneDue}
 use Rattle.bng_failover.specs.Replies.{Hears, answered}
-use Rattle.bng_failover.specs.State.{State, servers_of, ChangesLane, SendsOf, IsDue, timed_out}
+use Rattle.bng_failover.specs.State.{State, servers_of, ChangesLane, IsDue, timed_out}
 use Rattle.bng_failover.specs.Withdrawing.{Withdraws}
 
--- a request was asked, and was taken in or is to wait; a datagram was heard; what is due was asked for, and is of this owner's
--- request; an identifier was freed
+-- a request was asked, and was taken in or is to wait; a datagram was heard; what is due was asked for, and where it is a send it is
+-- of this request; an identifier was freed
 pub data Call : Type 0 where
   Asked : Lane → Owner → (request : List ℕ) → (now : ℕ) → Bytes → FailAsked → Call
   Heard : Lane → (from : Peer) → (octets : List ℕ) → Replied → Call
-  Due : (now : ℕ) → (timeouts : Bool) → Bytes → Option DueSend → (whose : Option Owner) → Call
+  Due : (now : ℕ) → (timeouts : Bool) → Bytes → Option DueSend → (whose : Option Whose) → Call
   Withdrawn : Lane → (server id : ℕ) → Option Owner → Call
 
 -- what `ask` promises
@@ -38,16 +39,18 @@ pub record DoesReply (old new : State) (lane : Lane) (from : Peer) (octets : Lis
   pub owners : Leaves (answered result) (servers_of old lane) (servers_of new lane)
   pub others : ChangesLane old new lane
 
--- what is due, and the owner of the request that it is of
-abbrev pub IsDueOf : (old new : State) → (now : ℕ) → (timeouts : Bool) → Bytes → Option DueSend → (whose : Option Owner) → Type 0
+-- what is due, and where it is a send the request that it is of
+abbrev pub IsDueOf : (old new : State) → (now : ℕ) → (timeouts : Bool) → Bytes → Option DueSend → (whose : Option Whose) → Type 0
 IsDueOf old new now timeouts frame None whose = IsDue old new now timeouts frame None × (whose ≡ None)
-IsDueOf old new now timeouts frame (Some (TimedOut owner)) whose = IsDue old new now timeouts frame (Some (TimedOut owner)) × (whose ≡ Some owner)
+IsDueOf old new now timeouts frame (Some (TimedOut owner)) whose = IsDue old new now timeouts frame (Some (TimedOut owner)) × (whose ≡ None)
 IsDueOf old new now timeouts frame (Some (Again lane peer)) None = ⊥
-IsDueOf old new now true frame (Some (Again lane peer)) (Some owner) = ⊥
-IsDueOf old new now false frame (Some (Again lane peer)) (Some owner) = SendsOf lane old new now owner peer frame
+IsDueOf old new now true frame (Some (Again lane peer)) (Some whose) = ⊥
+IsDueOf old new now false frame (Some (Again Auth peer)) (Some whose) = IsSentFrom Auth old.auth new.auth old.secret old.tries now whose peer frame × ChangesLane old new Auth
+IsDueOf old new now false frame (Some (Again Acct peer)) (Some whose) =
+    NoneDue Auth old.auth old.tries now × IsSentFrom Acct old.acct new.acct old.secret old.tries now whose peer frame × ChangesLane old new Acct
 
 -- what `due` promises
-pub record DoesDue (old new : State) (now : ℕ) (timeouts : Bool) (frame : Bytes) (result : Option DueSend) (whose : Option Owner) : Type 0 where
+pub record DoesDue (old new : State) (now : ℕ) (timeouts : Bool) (frame : Bytes) (result : Option DueSend) (whose : Option Whose) : Type 0 where
   pub due : IsDueOf old new now timeouts frame result whose
   pub kept : IfNone result (new ≡ old)
   pub auth : Leaves (timed_out result) old.auth new.auth

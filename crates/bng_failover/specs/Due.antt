@@ -1,5 +1,5 @@
 -- When a request is sent again, handed to the next server, or given up (RFC 2865 section 2.5, RFC 2866 section 2).
-use Rattle.std.specs.Prelude.{◌≡◌, ◌+◌, ◌-◌, ◌^◌, ◌≤◌, ◌<◌, min, ℕ, nat_lt, nat_le, if◌then◌else◌, List, Option, Some, None, length, slice_get}
+use Rattle.std.specs.Prelude.{◌≡◌, ◌+◌, ◌-◌, ◌^◌, ◌≤◌, ◌<◌, min, ℕ, nat_lt, nat_le, if◌then◌else◌, List, Option, Some, None, length, slice_get, unwrap_or}
 use Rattle.bng_base.specs.Packet.{Packet as Bytes}
 use Rattle.bng_base.specs.declared.address.Peer.{Peer}
 use Rattle.bng_rad_client.specs.declared.due.Due.{Due}
@@ -69,6 +69,21 @@ pub record IsSent (lane : Lane) (old new : List Server) (secret : List ℕ) (tri
   pub first : IsFirstDue lane old tries now at due
   pub owner_is : owner ≡ first.oldest.request.owner
   pub goes : Goes (goes_to lane (length old) tries at first.oldest.request) old new at first.server due.id first.oldest.request secret now peer frame
+
+-- a request that is sent again: its owner, the server that held it, from 0, and its identifier there, and the server that it is
+-- sent to
+pub record Whose : Type 0 where
+  pub owner : Owner
+  pub server : ℕ
+  pub id : ℕ
+  pub to : ℕ
+
+-- the request that is due first is this one
+pub record IsSentFrom (lane : Lane) (old new : List Server) (secret : List ℕ) (tries now : ℕ) (whose : Whose) (peer : Peer) (frame : Bytes) : Type 0 where
+  pub sent : IsSent lane old new secret tries now whose.owner peer frame
+  pub server : whose.server ≡ sent.at
+  pub id : whose.id ≡ sent.due.id
+  pub to : whose.to ≡ unwrap_or (goes_to lane (length old) tries sent.at sent.first.oldest.request) sent.at
 
 -- no request was sent as often to the last server as it is to be, and 3 s ago or longer
 abbrev pub NoneGivenUp : List Server → (tries now : ℕ) → Type 0

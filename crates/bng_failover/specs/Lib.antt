@@ -6,6 +6,5 @@ pub mod State
 pub mod Places
 pub mod Withdrawing
 pub mod Calls
-pub mod Sends
 pub mod Laws
-pub mod Words
+pub mod Sends

@@ -1,7 +1,7 @@
--- What calls send for requests, and how often to which server.
-use Rattle.std.specs.Prelude.{◌≡◌, ◌+◌, ◌≤◌, ◌<◌, ◌++◌, ℕ, Bool, List, Option, Some, None, sum_by, map, filter, filter_map, flat_map, replicate, take, slice_get, if◌then◌else◌}
-use Rattle.std.specs.List.{last_or}
-use Rattle.bng_base.specs.Chain.{Chain}
+-- What was sent for each request that is in hand, and how often to which server.
+use Rattle.std.specs.Prelude.{◌≡◌, ◌==◌, ◌&&◌, ◌+◌, ◌≤◌, ◌<◌, ◌++◌, ℕ, List, [], ◌∷◌, Option, Some, None, map, flat_map, replicate, take, slice_get, slice_index, if◌then◌else◌}
+use Rattle.std.specs.List.{fold, last_or}
+use Rattle.bng_base.specs.Packet.{Packet as Bytes}
 use Rattle.bng_base.specs.declared.address.Peer.{Peer}
 use Rattle.bng_rad_client.specs.declared.pending.Pending.{Pending}
 use Rattle.bng_rad_client.specs.declared.rules.Lane.{Lane}
@@ -9,10 +9,8 @@ use Rattle.bng_rad_client.specs.declared.rules.Lane.TheVariants.{Auth, Acct}
 use Rattle.bng_rad_client.specs.declared.rules.Owner.{Owner}
 use Rattle.bng_failover.specs.declared.rules.DueSend.TheVariants.{Send as Again, TimedOut}
 use Rattle.bng_failover.specs.declared.rules.FailAsked.TheVariants.{Send, Waiting}
-use Rattle.bng_failover.specs.declared.rules.FailoverRules.{FailoverRules}
-use Rattle.bng_failover.specs.Servers.{held}
-use Rattle.bng_failover.specs.State.{State, servers_of, IsOpened}
-use Rattle.bng_failover.specs.Calls.{Call, Asked, Heard, Due, Withdrawn, Does, taken_in}
+use Rattle.bng_failover.specs.Calls.{Call, Asked, Heard, Due, Withdrawn}
+use Rattle.bng_failover.specs.Laws.{SaysAgain}
 
 -- a datagram: for whose request, to which server, at which moment, and its octets
 pub record Sending : Type 0 where
@@ -21,66 +19,76 @@ pub record Sending : Type 0 where
   pub moment : ℕ
   pub octets : List ℕ
 
--- what was sent in a lane, for a call of a lane
-abbrev pub of_lane : Lane → Lane → Sending → Option Sending
-of_lane Auth Auth s = Some s
-of_lane Auth Acct s = None
-of_lane Acct Auth s = None
-of_lane Acct Acct s = Some s
+abbrev pub sending : Owner → Peer → (now : ℕ) → Bytes → Sending
+sending owner peer now frame = record { owner = owner; peer = peer; moment = now; octets = frame.payload }
 
--- the datagram of a lane that a call sent, if it sent one
-abbrev pub sent_by : Lane → Call → Option Sending
-sent_by lane (Asked of owner request now frame (Send peer)) = of_lane lane of (record { owner = owner; peer = peer; moment = now; octets = frame.payload })
-sent_by lane (Asked of owner request now frame Waiting) = None
-sent_by lane (Heard of from octets result) = None
-sent_by lane (Due now timeouts frame (Some (Again of peer)) (Some owner)) = of_lane lane of (record { owner = owner; peer = peer; moment = now; octets = frame.payload })
-sent_by lane (Due now timeouts frame (Some (Again of peer)) None) = None
-sent_by lane (Due now timeouts frame (Some (TimedOut owner)) whose) = None
-sent_by lane (Due now timeouts frame None whose) = None
-sent_by lane (Withdrawn of server id result) = None
+-- the trail of a request: the octets that were asked, and what was sent for it
+pub record Trail : Type 0 where
+  pub asked : List ℕ
+  pub sends : List Sending
 
--- the datagrams of a lane for requests whose owner passes a test, in the order in which they were sent
-abbrev pub sends_for : Lane → (Owner → Bool) → List Call → List Sending
-sends_for lane test calls = filter (λ (s : Sending). test s.owner) (filter_map (sent_by lane) calls)
+abbrev pub no_trail : Trail
+no_trail = record { asked = []; sends = [] }
 
--- what was asked in a lane, for a call of a lane
-abbrev pub lane_only : Lane → Lane → Option (List ℕ) → Option (List ℕ)
-lane_only Auth Auth o = o
-lane_only Auth Acct o = None
-lane_only Acct Auth o = None
-lane_only Acct Acct o = o
+-- a request that was sent once, and one that was sent once more
+abbrev pub begun : (request : List ℕ) → Sending → Trail
+begun request s = record { asked = request; sends = s ∷ [] }
 
--- the octets of the request of a lane that a call took in, if it took one in whose owner passes a test
-abbrev pub asked_by : Lane → (Owner → Bool) → Call → Option (List ℕ)
-asked_by lane test (Asked of owner request now frame (Send peer)) = lane_only lane of (if test owner then Some request else None)
-asked_by lane test (Asked of owner request now frame Waiting) = None
-asked_by lane test (Heard of from octets result) = None
-asked_by lane test (Due now timeouts frame result whose) = None
-asked_by lane test (Withdrawn of server id result) = None
+abbrev pub longer : Trail → Sending → Trail
+longer t s = record t { sends = t.sends ++ s ∷ [] }
 
--- what was asked in requests of a lane that calls took in, whose owner passes a test, in order
-abbrev pub asked_in : Lane → (Owner → Bool) → List Call → List (List ℕ)
-asked_in lane test calls = filter_map (asked_by lane test) calls
+-- the trails of requests, by the server that holds each, from 0, and its identifier there
+abbrev pub Trails : Type 0
+Trails = (server id : ℕ) → Trail
 
--- the servers to which they went
+-- where one request has this trail
+abbrev pub with_trail : Trails → (server id : ℕ) → Trail → Trails
+with_trail trails server id t = λ s i. if (s == server) && (i == id) then t else trails s i
+
+-- the Identifier of a packet (RFC 2865 section 3)
+abbrev pub identifier_of : List ℕ → ℕ
+identifier_of octets = slice_index octets 1
+
+-- what a call of a lane does to the trails in a lane
+abbrev pub in_its_lane : Lane → Lane → (new old : Trails) → Trails
+in_its_lane Auth Auth new old = new
+in_its_lane Auth Acct new old = old
+in_its_lane Acct Auth new old = old
+in_its_lane Acct Acct new old = new
+
+-- The trails in a lane after a call: that of a request that is taken in begins at the first server, and that of one that is sent
+-- again goes on, at the server to which it is sent.
+abbrev pub after : Lane → Trails → Call → Trails
+after lane trails (Asked of owner request now frame (Send peer)) =
+    in_its_lane lane of (with_trail trails 0 (identifier_of frame.payload) (begun request (sending owner peer now frame))) trails
+after lane trails (Asked of owner request now frame Waiting) = trails
+after lane trails (Heard of from octets result) = trails
+after lane trails (Due now timeouts frame (Some (Again of peer)) (Some whose)) =
+    in_its_lane lane of (with_trail trails whose.to (identifier_of frame.payload) (longer (trails whose.server whose.id) (sending whose.owner peer now frame))) trails
+after lane trails (Due now timeouts frame (Some (Again of peer)) None) = trails
+after lane trails (Due now timeouts frame (Some (TimedOut owner)) whose) = trails
+after lane trails (Due now timeouts frame None whose) = trails
+after lane trails (Withdrawn of server id result) = trails
+
+-- the trails in a lane after calls that begin with no request in hand
+abbrev pub trails_of : Lane → List Call → Trails
+trails_of lane calls = fold (after lane) (λ s i. no_trail) calls
+
+-- All that was sent for a request names its owner and says what was asked, and so does what is kept of it, which has the identifier
+-- that the request has.
+pub record IsTrailOf (t : Trail) (id : ℕ) (r : Pending) : Type 0 where
+  pub owner : (k : ℕ) (s : Sending) → slice_get t.sends k ≡ Some s → s.owner ≡ r.owner
+  pub says : (k : ℕ) (s : Sending) → slice_get t.sends k ≡ Some s → SaysAgain t.asked s.octets
+  pub kept : SaysAgain t.asked r.octets
+  pub identifier : identifier_of r.octets ≡ id
+
+-- the servers to which datagrams went
 abbrev pub servers_sent : List Sending → List Peer
 servers_sent sends = map (λ (s : Sending). s.peer) sends
 
 -- each server so many times, one server after another
 abbrev pub each_times : ℕ → List Peer → List Peer
 each_times tries servers = flat_map (λ (p : Peer). replicate tries p) servers
-
--- One request: no request of a lane whose owner passes a test was in hand when these calls began, and one at most was taken in
--- since. Before them there were calls from the opening on.
-pub record FollowsOne (rules : FailoverRules) (lane : Lane) (test : Owner → Bool) (calls : List Call) (last : State) : Type 0 where
-  pub opening : State
-  pub opened : IsOpened rules opening
-  pub earlier : List Call
-  pub start : State
-  pub before : Chain Does opening earlier start
-  pub none : held test (servers_of start lane) ≡ 0
-  pub once : sum_by (taken_in lane test) calls ≤ 1
-  pub since : Chain Does start calls last
 
 -- These sends of a request, which the server at a place holds, went to each server before it so many times, in their order, and
 -- then to it, as often as the request counts; the last one at the moment that the request keeps.

@@ -1,4 +1,4 @@
-ghost use Rattle.std.specs.Prelude.{◌≡◌, ◌≤◌, ◌<◌, ◌↔◌, IsTrue, IfOk, IfSome, IfNone, length};
+ghost use Rattle.std.specs.Prelude.{◌≡◌, ◌≤◌, ◌<◌, ◌↔◌, IsTrue, true, IfOk, IfSome, IfNone, length};
 ghost use Rattle.std.specs.Option.{option_map};
 ghost use Rattle.bng_radius_wire.specs.Grammar.{Packet, IsRadius};
 ghost use Rattle.bng_radius_wire.specs.Digests.{CanBeSigned};
@@ -158,6 +158,7 @@ impl Failover {
     pub fn due(&mut self, now: u64, timeouts: bool, into: &mut Frame) -> Option<DueSend>
         ensures due { IsDue self.old self.new now timeouts into.new result }
         ensures kept { IfNone result ((self.new ≡ self.old) × (into.new ≡ into.old)) }
+        ensures unsent { timeouts ≡ true → into.new ≡ into.old }
         ensures auth { Leaves (timed_out result) self.old.auth self.new.auth }
         ensures acct { Keeps self.old.acct self.new.acct }
     {

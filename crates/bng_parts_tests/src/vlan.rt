@@ -148,6 +148,38 @@ fn frames_go_to_the_entry_of_their_tags(rt: HostRuntime) -> Result<(), Fail> {
     }
 }
 
+// The same addresses under three tags, of which two are entries'.
+fn three_tags(alloc: Global) -> Result<Vec<Arrival>, AllocError> {
+    let script = vec![in alloc;
+        on_trunk(PEER, &VLAN_100, 1),
+        on_trunk(PEER, &VLAN_101, 2),
+        on_trunk(PEER, &VLAN_102, 3),
+    ]?;
+    Ok(script)
+}
+
+#[test]
+fn one_address_under_two_tags_is_on_two_ports(rt: HostRuntime) -> Result<(), Fail> {
+    let alloc = rt.alloc();
+    let mut inner = scripted(alloc, three_tags(alloc)?)?;
+    let mut told = Telling { plant: &mut inner };
+    let map = map(alloc)?;
+    match VlanPlant::open(alloc, &mut told, &map) {
+        Err(VlanError::OutOfMemory) => {
+            assert_holds(&rt, false);
+            Ok(())
+        }
+        Ok(mut plant) => {
+            for (port, mark) in [(1, 1), (2, 2)] {
+                gives(&rt, &mut plant, port, mark);
+            }
+            is_empty(&rt, &mut plant, 1);
+            assert_same(&rt, &plant.strays(), &1);
+            Ok(())
+        }
+    }
+}
+
 // Frames of no entry: with other tags, without tags, with an S-TAG alone, of a stranger, and cut.
 fn stray_frames(alloc: Global) -> Result<Vec<Arrival>, AllocError> {
     let script = vec![in alloc;

@@ -192,15 +192,64 @@ fn the_second_server_answers_where_the_first_is_silent(rt: HostRuntime) -> Resul
 #[test]
 fn a_request_times_out_after_all_tries_of_each_server(rt: HostRuntime) -> Result<(), Fail> {
     let mut failover = opened(rt.alloc(), 2)?;
-    let frame = go_to_second(&rt, &mut failover)?;
-    assert_holds(
-        &rt,
-        is_sent(&mut failover, Lane::Auth, 9000, SECOND, frame.payload()),
-    );
+    let frame = ask_first(&rt, &mut failover)?;
+    for (before, now, to) in [
+        (2999, 3000, FIRST),
+        (5999, 6000, SECOND),
+        (8999, 9000, SECOND),
+    ] {
+        assert_holds(&rt, none_due(&mut failover, before, false));
+        assert_holds(&rt, none_due(&mut failover, now, true));
+        assert_holds(
+            &rt,
+            is_sent(&mut failover, Lane::Auth, now, to, frame.payload()),
+        );
+    }
     assert_holds(&rt, timed_out(&mut failover, 11_999) == None);
     assert_holds(&rt, none_due(&mut failover, 12_000, false));
     assert_holds(&rt, timed_out(&mut failover, 12_000) == Some(ASK));
     assert_holds(&rt, timed_out(&mut failover, 12_000) == None);
+    Ok(())
+}
+
+// Whether an Access-Request with this Identifier is due at this moment, to this server.
+fn is_sent_as(failover: &mut Failover, now: u64, to: Peer, wanted: u8) -> bool {
+    let mut into = Frame::new();
+    match failover.due(now, false, &mut into) {
+        Some(DueSend::Send(Lane::Auth, peer)) => match into.payload() {
+            [_, id, ..] => peer == to && *id == wanted,
+            _ => false,
+        },
+        _ => false,
+    }
+}
+
+#[test]
+fn two_requests_of_one_owner_go_each_its_way(rt: HostRuntime) -> Result<(), Fail> {
+    let mut failover = opened(rt.alloc(), 2)?;
+    ask_first(&rt, &mut failover)?;
+    let asked = ask_bare(
+        &mut failover,
+        Lane::Auth,
+        ASK,
+        codes::ACCESS_REQUEST,
+        100,
+    );
+    assert_holds(&rt, asked.is_some());
+    for (now, to, id) in [
+        (3000, FIRST, 0),
+        (3100, FIRST, 1),
+        (6000, SECOND, 0),
+        (6100, SECOND, 1),
+        (9000, SECOND, 0),
+        (9100, SECOND, 1),
+    ] {
+        assert_holds(&rt, is_sent_as(&mut failover, now, to, id));
+    }
+    for now in [12_000, 12_100] {
+        assert_holds(&rt, timed_out(&mut failover, now) == Some(ASK));
+        assert_holds(&rt, timed_out(&mut failover, now) == None);
+    }
     Ok(())
 }
 

@@ -5,3 +5,6 @@ pub mod TrunkReading
 pub mod EntryReceive
 pub mod Putting
 pub mod TaggedSends
+pub mod Sums
+pub mod Accounting
+pub mod ReadBack

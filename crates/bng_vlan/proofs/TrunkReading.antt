@@ -1,6 +1,7 @@
 -- The reading of a trunk, receive by receive.
 use Rattle.std.proofs.Common.{◌≡◌, ℕ, ◌+◌, ◌-◌, ◌<◌, ◌≤◌, ◌⊎◌, inl, inr, Bool, List, [], ◌∷◌, ◌++◌, Some, refl, sym, ap, subst, ◌∙◌, append_assoc, append-nil, length, length-append, map, filter, take, arith}
 use Rattle.std.specs.List.{AllByRecursion, slice_get, count_by}
+use Rattle.std.proofs.lemmas.Bool.{cases_lt}
 use Rattle.std.proofs.lemmas.List.{map-append, length-map, nil_from_length, take_at, take_all}
 use Rattle.bng_base.specs.declared.address.Peer.{Peer}
 use Rattle.bng_base.specs.declared.outside.Heard.TheVariants.{Receive}
@@ -15,7 +16,7 @@ use Rattle.bng_vlan.specs.Map.{Trunks, role_of}
 use Rattle.bng_vlan.specs.Frames.{Came, is_of, is_stray, frames_of, receive_of, datagram_of}
 use Rattle.bng_vlan.specs.Waiting.{Waiting, Keeps, Holds, counted, frames_at}
 use Rattle.bng_vlan.specs.Hearing.{trunk_heard, trunk_stretch}
-use Rattle.bng_vlan.specs.Reading.{IsRead, ReadsUpTo, before_last}
+use Rattle.bng_vlan.specs.Reading.{HaveRoom, IsRead, ReadsUpTo, before_last}
 use Rattle.bng_vlan.specs.UntaggedLaws.{all_join, counts, frames_of_append, strays_append}
 
 -- how far the reading has come: these frames were taken, and no answer ended it yet
@@ -24,6 +25,7 @@ pub record SoFar (m : Trunks) (place : ℕ) (e : VlanEntry) (v : Waiting) (came 
   pub keeps : Keeps m v came w
   pub oldest : 0 < length (frames_at place v.frames) → came ≡ []
   pub until : filter (λ c. is_of m c e) (take (length came - 1) came) ≡ []
+  pub room : 0 < length came → HaveRoom m e.trunk v (take (length came - 1) came)
 
 -- one receive more, that took a frame
 pub took_more : (trunk : ℕ) (came : List Came) (from : Peer) (cut : Bool) (octets : List ℕ)
@@ -49,6 +51,7 @@ begun m place e v = record {
   keeps = record { each = λ i d stands. append-nil (frames_at i v.frames); strays = zero_more v.strays };
   oldest = λ _. refl;
   until = refl;
+  room = λ some. absurd (omega (arith, some));
 }
   where
     zero_more : (n : ℕ) → n ≡ counted n 0
@@ -69,8 +72,15 @@ module _ (m : Trunks) (place : ℕ) (e : VlanEntry) (v : Waiting) (came : List C
       let parts = length-append (frames_at place v.frames) (frames_of m e came) in
       omega arith
 
-  pub one_more : (c : Came) (u w : Waiting) → c.trunk ≡ e.trunk → SoFar m place e v came u → length (frames_at place u.frames) ≡ 0 → Keeps m u (c ∷ []) w → SoFar m place e v (came ++ c ∷ []) w
-  one_more c u w same far none put = record {
+  -- where no frame of the trunk is held there is room
+  has_room : (u : Waiting) → Keeps m v came u → (Holds m.entries u.frames e.trunk → ⊥) → HaveRoom m e.trunk v came
+  has_room u keeps free i d at same = elim (cases_lt 16 (length (frames_at i u.frames))) [
+    | inl full ↦ absurd (free (record { place = i; entry = d; stands = at; same = same; full = full }))
+    | inr few ↦ omega (arith, few, ap length (keeps.each i d at))
+  ]
+
+  pub one_more : (c : Came) (u w : Waiting) → c.trunk ≡ e.trunk → SoFar m place e v came u → length (frames_at place u.frames) ≡ 0 → (Holds m.entries u.frames e.trunk → ⊥) → Keeps m u (c ∷ []) w → SoFar m place e v (came ++ c ∷ []) w
+  one_more c u w same far none free put = record {
     of_trunk = all_join (λ (c : Came). c.trunk ≡ e.trunk) came (c ∷ []) far.of_trunk (same, tt);
     keeps = record {
       each = λ i d at.
@@ -84,6 +94,9 @@ module _ (m : Trunks) (place : ℕ) (e : VlanEntry) (v : Waiting) (came : List C
     until =
         let size : length (came ++ c ∷ []) - 1 ≡ length came = omega (arith, length-append came (c ∷ [])) in
         ap (λ n. filter (λ c. is_of m c e) (take n (came ++ c ∷ []))) size ∙ ap (filter (λ c. is_of m c e)) (take_at came (c ∷ []) (length came) refl) ∙ none_came u far.keeps none;
+    room = λ some.
+        let size : length (came ++ c ∷ []) - 1 ≡ length came = omega (arith, length-append came (c ∷ [])) in
+        subst (HaveRoom m e.trunk v) (sym (ap (λ n. take n (came ++ c ∷ [])) size ∙ take_at came (c ∷ []) (length came) refl)) (has_room u far.keeps free);
   }
 
   heard_size : (ending : Ending) (n : ℕ) → length (trunk_heard e.trunk [] ending) ≡ n → length (trunk_heard e.trunk came ending) ≡ length came + n
@@ -102,6 +115,7 @@ module _ (m : Trunks) (place : ℕ) (e : VlanEntry) (v : Waiting) (came : List C
         up_to = record {
           oldest = λ some. (far.oldest some, refl);
           until = ap (λ n. filter (λ c. is_of m c e) (take n came)) (let s : length (trunk_heard e.trunk came Stopped) - 1 ≡ length came - 1 = omega arith in s) ∙ far.until;
+          room = λ some. subst (HaveRoom m e.trunk v) (ap (λ n. take n came) (let s : length came - 1 ≡ length (trunk_heard e.trunk came Stopped) - 1 = omega arith in s)) (far.room (omega (arith, some, size)));
           most = omega arith;
         };
         drained = λ none. inr (inr (elim why [ inl some ↦ absurd (omega arith) | inr rest ↦ rest ]));
@@ -109,8 +123,8 @@ module _ (m : Trunks) (place : ℕ) (e : VlanEntry) (v : Waiting) (came : List C
       }
 
   -- an answer ended it, after which no frame waits
-  by_answer : (ending : Ending) (w : Waiting) → length (trunk_heard e.trunk [] ending) ≡ 1 → (ending ≡ Broken) ⊎ (ending ≡ Dry) → SoFar m place e v came w → length came < 224 → length (frames_at place w.frames) ≡ 0 → IsRead m place e v came ending w
-  by_answer ending w one which far few none =
+  by_answer : (ending : Ending) (w : Waiting) → length (trunk_heard e.trunk [] ending) ≡ 1 → (ending ≡ Broken) ⊎ (ending ≡ Dry) → SoFar m place e v came w → length came < 224 → length (frames_at place w.frames) ≡ 0 → (Holds m.entries w.frames e.trunk → ⊥) → IsRead m place e v came ending w
+  by_answer ending w one which far few none free =
       let size : length (trunk_heard e.trunk came ending) ≡ length came + 1 = heard_size ending 1 one in
       record {
         of_trunk = far.of_trunk;
@@ -119,14 +133,17 @@ module _ (m : Trunks) (place : ℕ) (e : VlanEntry) (v : Waiting) (came : List C
           oldest = λ some. let z = none_waited w far.keeps none in absurd (omega arith);
           until = ap (λ n. filter (λ c. is_of m c e) (take n came)) (let s : length (trunk_heard e.trunk came ending) - 1 ≡ length came = omega arith in s)
               ∙ ap (filter (λ c. is_of m c e)) (take_all (length came) came (omega arith)) ∙ none_came w far.keeps none;
+          room = λ some.
+              subst (HaveRoom m e.trunk v) (sym (ap (λ n. take n came) (let s : length (trunk_heard e.trunk came ending) - 1 ≡ length came = omega arith in s) ∙ take_all (length came) came (omega arith)))
+              (has_room w far.keeps free);
           most = omega arith;
         };
         drained = λ _. elim which [ inl broken ↦ inl broken | inr dry ↦ inr (inl dry) ];
         ended = λ some. absurd (omega arith);
       }
 
-  pub is_dry : (w : Waiting) → SoFar m place e v came w → length came < 224 → length (frames_at place w.frames) ≡ 0 → IsRead m place e v came Dry w
-  is_dry w far few none = by_answer Dry w refl (inr refl) far few none
+  pub is_dry : (w : Waiting) → SoFar m place e v came w → length came < 224 → length (frames_at place w.frames) ≡ 0 → (Holds m.entries w.frames e.trunk → ⊥) → IsRead m place e v came Dry w
+  is_dry w far few none free = by_answer Dry w refl (inr refl) far few none free
 
-  pub is_broken : (w : Waiting) → SoFar m place e v came w → length came < 224 → length (frames_at place w.frames) ≡ 0 → IsRead m place e v came Broken w
-  is_broken w far few none = by_answer Broken w refl (inl refl) far few none
+  pub is_broken : (w : Waiting) → SoFar m place e v came w → length came < 224 → length (frames_at place w.frames) ≡ 0 → (Holds m.entries w.frames e.trunk → ⊥) → IsRead m place e v came Broken w
+  is_broken w far few none free = by_answer Broken w refl (inl refl) far few none free

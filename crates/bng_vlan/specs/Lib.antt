@@ -9,3 +9,4 @@ pub mod Reading
 pub mod Ring
 pub mod Views
 pub mod UntaggedLaws
+pub mod Once

@@ -41,6 +41,10 @@ nobody = record { ip = record { 0 = 0 }; port = 0 }
 abbrev pub IsVlan : ℕ → Type 0
 IsVlan vlan = (1 ≤ vlan) × (vlan ≤ 4094)
 
+pub record AreVlans (t : Tags) : Type 0 where
+  pub outer : IsVlan t.outer
+  pub inner : (vlan : ℕ) → t.inner ≡ Some vlan → IsVlan vlan
+
 -- an entry of one of so many trunks
 pub record IsEntry (trunks : ℕ) (e : VlanEntry) : Type 0 where
   pub trunk_from : 1 ≤ e.trunk

@@ -1,5 +1,5 @@
 -- How far a trunk is read for one receive of an entry.
-use Rattle.std.specs.Prelude.{◌≡◌, ◌<◌, ◌≤◌, ◌↔◌, ◌⊎◌, ℕ, ◌-◌, ◌+◌, List, [], Option, Some, filter, take, length, slice_get}
+use Rattle.std.specs.Prelude.{◌≡◌, ◌<◌, ◌≤◌, ◌↔◌, ◌⊎◌, ℕ, ◌-◌, ◌+◌, ◌++◌, List, [], Option, Some, filter, take, length, slice_get}
 use Rattle.std.specs.List.{AllByRecursion}
 use Rattle.bng_base.specs.declared.outside.Role.{Role}
 use Rattle.bng_base.specs.declared.outside.Received.{Received}
@@ -9,7 +9,7 @@ use Rattle.bng_vlan.specs.declared.map.VlanEntry.{VlanEntry}
 use Rattle.bng_vlan.specs.declared.ending.Ending.{Ending}
 use Rattle.bng_vlan.specs.declared.ending.Ending.TheVariants.{Stopped, Dry, Broken}
 use Rattle.bng_vlan.specs.Map.{Trunks, entry_of}
-use Rattle.bng_vlan.specs.Frames.{Came, is_of}
+use Rattle.bng_vlan.specs.Frames.{Came, is_of, frames_of}
 use Rattle.bng_vlan.specs.Waiting.{Waiting, Holds, Keeps, frames_at}
 use Rattle.bng_vlan.specs.Hearing.{trunk_heard, trunk_stretch}
 
@@ -17,10 +17,16 @@ use Rattle.bng_vlan.specs.Hearing.{trunk_heard, trunk_stretch}
 abbrev pub before_last : VlanEntry → List Came → Ending → List Came
 before_last e came ending = take (length (trunk_heard e.trunk came ending) - 1) came
 
--- Where a frame waits for the entry the trunk is left alone. Else it is read, no further than to the first frame of the entry.
+-- once these came and none was given, at most 16 frames wait for each entry of a trunk
+abbrev pub HaveRoom : Trunks → (trunk : ℕ) → Waiting → List Came → Type 0
+HaveRoom m trunk v came = (i : ℕ) (d : VlanEntry) → slice_get m.entries i ≡ Some d → d.trunk ≡ trunk → length (frames_at i v.frames ++ frames_of m d came) ≤ 16
+
+-- Where a frame waits for the entry the trunk is left alone. Else it is read, no further than to the first frame of the entry, and only
+-- while no frame of it is held: before each receive at most 16 frames wait for each of its entries.
 pub record ReadsUpTo (m : Trunks) (place : ℕ) (e : VlanEntry) (v : Waiting) (came : List Came) (ending : Ending) : Type 0 where
   pub oldest : 0 < length (frames_at place v.frames) → (came ≡ []) × (ending ≡ Stopped)
   pub until : filter (λ c. is_of m c e) (before_last e came ending) ≡ []
+  pub room : 0 < length (trunk_heard e.trunk came ending) → HaveRoom m e.trunk v (before_last e came ending)
   pub most : length (trunk_heard e.trunk came ending) ≤ 224
 
 -- Why a trunk gave no frame: it answered Empty, a frame of it is held, or 224 of its frames were read.

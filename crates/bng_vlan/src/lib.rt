@@ -5,6 +5,7 @@
 
 mod backlog;
 mod ending;
+mod laws;
 mod map;
 mod queue;
 mod tag;
@@ -13,6 +14,7 @@ mod telling;
 mod trunk_plant;
 mod vlan_plant;
 
+pub use crate::laws::{each_frame_is_given_once, what_is_written_is_read};
 pub use crate::map::{VlanEntry, VlanError, VlanMap};
 pub use crate::tag::Tags;
 pub use crate::telling::Telling;

@@ -58,7 +58,10 @@ fn read<P: TrunkPlant>(
     ensures reads { (came : List Came) × P.adds plant.old (trunk_stretch entry.trunk came result) plant.new × IsRead (map_of backlog.old) place entry (waiting_of backlog.old) came result (waiting_of backlog.new) }
 {
     for _ in 0..READ_MOST {
-        if backlog.number(place) > 0 || backlog.holds(entry.trunk) {
+        if backlog.number(place) > 0 {
+            return Ending::Stopped;
+        }
+        if backlog.holds(entry.trunk) {
             return Ending::Stopped;
         }
         match plant.recv(role_of(entry.trunk), into) {
