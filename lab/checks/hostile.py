@@ -18,9 +18,9 @@ from machine.gateway import PROGRAM, Lab
 from peers.concentrators import Tunnel
 from peers.loopback import udp
 from peers.mangling import mangled
-from peers.pppoe import BROADCAST, DISCOVERY, PADI, SERVICE_NAME, Frame, frame_octets, tags_octets
+from peers.pppoe import BROADCAST, DISCOVERY, HOST_UNIQ, PADI, SERVICE_NAME, Frame, frame_octets, tags_octets
 from peers.segment import Segment
-from peers.storm import FAULTS, SHARDS, Storm
+from peers.storm import ASKING, FAULTS, SHARDS, Storm
 
 COUNT = 200_000
 
@@ -57,24 +57,35 @@ LOOK, ANSWERING = 50, 15.0
 class World(Storm):
     """The storm in steps, each of which ends once the gateway has taken all that was sent."""
 
-    def say(self, word):
-        """Says a word to Control, hears all until its answer comes, and says whether one came."""
-        self.owed += 1
-        self.throw(self.control, word, "control")
-        end = time.monotonic() + ANSWERING
-        while self.came < self.owed:
-            self.poll(max(0, end - time.monotonic()))
+    def hear_until(self, what, is_there):
+        """Hears all until something has come, and says whether it came."""
+        until = time.monotonic() + ANSWERING
+        while not is_there():
+            self.poll(max(0, until - time.monotonic()))
             if self.lab.program.poll() is not None:
                 self.found(f"the gateway ended with status {self.lab.program.returncode}")
                 return False
-            if time.monotonic() > end:
-                self.found(f"Control did not answer {word!r} in {ANSWERING:.0f} s")
+            if time.monotonic() > until:
+                self.found(f"{what} got no answer in {ANSWERING:.0f} s")
                 return False
         return True
 
     def settle(self):
-        """Two answers of Control: between them a whole turn took what was sent before."""
-        return self.say(b"?") and self.say(b"?")
+        """Three PADOs, for each of which a PADI was sent once the one before had come. The first is of a turn that may have looked for datagrams
+        before some of ours came. That of the second takes all, and has sent all that is to be said to them once the third comes."""
+        for _ in range(3):
+            self.asked += 1
+            tags = tags_octets([(SERVICE_NAME, b""), (HOST_UNIQ, self.asked.to_bytes(8, "big"))])
+            self.throw(self.lab.access, frame_octets(Frame(BROADCAST, ASKING, DISCOVERY, PADI, 0, tags)), "access")
+            if not self.hear_until("a PADI", lambda: self.offered == self.asked):
+                return False
+        return True
+
+    def say(self, word):
+        """Says a word to Control, and says whether its answer came, after those to all that was said to it before."""
+        self.owed += 1
+        self.throw(self.control, word, "control")
+        return self.hear_until(f"{word!r} to Control", lambda: self.came >= self.owed)
 
     def tick(self):
         self.now = time.monotonic()
@@ -194,6 +205,8 @@ def play(count, seed, program=PROGRAM):
 
 def calm(world):
     """Lets the honest subscribers end their sessions, with no storm."""
+    ours = {end.getsockname()[1] for end in world.ends()}
+    world.lost = lost_in_sockets(ours | set(world.lab.ports.values()))
     if world.faults:
         return
     until = time.monotonic() + 30
@@ -213,6 +226,8 @@ def end(world):
     lab = world.lab
     if lab.program.poll() is not None:
         return
+    for it in (*world.customers, *world.callers):
+        it.enter("leaving", world.now)
     world.throw(world.control, b"stop", "control")
     world.chance = random.Random(0)
     world.hearers[world.control] = lambda octets: None
@@ -258,6 +273,7 @@ def tell(world, seconds):
             world.found(f"the memory grew by {last - first} KiB")
     if hasattr(world, "report"):
         print("dropped: " + ", ".join(line.partition(" ")[2] for line in world.report if line.startswith("drop ")))
+    print(f"lost in full sockets of the gateway or the lab: {world.lost}")
     print(f"{world.hurled} hostile datagrams in {seconds:.0f} s by the seed {world.seed}: {len(world.faults)} faults")
 
 

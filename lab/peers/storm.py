@@ -16,7 +16,7 @@ from peers.intruders import Door, IntruderCaller, IntruderHost, Store, Trapdoor,
 from peers.l2tp import MESSAGE_TYPE, RESULT_CODE, STOP_CCN, read, short
 from peers.loopback import LOOPBACK, udp, widen
 from peers.mangling import mangled
-from peers.pppoe import frame_octets, read_frame
+from peers.pppoe import HOST_UNIQ, PADO, frame_octets, read_frame, read_tags
 from peers.segment import Segment
 from peers.storm_server import HONEST_NET, StormServer, unlike
 
@@ -29,10 +29,16 @@ HONEST_LAC, STRANGER = "127.0.0.7", "127.0.0.9"
 CIRCUIT, CIRCUIT_MAC = socket.inet_aton("10.0.0.2"), bytes.fromhex("020000000001")
 PORT = bytes.fromhex("0200000000fe")
 
-# How many of each role go out in a step; the gateway takes more of each in one turn.
-PORTIONS = {"access": 36, "access2": 30, "tunnel": 36, "core": 14, "auth": 9, "acct": 9, "coa": 10, "control": 3}
+# The MAC of a host that asks for offers alone, by which the storm knows what the gateway has taken.
+ASKING = bytes.fromhex("02000000000a")
 
-KEPT_BEFORE_A_FAULT = 1500
+# How many of each role go out in a step: not more than the gateway takes of each in one turn, and than fits the system's buffers.
+PORTIONS = {"access": 80, "access2": 72, "tunnel": 90, "core": 36, "auth": 24, "acct": 20, "coa": 24, "control": 6}
+
+# What a request for a change may ask, and, at the end, what may stand in any.
+CHANGES = ((11, b"slow"), (11, b"default"), (27, bytes(3) + b"\2"), (28, bytes(4)), (85, bytes(4)), (1, b"nobody"), (33, b"relay"), (33, b""))
+
+KEPT_BEFORE_A_FAULT = 2500
 FAULTS = 8
 
 
@@ -49,7 +55,7 @@ class Storm(StormServer):
         self.starts, self.stops, self.live = {}, {}, {}
         self.sums, self.asked_again = collections.defaultdict(lambda: [0, 0]), 0
         self.resident, self.last_stats = [], b""
-        self.came = self.owed = 0
+        self.came = self.owed = self.asked = self.offered = 0
         self.made_at = {}
         self.withheld = {}
         self.stranger, self.control, self.unknown_lac = udp(STRANGER), udp(), udp(STRANGER)
@@ -255,7 +261,7 @@ class Storm(StormServer):
         else:
             kind = chance.choice((40, 43, 43))
             attributes = [(44, chance.choice(self.ids))] if self.ids and chance.random() < 0.7 else [(8, bytes([10, 0, 0, chance.randrange(3, 90)]))]
-            attributes += chance.choices(((11, b"slow"), (11, b"default"), (27, bytes(3) + b"\2"), (28, bytes(4)), (85, bytes(4)), (33, b"relay"), (1, b"nobody")), k=2)
+            attributes += chance.choices(CHANGES if kind == 43 or chance.random() < 0.2 else CHANGES[-2:], k=2)
             body = radius_packets.ask(kind, chance.randrange(256), *attributes)[20:]
             if chance.random() < 0.6:
                 way, body = mangled(chance, "attributes", body, octets[20:])
@@ -290,6 +296,9 @@ class Storm(StormServer):
         frame = read_frame(octets)
         if frame is None or frame_octets(frame) != octets:
             self.found(f"a port sent what is no PPPoE frame, or one with padding: {octets.hex()}")
+            return
+        if frame.destination == ASKING and frame.code == PADO:
+            self.offered = int.from_bytes(dict(read_tags(frame.payload)).get(HOST_UNIQ, b""), "big")
             return
         host = self.access.hosts.get(frame.destination)
         if frame.ethertype == 0x8864 and frame.payload[:2] == b"\0\x21":
