@@ -50,8 +50,9 @@ down_ebs = 0
 # After the first so many parts of the datagrams the memory may grow by so many KiB.
 WARM, GROWTH = 0.3, 8192
 
-# Steps between two looks at the sums and the memory, and seconds for an answer of Control.
-LOOK, ANSWERING = 50, 15.0
+# Steps between two looks at the sums and the memory, and between two octet strings that are asked again; seconds for an answer; and after how
+# many datagrams it says how far it is.
+LOOK, PROBE, ANSWERING, TELLING = 40, 8, 20.0, 50_000
 
 
 class World(Storm):
@@ -70,16 +71,17 @@ class World(Storm):
                 return False
         return True
 
+    def is_offered(self):
+        """Waits for the PADO to a PADI: by then the gateway has taken all that was sent to port 1, and most of the rest."""
+        self.asked += 1
+        tags = tags_octets([(SERVICE_NAME, b""), (HOST_UNIQ, self.asked.to_bytes(8, "big"))])
+        self.throw(self.lab.access, frame_octets(Frame(BROADCAST, ASKING, DISCOVERY, PADI, 0, tags)), "access")
+        return self.hear_until("a PADI", lambda: self.offered == self.asked)
+
     def settle(self):
-        """Three PADOs, for each of which a PADI was sent once the one before had come. The first is of a turn that may have looked for datagrams
-        before some of ours came. That of the second takes all, and has sent all that is to be said to them once the third comes."""
-        for _ in range(3):
-            self.asked += 1
-            tags = tags_octets([(SERVICE_NAME, b""), (HOST_UNIQ, self.asked.to_bytes(8, "big"))])
-            self.throw(self.lab.access, frame_octets(Frame(BROADCAST, ASKING, DISCOVERY, PADI, 0, tags)), "access")
-            if not self.hear_until("a PADI", lambda: self.offered == self.asked):
-                return False
-        return True
+        """Waits for three PADOs, one after the other. The first is of a turn that may have looked for datagrams before some of ours came. The turn
+        of the second takes all, and has sent all that is to be said to them once the third comes."""
+        return all(self.is_offered() for _ in range(3))
 
     def say(self, word):
         """Says a word to Control, and says whether its answer came, after those to all that was said to it before."""
@@ -117,7 +119,7 @@ class World(Storm):
         if with_storm:
             self.storm()
             self.probe_one()
-        if not self.settle():
+        if not self.is_offered():
             return False
         return self.steps % LOOK != 0 or self.look()
 
@@ -125,6 +127,9 @@ class World(Storm):
         """Looks at the gateway's sums and its memory, and at what waits too long."""
         if not self.say(b"stats"):
             return False
+        if self.hurled // TELLING > self.told:
+            self.told = self.hurled // TELLING
+            print(f"{self.hurled} so far, {sum(it.ended for it in (*self.customers, *self.callers))} honest sessions", flush=True)
         numbers = [[int(word.partition(b"=")[2]) for word in line.split()[1:]] for line in self.last_stats.splitlines()[:3]]
         if [a + b for a, b in zip(*numbers[:2])] != numbers[2]:
             self.found(f"stats does not add up: {self.last_stats!r}")
@@ -159,7 +164,7 @@ class World(Storm):
         return self.unheard.pop(inbox)
 
     def probe_one(self):
-        if self.steps % 3 == 0:
+        if self.steps % PROBE == 0:
             at = self.chance.randrange(len(self.probes))
             if (answers := self.probe(*self.probes[at])) != self.alone[at]:
                 self.found(f"{self.probes[at][2].hex()} at {self.probes[at][0]} gets {[it.hex() for it in answers]}, and alone {[it.hex() for it in self.alone[at]]}")

@@ -122,16 +122,21 @@ class Store:
 
 class Intruder(Dialler):
     """What is not honest in a subscriber beside its door: it gives up soon, sends what it likes once it has an address, and begins anew soon.
-    `leased` counts how often it got one."""
+    `leased` counts how often it got one, and `age` its steps since it began."""
 
-    leased = 0
+    leased = age = 0
     by_pap = False
+
+    def begin(self, now):
+        self.age = 0
+        super().begin(now)
 
     def lose(self, now):
         self.leave(now)
 
     def tick(self, now, chance):
-        if self.address is None and now - self.begun_at > chance.uniform(0.4, 3):
+        self.age += 1
+        if self.address is None and self.age > chance.randint(15, 80):
             if chance.random() < 0.7:
                 self.hang_up()
             self.want(now)
@@ -140,7 +145,7 @@ class Intruder(Dialler):
                 self.leased, self.up_at = self.leased + 1, 0.0
             if chance.random() < 0.4:
                 self.say(self.packet[:2] + spell(self.any_packet(chance), 7))
-            if now - self.begun_at > chance.uniform(1, 6):
+            if self.age > chance.randint(20, 200):
                 self.address = None
                 self.leave(now)
 

@@ -80,7 +80,7 @@ def noise(chance, octets, _):
 
 
 WAYS = (bits, octet, cut, drop, double, insert, longer, huge, splice, noise)
-WEIGHTS = (20, 16, 14, 9, 8, 8, 7, 2, 12, 2)
+WEIGHTS = (20, 16, 14, 9, 8, 8, 7, 1, 12, 2)
 
 
 def field(chance, octets, role):

@@ -32,8 +32,8 @@ PORT = bytes.fromhex("0200000000fe")
 # The MAC of a host that asks for offers alone, by which the storm knows what the gateway has taken.
 ASKING = bytes.fromhex("02000000000a")
 
-# How many of each role go out in a step: not more than the gateway takes of each in one turn, and than fits the system's buffers.
-PORTIONS = {"access": 80, "access2": 72, "tunnel": 90, "core": 36, "auth": 24, "acct": 20, "coa": 24, "control": 6}
+# How many of each role go out in a step: twice as many are not more than the gateway takes of each in one turn, and fit the system's buffers.
+PORTIONS = {"access": 64, "access2": 60, "tunnel": 72, "core": 32, "auth": 24, "acct": 20, "coa": 14, "control": 4}
 
 # What a request for a change may ask, and, at the end, what may stand in any.
 CHANGES = ((11, b"slow"), (11, b"default"), (27, bytes(3) + b"\2"), (28, bytes(4)), (85, bytes(4)), (1, b"nobody"), (33, b"relay"), (33, b""))
@@ -55,7 +55,7 @@ class Storm(StormServer):
         self.starts, self.stops, self.live = {}, {}, {}
         self.sums, self.asked_again = collections.defaultdict(lambda: [0, 0]), 0
         self.resident, self.last_stats = [], b""
-        self.came = self.owed = self.asked = self.offered = 0
+        self.came = self.owed = self.asked = self.offered = self.told = 0
         self.made_at = {}
         self.withheld = {}
         self.stranger, self.control, self.unknown_lac = udp(STRANGER), udp(), udp(STRANGER)
@@ -216,14 +216,18 @@ class Storm(StormServer):
             for _ in range(portion):
                 self.hurl_one(role)
 
+    def mostly_first(self, them):
+        """One of them, mostly of the first ones, so that the last ones come further."""
+        return them[int(len(them) * self.chance.random() ** 4)]
+
     def hurl_one(self, role):
         chance, kind = self.chance, role.rstrip("2")
         octets = self.store.any(chance, kind)
         if kind == "access":
-            octets = chance.choice(self.trapped[role]).as_its_own(octets, chance)
-        lac = chance.choice(self.lacs) if kind == "tunnel" else None
+            octets = self.mostly_first(self.trapped[role]).as_its_own(octets, chance)
+        lac = self.mostly_first(self.lacs) if kind == "tunnel" else None
         if lac:
-            octets = as_of(next(iter(lac.tunnels.values())), chance.choice(list(lac.calls.values()) or [None]), octets, chance)
+            octets = as_of(next(iter(lac.tunnels.values())), self.mostly_first(list(lac.calls.values()) or [None]), octets, chance)
         if chance.random() < 0.06:
             way, changed = "again", octets
         else:
