@@ -12,12 +12,18 @@ use Rattle.bng_desk.proofs.DropLaws.{plus_none, plus_plus, from_none}
 use Rattle.bng_gate.specs.Rounds.{round_drops, drops_made, drops_ended, all_drops, drops_of_run}
 use Rattle.bng_gate.specs.Serving.{Made, MadeEnd, Late, Ends, Waits, LateStep, Run, EndRun}
 
+none_first : (n : ℕ) → 0 + n ≡ n
+none_first n = omega arith
+
+three : (a b c : ℕ) → a + b + c ≡ a + (b + c)
+three a b c = omega arith
+
 -- those of one list after another
 all_append : (xs ys : List Amounts) → both (all_drops xs) (all_drops ys) ≡ all_drops (xs ++ ys)
-all_append [] ys = refl
+all_append [] ys = fun_ext (λ (cause : DropCause). none_first (all_drops ys cause))
 all_append (x ∷ xs) ys =
-    let assoc : both (both x (all_drops xs)) (all_drops ys) ≡ both x (both (all_drops xs) (all_drops ys)) = fun_ext (λ (cause : DropCause). omega arith) in
-    assoc ∙ ap (both x) (all_append xs ys)
+    let first : both (both x (all_drops xs)) (all_drops ys) ≡ both x (both (all_drops xs) (all_drops ys)) = fun_ext (λ (cause : DropCause). three (x cause) (all_drops xs cause) (all_drops ys cause)) in
+    first ∙ ap (both x) (all_append xs ys)
 
 -- what a round adds
 drops_after : (d : Desk) (items : List Item) (round : Option Round) → (after_round d items round).drops ≡ plus d.drops (round_drops items round)

@@ -16,7 +16,8 @@ use Rattle.bng_steps.specs.declared.sums.Traffic.{Traffic}
 use Rattle.bng_steps.specs.Protocol.{ShardState, Handled}
 use Rattle.bng_desk.specs.declared.line.Line.{Line}
 use Rattle.bng_desk.specs.Model.{Desk, all_stopped, line_after, plus_book, plus_traffic, stopped_of, total_of, traffic_by}
-use Rattle.bng_desk.specs.Report.{causes, drop_lines, profile_lines, report_text, static_line, static_lines, traffic_line, worker_lines}
+use Rattle.bng_desk.specs.Causes.{causes}
+use Rattle.bng_desk.specs.Report.{drop_lines, profile_lines, report_text, static_line, static_lines, traffic_line, worker_lines}
 use Rattle.bng_desk.specs.Round.{Round}
 use Rattle.bng_desk.proofs.InAll.{book_is, plus_in, stopped_in_all}
 use Rattle.bng_gate.specs.Rounds.{turns_of}
