@@ -210,9 +210,9 @@ module _ (lane : Lane) (peers : List Peer) (tries : ℕ) where
           let more : Trail → Trail = λ t. longer t (sending w.whose.owner w.peer w.moment w.frame) in
           let there : after lane trails c ≡ with_trail trails (unwrap_or (goes_to lane (length (servers_of old lane)) old.tries h.at h.first.oldest.request) h.at) n (more (trails h.at h.due.id)) =
           w.goes_on trails
-              ∙ ap (λ (k : ℕ). with_trail trails k n (more (trails w.whose.server w.whose.id))) w.from.to
-              ∙ ap (λ (k : ℕ). with_trail trails (unwrap_or (goes_to lane (length (servers_of old lane)) old.tries h.at h.first.oldest.request) h.at) n (more (trails k w.whose.id))) w.from.server
-              ∙ ap (λ (k : ℕ). with_trail trails (unwrap_or (goes_to lane (length (servers_of old lane)) old.tries h.at h.first.oldest.request) h.at) n (more (trails h.at k))) w.from.id
+          ∙ ap (λ (k : ℕ). with_trail trails k n (more (trails w.whose.server w.whose.id))) w.from.to
+          ∙ ap (λ (k : ℕ). with_trail trails (unwrap_or (goes_to lane (length (servers_of old lane)) old.tries h.at h.first.oldest.request) h.at) n (more (trails k w.whose.id))) w.from.server
+          ∙ ap (λ (k : ℕ). with_trail trails (unwrap_or (goes_to lane (length (servers_of old lane)) old.tries h.at h.first.oldest.request) h.at) n (more (trails h.at k))) w.from.id
           in
           subst (Tracks Q (servers_of new lane)) (sym there)
           (goes Q lane (servers_of old lane) (servers_of new lane) old.secret old.tries w.moment w.whose.owner w.peer w.frame h (more (trails h.at h.due.id)) trails tracks

@@ -149,12 +149,12 @@ impl Failover {
     }
 
     /// What is due at this moment, 3 s after the last send of a request. Where `timeouts` is true: an Access-Request that was sent
-    /// as often to the last server as it is to be, and so to each, has timed out, and is in hand no longer. Else: a request is to
-    /// be sent, and counts as sent now. `into` has its octets: those of its last send, to the same server, or once it was sent as
-    /// often as it is to be, the same request with an identifier of the next server, signed. After the last server an
-    /// Accounting-Request begins again with the first; where it has one server alone, it stays with it. Of several that are due
-    /// Access-Requests come first, then the request of the server that stands first, then the one that was sent first. None
-    /// comes exactly where nothing of that kind is due.
+    /// as often to the last server as it is to be, and so to each, has timed out, and is in hand no longer; `into` is left as it
+    /// was. Else: a request is to be sent, and counts as sent now. `into` has its octets: those of its last send, to the same
+    /// server, or once it was sent as often as it is to be, the same request with an identifier of the next server, signed. After
+    /// the last server an Accounting-Request begins again with the first; where it has one server alone, it stays with it. Of
+    /// several that are due Access-Requests come first, then the request of the server that stands first, then the one that was
+    /// sent first. None comes exactly where nothing of that kind is due.
     pub fn due(&mut self, now: u64, timeouts: bool, into: &mut Frame) -> Option<DueSend>
         ensures due { IsDue self.old self.new now timeouts into.new result }
         ensures kept { IfNone result ((self.new ≡ self.old) × (into.new ≡ into.old)) }

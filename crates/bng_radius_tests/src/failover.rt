@@ -228,13 +228,7 @@ fn is_sent_as(failover: &mut Failover, now: u64, to: Peer, wanted: u8) -> bool {
 fn two_requests_of_one_owner_go_each_its_way(rt: HostRuntime) -> Result<(), Fail> {
     let mut failover = opened(rt.alloc(), 2)?;
     ask_first(&rt, &mut failover)?;
-    let asked = ask_bare(
-        &mut failover,
-        Lane::Auth,
-        ASK,
-        codes::ACCESS_REQUEST,
-        100,
-    );
+    let asked = ask_bare(&mut failover, Lane::Auth, ASK, codes::ACCESS_REQUEST, 100);
     assert_holds(&rt, asked.is_some());
     for (now, to, id) in [
         (3000, FIRST, 0),
