@@ -3,7 +3,7 @@ ghost use Rattle.bng_l2tp_wire.specs.View.{avps_of, control_of, payloads, said};
 ghost use Rattle.bng_l2tp_tunnel.specs.Messages.{is_of_call as belongs_to_call};
 ghost use Rattle.bng_l2tp_tunnel.specs.Refusals.{refusal_of};
 ghost use Rattle.bng_l2tp_tunnel.specs.Spelling.{stop_ccn as stop_ccn_of, code_of as code_of_refusal};
-ghost use Rattle.bng_l2tp_tunnel.specs.Steps.{is_established, begins as does_begin, flushed, turned_away as turns_away, refused, opening, made, replied, answered, clears, handed_over, established, ended, accepted, delivered, is_zlb as has_no_avps, heard_by, having_heard, hearing};
+ghost use Rattle.bng_l2tp_tunnel.specs.Steps.{is_established, begins as does_begin, flushed, turned_away as turns_away, refused, opened_by, opening, made, replied, answered, clears, handed_over, established, ended, accepted, judged, delivered, is_zlb as has_no_avps, heard_by, having_heard, hearing};
 
 use crate::acknowledging::Acknowledging;
 use crate::judge::{
@@ -21,7 +21,7 @@ use bng_l2tp_reliable::{Channel, Heard};
 use bng_l2tp_wire::judge::is_type;
 use bng_l2tp_wire::kind::{ASSIGNED_TUNNEL_ID, CHALLENGE};
 use bng_l2tp_wire::message::{SCCCN, SCCRQ, STOP_CCN};
-use bng_l2tp_wire::step::{Outs, cleared, nothing, sends};
+use bng_l2tp_wire::step::{Outs, cleared, sends};
 use bng_l2tp_wire::values::{number_at, type_in, value_of, window_of};
 use bng_l2tp_wire::{Avp, Control};
 
@@ -90,14 +90,24 @@ impl Tunnel {
     }
 
     // The first message of a peer.
+    #[inline(never)]
     pub(crate) fn open(&mut self, message: &Control<'_>, random: &[u8; 16], now: u64) -> TunnelStep
         ensures said { said result ≡ (opening self.old (control_of message.now) random.now now).said }
         ensures after { self.new ≡ (opening self.old (control_of message.now) random.now now).after }
     {
-        if !begins(message) {
-            self.phase = Phase::Cleared;
-            return cleared(nothing());
+        if begins(message) {
+            self.open_by(message, random, now)
+        } else {
+            self.clear()
         }
+    }
+
+    // An SCCRQ that is the first message of its channel.
+    #[inline(never)]
+    fn open_by(&mut self, message: &Control<'_>, random: &[u8; 16], now: u64) -> TunnelStep
+        ensures said { said result ≡ (opened_by self.old (control_of message.now) random.now now (refusal_of self.old (avps_of message.now.avps.items))).said }
+        ensures after { self.new ≡ (opened_by self.old (control_of message.now) random.now now (refusal_of self.old (avps_of message.now.avps.items))).after }
+    {
         match self.refusal(message.avps.as_slice()) {
             None => self.reply(message, random, now),
             Some(refusal) => self.turn_away(message.avps.as_slice(), refusal),
@@ -105,6 +115,7 @@ impl Tunnel {
     }
 
     // Answers an SCCRQ that is refused.
+    #[inline(never)]
     fn turn_away(&mut self, avps: &[Avp<'_>], refusal: Refusal) -> TunnelStep
         ensures said { said result ≡ (refused self.old (avps_of avps.now) refusal).said }
         ensures after { self.new ≡ (refused self.old (avps_of avps.now) refusal).after }
@@ -116,6 +127,7 @@ impl Tunnel {
     }
 
     // Answers an SCCRQ that makes a tunnel.
+    #[inline(never)]
     fn reply(&mut self, message: &Control<'_>, random: &[u8; 16], now: u64) -> TunnelStep
         ensures said { said result ≡ (replied self.old (control_of message.now) random.now now).said }
         ensures after { self.new ≡ (replied self.old (control_of message.now) random.now now).after }
@@ -157,6 +169,7 @@ impl Tunnel {
     }
 
     // A message to a tunnel that was made.
+    #[inline(never)]
     pub(crate) fn hear(&mut self, message: &Control<'_>, now: u64) -> TunnelStep
         ensures said { said result ≡ (hearing self.old (control_of message.now) now).said }
         ensures after { self.new ≡ (hearing self.old (control_of message.now) now).after }
@@ -169,14 +182,25 @@ impl Tunnel {
     }
 
     // A message that the channel delivers.
+    #[inline(never)]
     fn deliver(&mut self, avps: &[Avp<'_>], now: u64) -> TunnelStep
         ensures said { said result ≡ (delivered self.old (avps_of avps.now) now).said }
         ensures after { self.new ≡ (delivered self.old (avps_of avps.now) now).after }
     {
         let found = type_in(avps);
         if is_for_call(self.phase, found) {
-            return self.hand_over();
+            self.hand_over()
+        } else {
+            self.judge(avps, found, now)
         }
+    }
+
+    // A message of this type for the tunnel itself.
+    #[inline(never)]
+    fn judge(&mut self, avps: &[Avp<'_>], found: Option<u16>, now: u64) -> TunnelStep
+        ensures said { said result ≡ (judged self.old found now (refusal_of self.old (avps_of avps.now))).said }
+        ensures after { self.new ≡ (judged self.old found now (refusal_of self.old (avps_of avps.now))).after }
+    {
         match self.refusal(avps) {
             Some(refusal) => self.refuse(refusal, now),
             None => self.accept(found),
@@ -184,6 +208,7 @@ impl Tunnel {
     }
 
     // Hands a call's message over to its call.
+    #[inline(never)]
     fn hand_over(&mut self) -> TunnelStep
         ensures said { said result ≡ (handed_over self.old).said }
         ensures after { self.new ≡ (handed_over self.old).after }
@@ -194,6 +219,7 @@ impl Tunnel {
     }
 
     // Refuses a message, which clears the tunnel.
+    #[inline(never)]
     fn refuse(&mut self, refusal: Refusal, now: u64) -> TunnelStep
         ensures said { said result ≡ (clears (answered Acknowledging.ByAny self.old (stop_ccn_of self.old.number (code_of_refusal refusal)) now)).said }
         ensures after { self.new ≡ (clears (answered Acknowledging.ByAny self.old (stop_ccn_of self.old.number (code_of_refusal refusal)) now)).after }
@@ -205,6 +231,7 @@ impl Tunnel {
     }
 
     // Takes a message that is not refused.
+    #[inline(never)]
     fn accept(&mut self, found: Option<u16>) -> TunnelStep
         ensures said { said result ≡ (accepted self.old found).said }
         ensures after { self.new ≡ (accepted self.old found).after }
@@ -216,6 +243,7 @@ impl Tunnel {
         }
     }
 
+    #[inline(never)]
     fn establish(&mut self) -> TunnelStep
         ensures said { said result ≡ (established (flushed Acknowledging.ByZlb self.old)).said }
         ensures after { self.new ≡ (established (flushed Acknowledging.ByZlb self.old)).after }
@@ -227,6 +255,7 @@ impl Tunnel {
     }
 
     // A StopCCN of the peer.
+    #[inline(never)]
     fn end(&mut self) -> TunnelStep
         ensures said { said result ≡ (ended self.old).said }
         ensures after { self.new ≡ (ended self.old).after }

@@ -47,6 +47,7 @@ fn push_some(outs: &mut Outs, tunnel: u16, out: Option<Outgoing>)
 }
 
 /// The messages that the window lets out.
+#[inline(never)]
 pub fn let_out(channel: &mut Channel, tunnel: u16) -> Outs
     ensures outs { payloads result.items ≡ map (datagram_to tunnel) (lets_out flight_most channel.old) }
     ensures first { IsChannel channel.old → AreFirstWaiting channel.old (lets_out flight_most channel.old) }
@@ -62,6 +63,7 @@ pub fn let_out(channel: &mut Channel, tunnel: u16) -> Outs
 }
 
 /// The messages in flight, oldest first.
+#[inline(never)]
 pub fn resent(channel: &Channel, tunnel: u16) -> Outs
     ensures { payloads result.items ≡ map (datagram_to tunnel) (flight_before flight_most channel.now) }
 {
@@ -99,6 +101,7 @@ fn push_zlb(outs: &mut Outs, channel: &Channel, tunnel: u16, acknowledging: Ackn
 }
 
 /// The datagrams that go out to a tunnel of the peer: the messages that the window lets out, and then the ZLB.
+#[inline(never)]
 pub fn outs_of(channel: &mut Channel, tunnel: u16, acknowledging: Acknowledging) -> Outs
     ensures outs { payloads result.items ≡ outs_to acknowledging tunnel channel.old }
     ensures channel { channel.new ≡ after_out flight_most channel.old }

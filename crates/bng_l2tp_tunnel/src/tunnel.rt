@@ -1,12 +1,12 @@
-ghost use Rattle.std.specs.Prelude.{◌≡◌, ◌≢◌, ◌≤◌, ◌<◌, ◌↔◌, ℕ, length, true, false, IsTrue};
+ghost use Rattle.std.specs.Prelude.{◌≡◌, ◌≢◌, ◌≤◌, ◌<◌, ◌↔◌, ℕ, length, true, false, IsTrue, map};
 ghost use Rattle.bng_l2tp_reliable.specs.ChannelState.{waiting};
 ghost use Rattle.bng_l2tp_reliable.specs.Timers.{never, due_of, after_due, deadline_of};
-ghost use Rattle.bng_l2tp_wire.specs.View.{control_of, octets_of, payloads, said};
-ghost use Rattle.bng_l2tp_tunnel.specs.Outs.{zlb as zlb_of};
+ghost use Rattle.bng_l2tp_wire.specs.View.{control_of, octets_of, payloads, said, sends as says_to_send};
+ghost use Rattle.bng_l2tp_tunnel.specs.Outs.{datagram as datagram_to, flight_before, flight_most, zlb as zlb_of};
 ghost use Rattle.bng_l2tp_tunnel.specs.TunnelState.{fresh, lasting_of};
 ghost use Rattle.bng_l2tp_tunnel.specs.Sound.{IsTunnel, IsSpelled, IsSound, IsAnswered, IsAnswerOf, is_for_call};
 ghost use Rattle.bng_l2tp_tunnel.specs.Spelling.{stop_ccn as stop_ccn_of, hello as hello_of, shut_down as code_of_shut_down};
-ghost use Rattle.bng_l2tp_tunnel.specs.Steps.{flushed, queued_text, answered, clears, stands, is_established, heard_by, message_step, reminded, due_step, send_step, stop_step, to_peer};
+ghost use Rattle.bng_l2tp_tunnel.specs.Steps.{flushed, nothing as does_nothing, queued_text, answered, clears, stands, is_established, heard_by, message_step, reminded, due_step, send_step, stop_step, to_peer};
 
 use crate::acknowledging::Acknowledging;
 use crate::outs::{outs_of, resent, zlb};
@@ -91,6 +91,7 @@ impl Tunnel {
     ///
     /// `established` says that an SCCCN was taken, `cleared` that the tunnel was cleared or none is made, `call` that the
     /// message is a call's and was handed over, and `left_out` that 64 messages waited and the answer was left out.
+    #[inline(never)]
     #[tactic(auto, unfolding(crate::specs::Steps::message_step))]
     pub fn on_message(&mut self, message: &Control<'_>, random: &[u8; 16], now: u64) -> TunnelStep
         ensures said { said result ≡ (message_step self.old (control_of message.now) random.now now).said }
@@ -116,6 +117,7 @@ impl Tunnel {
     /// Does what the timers of the channel ask for at that moment, in milliseconds (RFC 2661 sections 5.5 and 5.8): the
     /// messages in flight go out again, a HELLO is sent, or the tunnel is cleared, since the peer does not answer. Nothing is
     /// done for a tunnel that was not made or was cleared.
+    #[inline(never)]
     #[tactic(auto, unfolding(crate::specs::Steps::due_step))]
     pub fn due(&mut self, now: u64) -> TunnelStep
         ensures said { said result ≡ (due_step self.old now).said }
@@ -142,6 +144,7 @@ impl Tunnel {
     /// Sends a call's control message of at most 512 octets, whose Tunnel ID, Ns and Nr are filled in as it goes out (RFC 2661
     /// section 3.1), at that moment in milliseconds. It waits for the window, and `left_out` says that 64 messages wait and it
     /// was left out. Nothing is sent over a tunnel that was not made or was cleared.
+    #[inline(never)]
     #[tactic(auto, unfolding(crate::specs::Steps::send_step))]
     pub fn send(&mut self, message: &[u8], now: u64) -> TunnelStep
         requires { length message.now ≤ MESSAGE_MOST }
@@ -160,6 +163,7 @@ impl Tunnel {
 
     /// Tells the peer by a StopCCN with Result Code 6 that the gateway shuts down, at that moment in milliseconds (RFC 2661
     /// section 6.4), which clears the tunnel. A tunnel that was not made or was cleared tells nothing.
+    #[inline(never)]
     #[tactic(auto, unfolding(crate::specs::Steps::stop_step))]
     pub fn stop(&mut self, now: u64) -> TunnelStep
         ensures said { said result ≡ (stop_step self.old now).said }
@@ -227,6 +231,7 @@ impl Tunnel {
     }
 
     // Sends what the window lets out, and the ZLB that is due.
+    #[inline(never)]
     pub(crate) fn flush(&mut self, acknowledging: Acknowledging) -> TunnelStep
         ensures said { said result ≡ (flushed acknowledging self.old).said }
         ensures after { self.new ≡ (flushed acknowledging self.old).after }
@@ -236,6 +241,7 @@ impl Tunnel {
     }
 
     // Hands a message to the channel, and sends what the window lets out.
+    #[inline(never)]
     pub(crate) fn queue(
         &mut self,
         text: &[u8],
@@ -254,6 +260,7 @@ impl Tunnel {
     }
 
     // The StopCCN of a gateway that shuts down.
+    #[inline(never)]
     fn shut_down(&mut self, now: u64) -> TunnelStep
         ensures said { said result ≡ (clears (answered Acknowledging.Never self.old (stop_ccn_of self.old.number code_of_shut_down) now)).said }
         ensures after { self.new ≡ (clears (answered Acknowledging.Never self.old (stop_ccn_of self.old.number code_of_shut_down) now)).after }
@@ -264,6 +271,7 @@ impl Tunnel {
         cleared(step)
     }
 
+    #[inline(never)]
     fn greet(&mut self, now: u64) -> TunnelStep
         ensures said { said result ≡ (answered Acknowledging.Never self.old hello_of now).said }
         ensures after { self.new ≡ (answered Acknowledging.Never self.old hello_of now).after }
@@ -272,19 +280,35 @@ impl Tunnel {
         self.queue(message.payload(), now, Acknowledging::Never)
     }
 
+    // The messages in flight go out again.
+    #[inline(never)]
+    fn send_again(&self) -> TunnelStep
+        ensures { said result ≡ says_to_send (map (datagram_to (to_peer self.now)) (flight_before flight_most self.now.channel)) }
+    {
+        sends(resent(&self.channel, self.to_peer()))
+    }
+
+    // Clears the tunnel, and tells the peer nothing.
+    #[inline(never)]
+    pub(crate) fn clear(&mut self) -> TunnelStep
+        ensures said { said result ≡ (clears (does_nothing self.old)).said }
+        ensures after { self.new ≡ (clears (does_nothing self.old)).after }
+    {
+        self.phase = Phase::Cleared;
+        cleared(nothing())
+    }
+
     // What the timers of the channel ask for.
+    #[inline(never)]
     fn remind(&mut self, now: u64) -> TunnelStep
         ensures said { said result ≡ (reminded (record self.old { channel = after_due self.old.channel now (due_of self.old.channel now) }) now (due_of self.old.channel now)).said }
         ensures after { self.new ≡ (reminded (record self.old { channel = after_due self.old.channel now (due_of self.old.channel now) }) now (due_of self.old.channel now)).after }
     {
         match self.channel.due(now) {
             Due::Nothing => nothing(),
-            Due::Resend => sends(resent(&self.channel, self.to_peer())),
+            Due::Resend => self.send_again(),
             Due::Hello => self.greet(now),
-            Due::GiveUp => {
-                self.phase = Phase::Cleared;
-                cleared(nothing())
-            }
+            Due::GiveUp => self.clear(),
         }
     }
 }

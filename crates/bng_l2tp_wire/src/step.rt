@@ -24,6 +24,7 @@ pub fn sends(outs: Outs) -> TunnelStep
 }
 
 /// A step that does nothing.
+#[inline(never)]
 pub fn nothing() -> TunnelStep
     ensures { said result ≡ says_to_send [] }
 {

@@ -92,6 +92,7 @@ fn make_session<S: Store>(
 }
 
 // An ICRQ that the tunnel with this number handed over. Where a session number is free and the ICRP goes out, or will, there is a session.
+#[inline(never)]
 fn ask_for_call<S: Store>(
     served: &mut Served<S>,
     incoming: &Incoming<'_>,
@@ -121,6 +122,7 @@ fn ask_for_call<S: Store>(
 // Messages of calls that there are ---------------------------------------------------------------------------------------------
 
 // The ICCN was taken: the session's link is made anew and told Open and Up. Answers how many questions were asked then.
+#[inline(never)]
 fn connect<S: Store>(
     served: &mut Served<S>,
     terms: &mut Terms,
@@ -205,6 +207,7 @@ fn answer_over<S: Store>(
 }
 
 // The call of a session takes a message that the tunnel with this number handed over.
+#[inline(never)]
 fn answer_for<S: Store>(
     served: &mut Served<S>,
     session: &mut Session,
@@ -230,6 +233,7 @@ fn answer_for<S: Store>(
 }
 
 // A message that the tunnel with this number handed over, for the call of the session with that number, which lives.
+#[inline(never)]
 fn take_for_call<S: Store>(
     served: &mut Served<S>,
     terms: &mut Terms,
@@ -270,6 +274,7 @@ fn take_for_call<S: Store>(
 }
 
 // A message that the tunnel with this number handed over, for which there is no call.
+#[inline(never)]
 fn take_for_none<S: Store>(
     served: &mut Served<S>,
     incoming: &Incoming<'_>,
@@ -306,6 +311,7 @@ fn is_for_call<S: Store>(
 }
 
 /// Handles a call's message that the tunnel with this number handed over; `heard` is what the tunnel said, and its peer is the sender.
+#[inline(never)]
 pub fn hear_call<S: Store>(
     served: &mut Served<S>,
     terms: &mut Terms,

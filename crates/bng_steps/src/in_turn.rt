@@ -30,6 +30,7 @@ pub fn send_datagrams(at: At, to: Peer, frames: &[Frame], outs: &mut Batch<OutRe
 }
 
 // The timers of the tunnel at this place do what they ask for. Where that clears it, its calls have ended.
+#[inline(never)]
 fn remind_one<S: Store>(
     served: &mut Served<S>,
     terms: &mut Terms,
@@ -77,6 +78,7 @@ pub fn remind_tunnels<S: Store>(
 }
 
 // The tunnel at this place tells its peer that the gateway shuts down.
+#[inline(never)]
 fn stop_one<S: Store>(
     served: &mut Served<S>,
     at: At,

@@ -30,6 +30,7 @@ use bng_ppp::WholeInput;
 
 // A message that the tunnel with this number took, with these words. A call's was handed over; else what the tunnel says goes to the
 // sender, and where that is its last its calls have ended.
+#[inline(never)]
 fn take_step<S: Store>(
     served: &mut Served<S>,
     terms: &mut Terms,

@@ -68,6 +68,7 @@ pub fn send_padt(
 }
 
 // Ends a call, and appends the CDN where its tunnel sends it now.
+#[inline(never)]
 fn hang_up<S: Store>(
     served: &mut Served<S>,
     called: &mut Called,

@@ -26,6 +26,7 @@ use bng_lns::{Came, Taken, Told};
 
 impl<S: Store> Served<S> {
     /// A control message came: the tunnel that it is for takes it, or it asks for a tunnel.
+    #[inline(never)]
     pub fn take_message(&mut self, rules: &Rules, came: &Came, message: &Control<'_>) -> Taken
         ensures answer { answer_of result ≡ (heard_of rules.now.link.name.items rules.now.lacs self.old.tunnels came.now (control_of message.now)).answer }
         ensures after { self.new ≡ with_tunnels self.old (heard_of rules.now.link.name.items rules.now.lacs self.old.tunnels came.now (control_of message.now)).after }
@@ -56,6 +57,7 @@ impl<S: Store> Served<S> {
     }
 
     /// The tunnel with this number handed a message over that is for this call. `heard` is what the tunnel said.
+    #[inline(never)]
     pub fn answer_call(
         &mut self,
         number: TunnelNo,
@@ -86,6 +88,7 @@ impl<S: Store> Served<S> {
 
     /// Ends a call of the tunnel with this number by a CDN (RFC 2661 section 6.12). None comes exactly where the tunnel does not stand, and
     /// the call has ended all the same.
+    #[inline(never)]
     pub fn hang_up(&mut self, number: TunnelNo, call: &mut Call, now: u64) -> Option<TunnelStep>
         ensures none { IfNone result ((tunnel_at self.old.tunnels number.0 ≡ Nothing) × (self.new ≡ self.old)) }
         ensures told { IfSome result (λ step. (t : TunnelState) × (tunnel_at self.old.tunnels number.0 ≡ Some t) × (said step ≡ (parted t call.old now).said)
@@ -102,6 +105,7 @@ impl<S: Store> Served<S> {
     }
 
     /// The timers of the tunnel at this place, from 0, do what they ask for at that moment, in milliseconds.
+    #[inline(never)]
     pub fn remind_tunnel(&mut self, place: usize, now: u64) -> Option<Told>
         ensures told { option_map telling_of result ≡ (reminded now self.old.tunnels place).told }
         ensures after { self.new ≡ with_tunnels self.old (reminded now self.old.tunnels place).after }
@@ -112,6 +116,7 @@ impl<S: Store> Served<S> {
     }
 
     /// The tunnel at this place, from 0, tells its peer that the gateway shuts down.
+    #[inline(never)]
     pub fn stop_tunnel(&mut self, place: usize, now: u64) -> Option<Told>
         ensures told { option_map telling_of result ≡ (stopped now self.old.tunnels place).told }
         ensures after { self.new ≡ with_tunnels self.old (stopped now self.old.tunnels place).after }
