@@ -15,10 +15,10 @@ use Rattle.bng_failover.specs.declared.rules.FailoverRules.{FailoverRules}
 use Rattle.bng_failover.specs.declared.server.Server.{Server}
 use Rattle.bng_failover.specs.Asking.{IsAskedAt}
 use Rattle.bng_failover.specs.Calls.{Call, Does}
-use Rattle.bng_failover.specs.Due.{Goes, IsSent, IsRepeatedAt, goes_to}
+use Rattle.bng_failover.specs.Due.{Goes, IsSent, goes_to}
 use Rattle.bng_failover.specs.Laws.{but_for_digest, SaysAgain, IsSameOrSays}
 use Rattle.bng_failover.specs.Sends.{Sending, Trail, sending, begun, longer, IsTrailOf, trails_of}
-use Rattle.bng_failover.specs.Servers.{request_at, without}
+use Rattle.bng_failover.specs.Servers.{request_at}
 use Rattle.bng_failover.specs.State.{State, servers_of, IsOpened}
 use Rattle.bng_failover.proofs.Saying.{asked_says, sent_says}
 use Rattle.bng_failover.proofs.Trails.{Moved}
