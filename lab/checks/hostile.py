@@ -268,9 +268,9 @@ def tell(world, seconds):
         print(f"by {what}: " + ", ".join(f"{name} {number}" for name, number in counts.most_common()))
     print("answers of Coa: " + (", ".join(f"{way} {number}" for (_, who, way), number in sorted(world.counts.items()) if who == "answers") or "none"))
     everybody = [*world.customers, *world.callers]
-    leases = sum(it.leased for it in (*world.intruders, *world.bad_callers))
+    hosts, calls = (sum(it.leased for it in them) for them in (world.intruders, world.bad_callers))
     print(f"honest: {sum(it.ended for it in everybody)} sessions of {len(everybody)} subscribers, each with its Stop; {world.circuit.sent} packets each way on the circuit")
-    print(f"others: {leases} logins; {world.plain} datagrams of all parties as they are to be; {world.probed} octet strings asked again; {world.asked_again} records that came again")
+    print(f"others: {hosts} logins of hosts and {calls} over calls; {world.plain} datagrams of all parties as they are to be; {world.probed} octet strings asked again; {world.asked_again} records that came again")
     if world.resident:
         first, last = memory(world)
         print(f"memory: {first} KiB once warm, {last} KiB at the end")

@@ -186,13 +186,13 @@ class IntruderCaller(Intruder, Caller):
     pass
 
 
-def as_of(tunnel, call, octets, chance):
-    """An L2TP message of anybody as one of this tunnel's, the next or one before, mostly, and of this call."""
+def as_of(tunnel, call, octets, chance, places=(0, 0, 0, 1, 2)):
+    """An L2TP message of anybody as one of this tunnel's, mostly, and of this call. Its Ns is that of the next one, less one of these places."""
     if len(octets) < 12 or chance.random() > 0.85:
         return octets
     session = short(call.session) if call else bytes(2)
     if octets[0] & 0x80:
-        ns = (tunnel.ns - chance.choice((0, 0, 0, 1, 2))) % 65536
+        ns = (tunnel.ns - chance.choice(places)) % 65536
         session = octets[6:8] if octets[6:8] == bytes(2) else session
         return octets[:4] + short(tunnel.number) + session + short(ns) + short(tunnel.nr) + octets[12:]
     at = 4 if octets[0] & 0x40 else 2
@@ -217,12 +217,14 @@ class Trapdoor(Door):
         world, chance, role = self.world, self.world.chance, to + self.suffix
         world.store.keep(to, octets)
         luck = chance.random()
-        if luck < 0.12:
-            name, changed = mangled(chance, to, octets, world.store.any(chance, to))
+        name, changed = mangled(chance, to, octets, world.store.any(chance, to)) if luck < 0.14 else (None, b"")
+        if luck < 0.05:
             world.hurl(role, "right", end, changed, name)
-        if luck < 0.92:
+        if luck < 0.94:
             world.put(end, octets, role)
-        elif luck < 0.95:
+        elif luck < 0.97:
             world.hurl(role, "right", end, octets, "late", late=True)
-        if 0.10 < luck < 0.16:
+        if 0.05 < luck < 0.14:
+            world.hurl(role, "right", end, changed, name)
+        elif 0.14 < luck < 0.19:
             world.hurl(role, "right", end, octets, "again")

@@ -227,7 +227,9 @@ class Storm(StormServer):
             octets = self.mostly_first(self.trapped[role]).as_its_own(octets, chance)
         lac = self.mostly_first(self.lacs) if kind == "tunnel" else None
         if lac:
-            octets = as_of(next(iter(lac.tunnels.values())), self.mostly_first(list(lac.calls.values()) or [None]), octets, chance)
+            # A message with the next number stands before that of the concentrator itself: one of them is spared that.
+            places = (1, 2, 3, -1) if lac is self.lacs[-1] else (0, 0, 0, 1, 2)
+            octets = as_of(next(iter(lac.tunnels.values())), self.mostly_first(list(lac.calls.values()) or [None]), octets, chance, places)
         if chance.random() < 0.06:
             way, changed = "again", octets
         else:
