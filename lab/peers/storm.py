@@ -54,7 +54,7 @@ class Storm(StormServer):
         self.by_address = {}
         self.starts, self.stops, self.live = {}, {}, {}
         self.sums, self.asked_again = collections.defaultdict(lambda: [0, 0]), 0
-        self.resident, self.last_stats = [], b""
+        self.resident, self.memory, self.last_stats, self.report = [], None, b"", []
         self.came = self.owed = self.asked = self.offered = self.told = 0
         self.made_at = {}
         self.withheld = {}
