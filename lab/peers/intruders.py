@@ -5,7 +5,7 @@ import collections
 import hashlib
 import socket
 
-from peers import l2tp, radius_packets
+from peers import coa, l2tp, radius_packets
 from peers.concentrators import Caller
 from peers.dialler import Dialler
 from peers.ipv4 import Ipv4, packet, spell
@@ -93,8 +93,15 @@ def replies(request):
 
 
 def signed_change(code, identifier, body):
+    """A request for a change with these octets as its attributes, signed whatever they are (RFC 5176 section 2.3)."""
     front = bytes([code, identifier]) + (20 + len(body)).to_bytes(2, "big")
-    return front + hashlib.md5(front + bytes(16) + body + b"change-secret").digest() + body
+    return front + hashlib.md5(front + bytes(16) + body + coa.SECRET).digest() + body
+
+
+def is_signed_change(octets):
+    """Whether these are a request whose authenticator is right, with or without padding."""
+    length = int.from_bytes(octets[2:4], "big")
+    return 20 <= length <= len(octets) and hashlib.md5(octets[:4] + bytes(16) + octets[20:length] + coa.SECRET).digest() == octets[4:20]
 
 
 def words():
@@ -107,7 +114,7 @@ class Store:
     def __init__(self):
         nobody = radius_packets.Radius(1, 7, bytes(range(16)), [])
         server = replies(nobody)
-        asked = [radius_packets.ask(code, 9, *it) for code in (43, 40, 44, 1) for it in ([], [(44, b"0" * 24), (11, b"default")], [(8, bytes(4)), (27, bytes(4))])]
+        asked = [radius_packets.ask(code, 9, *it, secret=coa.SECRET) for code in (43, 40, 44, 1) for it in ([], [(44, b"0" * 24), (11, b"default")], [(8, bytes(4)), (27, bytes(4))])]
         self.samples = {"access": frames(), "tunnel": messages(), "core": core_packets(), "auth": server, "acct": server, "coa": asked, "control": words()}
         self.kept = {role: collections.deque(maxlen=KEPT) for role in self.samples}
 
@@ -200,7 +207,9 @@ def as_of(tunnel, call, octets, chance, places=(0, 0, 0, 1, 2)):
 
 
 class Door:
-    """The way of honest parties to the gateway. What they send is kept."""
+    """The way of honest parties to the gateway. What they send is kept. `down` has the IPv4 octets that came to hosts and callers behind it."""
+
+    down = 0
 
     def __init__(self, world, suffix=""):
         self.world, self.suffix = world, suffix
