@@ -52,7 +52,7 @@ WARM, GROWTH = 0.3, 8192
 
 # Steps between two looks at the sums and the memory, and between two octet strings that are asked again; seconds for an answer; and after how
 # many datagrams it says how far it is.
-LOOK, PROBE, ANSWERING, TELLING = 40, 8, 20.0, 50_000
+LOOK, PROBE, ANSWERING, TELLING = 40, 8, 60.0, 10_000
 
 
 class World(Storm):
@@ -185,7 +185,7 @@ def lost_in_sockets(ports):
 
 
 def play(count, seed, program=PROGRAM):
-    """Runs the gateway in the storm, prints what came of it, and gives the world."""
+    """Runs the gateway in the storm, and gives the world that is left."""
     access2 = Segment()
     held = udp()
     port2 = held.getsockname()[1]
@@ -199,10 +199,10 @@ def play(count, seed, program=PROGRAM):
         world.make_probes(40)
         while world.hurled < count and world.step() and len(world.faults) < FAULTS:
             pass
-        seconds = time.monotonic() - began
+        world.seconds = time.monotonic() - began
         calm(world)
         end(world)
-        tell(world, seconds)
+        weigh(world)
         for it in world.ends():
             it.close()
         return world
@@ -214,16 +214,18 @@ def calm(world):
     world.lost = lost_in_sockets(ours | set(world.lab.ports.values()))
     if world.faults:
         return
-    until = time.monotonic() + 30
+    until = time.monotonic() + 120
     everybody = [*world.customers, *world.callers]
     for it in everybody:
         it.is_last = True
     world.circuit.tick = lambda now: None
     while time.monotonic() < until and world.step(with_storm=False):
         if all(it.phase == "done" for it in everybody) and not world.withheld:
+            if world.circuit.on_way or world.circuit.coming:
+                world.found("packets of the circuit were lost")
             break
     else:
-        world.found("the honest subscribers did not end their sessions in 30 s: " + ", ".join(f"{it.name} {it.phase}" for it in everybody))
+        world.found("the honest subscribers did not end their sessions in two minutes: " + ", ".join(f"{it.name} {it.phase}" for it in everybody))
 
 
 def end(world):
@@ -237,12 +239,12 @@ def end(world):
     world.chance = random.Random(0)
     world.hearers[world.control] = lambda octets: None
     world.hearers[lab.radius] = lambda octets: None
-    until = time.monotonic() + 45
+    until = time.monotonic() + 100
     while lab.program.poll() is None and time.monotonic() < until:
         world.poll(0.1)
     world.poll(0)
     if lab.program.poll() is None:
-        world.found("the gateway did not end in 45 s after the stop")
+        world.found("the gateway did not end in 100 s after the stop")
         return
     status, out, _ = lab.end()
     whole = " ".join(f"{way}={sum(stop[at] for stop in world.stops.values())}" for at, way in enumerate(("in", "out")))
@@ -255,7 +257,16 @@ def end(world):
     world.report = lines
 
 
-def tell(world, seconds):
+def weigh(world):
+    """Compares the gateway's memory at the end with the most of the first part."""
+    if world.resident:
+        last, kib = world.resident[-1]
+        world.memory = max((was for hurled, was in world.resident if hurled <= last * WARM), default=kib), kib
+        if kib - world.memory[0] > GROWTH:
+            world.found(f"the memory grew from {world.memory[0]} KiB to {kib}")
+
+
+def tell(world):
     """Prints counts by role and by the way of mangling."""
     roles, ways, senders = collections.Counter(), collections.Counter(), collections.Counter()
     for (role, who, way), number in world.counts.items():
@@ -268,25 +279,14 @@ def tell(world, seconds):
         print(f"by {what}: " + ", ".join(f"{name} {number}" for name, number in counts.most_common()))
     print("answers of Coa: " + (", ".join(f"{way} {number}" for (_, who, way), number in sorted(world.counts.items()) if who == "answers") or "none"))
     everybody = [*world.customers, *world.callers]
-    leases = sum(it.leased for it in (*world.intruders, *world.bad_callers))
+    hosts, calls = (sum(it.leased for it in them) for them in (world.intruders, world.bad_callers))
     print(f"honest: {sum(it.ended for it in everybody)} sessions of {len(everybody)} subscribers, each with its Stop; {world.circuit.sent} packets each way on the circuit")
-    print(f"others: {leases} logins; {world.plain} datagrams of all parties as they are to be; {world.probed} octet strings asked again; {world.asked_again} records that came again")
-    if world.resident:
-        first, last = memory(world)
-        print(f"memory: {first} KiB once warm, {last} KiB at the end")
-        if last - first > GROWTH:
-            world.found(f"the memory grew by {last - first} KiB")
-    if hasattr(world, "report"):
-        print("dropped: " + ", ".join(line.partition(" ")[2] for line in world.report if line.startswith("drop ")))
+    print(f"others: {hosts} logins of hosts and {calls} over calls; {world.plain} datagrams of all parties as they are to be; {world.probed} octet strings asked again; {world.asked_again} records that came again")
+    if world.memory:
+        print(f"memory: {world.memory[0]} KiB at most in the first part, {world.memory[1]} KiB at the end")
+    print("dropped: " + ", ".join(line.partition(" ")[2] for line in world.report if line.startswith("drop ")))
     print(f"lost in full sockets of the gateway or the lab: {world.lost}")
-    print(f"{world.hurled} hostile datagrams in {seconds:.0f} s by the seed {world.seed}: {len(world.faults)} faults")
-
-
-def memory(world):
-    """The most memory in the warming, and the last."""
-    last = world.resident[-1]
-    warm = [kib for hurled, kib in world.resident if hurled <= last[0] * WARM]
-    return max(warm or [last[1]]), last[1]
+    print(f"{world.hurled} hostile datagrams in {world.seconds:.0f} s by the seed {world.seed}: {len(world.faults)} faults")
 
 
 def main():
@@ -294,8 +294,13 @@ def main():
     count = int(words[0]) if words else COUNT
     seed = int(words[1]) if len(words) > 1 else int(time.time())
     program = os.environ.get("BNG_PROGRAM", PROGRAM)
+    if not os.access(program, os.X_OK):
+        print("hostile: skipped, since the program is not built: ./bng does it")
+        return 0
     print(f"hostile: runs {program}, {count} datagrams by the seed {seed}", flush=True)
-    return 1 if play(count, seed, program).faults else 0
+    world = play(count, seed, program)
+    tell(world)
+    return 1 if world.faults else 0
 
 
 if __name__ == "__main__":

@@ -13,6 +13,7 @@ from checks.changes import changes_sessions
 from checks.diagnosis import asks_the_doctor
 from checks.example import reads_the_example
 from checks.habits import keeps_an_operators_habits
+from checks.hostile import play
 from checks.installed import installs
 from checks.leases import leases_addresses
 from checks.logins import authenticates, gives_up_on_a_silent_server
@@ -157,6 +158,11 @@ def goes_on_after_memory_was_refused(checks):
             checks.same(f"what had no memory for {what} is counted", (status, out), (0, wanted))
 
 
+def stands_a_storm(checks):
+    """A small one, by a seed of its own; `lab/hostile` has large ones."""
+    checks.same("honest subscribers notice nothing of hostile datagrams", play(2000, 7).faults, [])
+
+
 def refuses_bad_configurations(checks):
     with Lab() as lab:
         with open(lab.configuration, encoding="utf-8") as file:
@@ -246,6 +252,7 @@ def try_all(checks):
         with concurrent.futures.ThreadPoolExecutor() as together:
             minutes = [together.submit(each, checks, built, 10) for each in MINUTES]
             minutes.append(together.submit(asks_the_doctor, checks))
+            minutes.append(together.submit(stands_a_storm, checks))
         for minute in minutes:
             minute.result()
         ends_a_thousand_terms(checks, built, 10)

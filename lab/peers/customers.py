@@ -16,7 +16,7 @@ PASSWORD = b"arctangent"
 HOST = socket.inet_aton("192.0.2.1")
 
 # Packets each way in a session, how many may be on their way at once, and seconds in which each step of a session is to come.
-PACKETS, AT_ONCE, PATIENCE = 12, 4, 25.0
+PACKETS, AT_ONCE, PATIENCE = 12, 4, 60.0
 
 LOST_CARRIER, USER_REQUEST = 2, 1
 

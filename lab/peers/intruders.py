@@ -5,7 +5,7 @@ import collections
 import hashlib
 import socket
 
-from peers import l2tp, radius_packets
+from peers import coa, l2tp, radius_packets
 from peers.concentrators import Caller
 from peers.dialler import Dialler
 from peers.ipv4 import Ipv4, packet, spell
@@ -93,8 +93,15 @@ def replies(request):
 
 
 def signed_change(code, identifier, body):
+    """A request for a change with these octets as its attributes, signed whatever they are (RFC 5176 section 2.3)."""
     front = bytes([code, identifier]) + (20 + len(body)).to_bytes(2, "big")
-    return front + hashlib.md5(front + bytes(16) + body + b"change-secret").digest() + body
+    return front + hashlib.md5(front + bytes(16) + body + coa.SECRET).digest() + body
+
+
+def is_signed_change(octets):
+    """Whether these are a request whose authenticator is right, with or without padding."""
+    length = int.from_bytes(octets[2:4], "big")
+    return 20 <= length <= len(octets) and hashlib.md5(octets[:4] + bytes(16) + octets[20:length] + coa.SECRET).digest() == octets[4:20]
 
 
 def words():
@@ -107,7 +114,7 @@ class Store:
     def __init__(self):
         nobody = radius_packets.Radius(1, 7, bytes(range(16)), [])
         server = replies(nobody)
-        asked = [radius_packets.ask(code, 9, *it) for code in (43, 40, 44, 1) for it in ([], [(44, b"0" * 24), (11, b"default")], [(8, bytes(4)), (27, bytes(4))])]
+        asked = [radius_packets.ask(code, 9, *it, secret=coa.SECRET) for code in (43, 40, 44, 1) for it in ([], [(44, b"0" * 24), (11, b"default")], [(8, bytes(4)), (27, bytes(4))])]
         self.samples = {"access": frames(), "tunnel": messages(), "core": core_packets(), "auth": server, "acct": server, "coa": asked, "control": words()}
         self.kept = {role: collections.deque(maxlen=KEPT) for role in self.samples}
 
@@ -186,13 +193,13 @@ class IntruderCaller(Intruder, Caller):
     pass
 
 
-def as_of(tunnel, call, octets, chance):
-    """An L2TP message of anybody as one of this tunnel's, the next or one before, mostly, and of this call."""
+def as_of(tunnel, call, octets, chance, places=(0, 0, 0, 1, 2)):
+    """An L2TP message of anybody as one of this tunnel's, mostly, and of this call. Its Ns is that of the next one, less one of these places."""
     if len(octets) < 12 or chance.random() > 0.85:
         return octets
     session = short(call.session) if call else bytes(2)
     if octets[0] & 0x80:
-        ns = (tunnel.ns - chance.choice((0, 0, 0, 1, 2))) % 65536
+        ns = (tunnel.ns - chance.choice(places)) % 65536
         session = octets[6:8] if octets[6:8] == bytes(2) else session
         return octets[:4] + short(tunnel.number) + session + short(ns) + short(tunnel.nr) + octets[12:]
     at = 4 if octets[0] & 0x40 else 2
@@ -200,7 +207,9 @@ def as_of(tunnel, call, octets, chance):
 
 
 class Door:
-    """The way of honest parties to the gateway. What they send is kept."""
+    """The way of honest parties to the gateway. What they send is kept. `down` has the IPv4 octets that came to hosts and callers behind it."""
+
+    down = 0
 
     def __init__(self, world, suffix=""):
         self.world, self.suffix = world, suffix
@@ -217,12 +226,14 @@ class Trapdoor(Door):
         world, chance, role = self.world, self.world.chance, to + self.suffix
         world.store.keep(to, octets)
         luck = chance.random()
-        if luck < 0.12:
-            name, changed = mangled(chance, to, octets, world.store.any(chance, to))
+        name, changed = mangled(chance, to, octets, world.store.any(chance, to)) if luck < 0.14 else (None, b"")
+        if luck < 0.05:
             world.hurl(role, "right", end, changed, name)
-        if luck < 0.92:
+        if luck < 0.94:
             world.put(end, octets, role)
-        elif luck < 0.95:
+        elif luck < 0.97:
             world.hurl(role, "right", end, octets, "late", late=True)
-        if 0.10 < luck < 0.16:
+        if 0.05 < luck < 0.14:
+            world.hurl(role, "right", end, changed, name)
+        elif 0.14 < luck < 0.19:
             world.hurl(role, "right", end, octets, "again")

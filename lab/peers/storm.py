@@ -12,13 +12,13 @@ import time
 from peers import radius_packets
 from peers.concentrators import Concentrator
 from peers.customers import FRONT, CallCustomer, Circuit, PppoeCustomer
-from peers.intruders import Door, IntruderCaller, IntruderHost, Store, Trapdoor, as_of, signed_change
+from peers.intruders import Door, IntruderCaller, IntruderHost, Store, Trapdoor, as_of, is_signed_change, signed_change
 from peers.l2tp import MESSAGE_TYPE, RESULT_CODE, STOP_CCN, read, short
 from peers.loopback import LOOPBACK, udp, widen
-from peers.mangling import mangled
+from peers.mangling import mangled, with_ipv4_sum
 from peers.pppoe import HOST_UNIQ, PADO, frame_octets, read_frame, read_tags
 from peers.segment import Segment
-from peers.storm_server import HONEST_NET, StormServer, unlike
+from peers.storm_server import HONEST_NET, StormServer
 
 # Sessions of honest subscribers are in the lower half of the shards, those of others in the upper half: a shard has 1,022 sessions, and who may
 # open sessions may fill one (docs/OPERATING.md, 'What to know beforehand').
@@ -54,7 +54,7 @@ class Storm(StormServer):
         self.by_address = {}
         self.starts, self.stops, self.live = {}, {}, {}
         self.sums, self.asked_again = collections.defaultdict(lambda: [0, 0]), 0
-        self.resident, self.last_stats = [], b""
+        self.resident, self.memory, self.last_stats, self.report = [], None, b"", []
         self.came = self.owed = self.asked = self.offered = self.told = 0
         self.made_at = {}
         self.withheld = {}
@@ -227,7 +227,11 @@ class Storm(StormServer):
             octets = self.mostly_first(self.trapped[role]).as_its_own(octets, chance)
         lac = self.mostly_first(self.lacs) if kind == "tunnel" else None
         if lac:
-            octets = as_of(next(iter(lac.tunnels.values())), self.mostly_first(list(lac.calls.values()) or [None]), octets, chance)
+            # A message with the next number stands before that of the concentrator itself: one of them is spared that.
+            places = (1, 2, 3, -1) if lac is self.lacs[-1] else (0, 0, 0, 1, 2)
+            octets = as_of(next(iter(lac.tunnels.values())), self.mostly_first(list(lac.calls.values()) or [None]), octets, chance, places)
+        if kind == "core" and chance.random() < 0.6:
+            octets = self.to_intruder(octets)
         if chance.random() < 0.06:
             way, changed = "again", octets
         else:
@@ -238,6 +242,13 @@ class Storm(StormServer):
             return
         who, end = self.sender(role, lac)
         self.hurl(role, who, end, changed, way)
+
+    def to_intruder(self, octets):
+        """A packet of the core to the address of an intruder, where one has any."""
+        them = [it.address for it in (*self.intruders, *self.bad_callers) if it.address]
+        if len(octets) < 20 or not them:
+            return octets
+        return with_ipv4_sum(octets[:16] + socket.inet_aton(self.chance.choice(them)) + octets[20:], 0)
 
     def sender(self, role, lac):
         """Who sends: one in eight is a stranger."""
@@ -258,7 +269,7 @@ class Storm(StormServer):
         """A request for a change: mangled behind its signature, or before it, or of a client that may not ask."""
         chance, luck = self.chance, self.chance.random()
         if luck < 0.45:
-            if unlike(changed, octets) or not self.may_ask(octets):
+            if not is_signed_change(changed):
                 self.hurl("coa", "unsigned", self.coa["unsigned"], changed, way)
         elif luck < 0.55:
             self.hurl("coa", "wrong", self.coa["wrong"], octets, "as it is")
@@ -271,6 +282,7 @@ class Storm(StormServer):
                 way, body = mangled(chance, "attributes", body, octets[20:])
             signed = signed_change(kind, chance.randrange(256), body[:4000])
             if self.may_ask(signed):
+                self.store.keep("coa", signed)
                 self.hurl("coa", "right", self.coa["signed"], signed, way + ", signed")
 
     def may_ask(self, octets):
