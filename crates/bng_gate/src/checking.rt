@@ -29,6 +29,7 @@ fn approve<F: Files, O: Sink>(
 }
 
 /// Reads the configuration of the file of this name, writes that it is right or which rule it breaks, and answers the status.
+#[inline(never)]
 pub(crate) fn check<F: Files, O: Sink, X: Sink>(
     alloc: Global,
     name: &str,

@@ -22,6 +22,7 @@ use std::thread::Threads;
 const ROUNDS: u64 = 1 << 40;
 
 // Serves so many subscribers with so many workers, and gives the desk that is left.
+#[inline(never)]
 fn play<R, T: Trace, G>(
     rt: &R,
     alloc: Global,
@@ -73,6 +74,7 @@ fn print<O: Sink>(alloc: Global, subscribers: u32, desk: &Desk, out: &mut O) -> 
 
 /// Serves so many scripted subscribers, 1 to 4,000, with so many workers, 1 to 16, until their script ends and the operator says `stop`;
 /// writes what that came to, and answers the status. Everything but the trace, the sinks and the gate is in memory.
+#[inline(never)]
 pub(crate) fn exercise<R, T: Trace, O: Sink, X: Sink, G>(
     rt: &R,
     alloc: Global,

@@ -186,6 +186,7 @@ pub(crate) struct Ready {
 }
 
 // Reads the configuration of the file of this name, and then asks for a seed.
+#[inline(never)]
 fn make_ready<E: Entropy, F: Files>(
     alloc: Global,
     name: &str,
@@ -214,6 +215,7 @@ fn make_ready<E: Entropy, F: Files>(
 }
 
 /// Binds the roles, reads the clock, and opens the desk.
+#[inline(never)]
 pub(crate) fn open_desk<P: Plant, C: Clock>(
     alloc: Global,
     config: Config,
@@ -285,6 +287,7 @@ fn report<O: Sink>(alloc: Global, desk: &Desk, out: &mut O) -> Result<(), Refusa
 }
 
 /// Opens a desk and makes its turns, and gives the desk that is left.
+#[inline(never)]
 pub(crate) fn serve_all<R, P: Plant, C: Clock, T: Trace, G>(
     rt: &R,
     alloc: Global,
@@ -361,6 +364,7 @@ fn tell<O: Sink, X: Sink>(alloc: Global, desk: &Desk, out: &mut O, err: &mut X) 
 }
 
 /// Serves by the configuration of the file of this name for so many rounds at most, and answers the status.
+#[inline(never)]
 pub(crate) fn serve_file<
     R,
     P: Plant,

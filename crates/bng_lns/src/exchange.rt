@@ -1,10 +1,10 @@
 //! What passes between a tunnel and a call of it.
-ghost use Rattle.std.specs.Prelude.{◌≡◌, ℕ, ◌<◌, ◌≤◌, ◌++◌, ◌∷◌, [], length};
+ghost use Rattle.std.specs.Prelude.{◌≡◌, ℕ, ◌<◌, ◌≤◌, ◌++◌, ◌∷◌, [], false, length};
 ghost use Rattle.std.specs.List.{AllByRecursion};
 ghost use Rattle.arrayvec.specs.ArrayVec.{array_vec_len};
 ghost use Rattle.bng_l2tp_tunnel.specs.Outs.{zlb, or_zlb};
 ghost use Rattle.bng_l2tp_tunnel.specs.Sound.{IsTunnel};
-ghost use Rattle.bng_l2tp_wire.specs.View.{payloads, said};
+ghost use Rattle.bng_l2tp_wire.specs.View.{payloads, said, sends};
 ghost use Rattle.bng_l2tp_tunnel.specs.Steps.{to_peer};
 ghost use Rattle.bng_l2tp_tunnel.specs.TunnelState.{lasting_of};
 ghost use Rattle.bng_lns.specs.Places.{place_of, IsPlace};
@@ -43,29 +43,29 @@ fn push_sent(outs: &mut Outs, sent: &mut Outs)
     }
 }
 
-// The words of a tunnel with those of its call.
-fn with_words(mut step: TunnelStep, told: &TunnelStep, left_out: bool) -> TunnelStep
-    ensures { said result ≡ joined (said step) (said told.now) left_out (said step).outs }
+// Adds the words of a call to those of its tunnel.
+fn add_words(step: &mut TunnelStep, told: &TunnelStep, left_out: bool)
+    ensures { said step.new ≡ joined (said step.old) (said told.now) left_out (said step.old).outs }
 {
     step.opened = told.opened;
     step.ended = told.ended;
     step.left_out = left_out;
-    step
 }
 
 // A call's answer goes out.
+#[inline(never)]
 fn answer_over(
     tunnel: &mut Tunnel,
-    mut heard: TunnelStep,
+    heard: &mut TunnelStep,
     text: &[u8],
     told: &TunnelStep,
     now: u64,
-) -> TunnelStep
+)
     requires tunnel { IsTunnel tunnel.old }
-    requires few { array_vec_len heard.outs ≤ 8 }
+    requires few { array_vec_len heard.old.outs ≤ 8 }
     requires text { IsCallText text.now }
-    ensures said { said result ≡ (answered_by tunnel.old (said heard) (said told.now) now (text.now ∷ [])).said }
-    ensures after { tunnel.new ≡ (answered_by tunnel.old (said heard) (said told.now) now (text.now ∷ [])).after }
+    ensures said { said heard.new ≡ (answered_by tunnel.old (said heard.old) (said told.now) now (text.now ∷ [])).said }
+    ensures after { tunnel.new ≡ (answered_by tunnel.old (said heard.old) (said told.now) now (text.now ∷ [])).after }
     ensures sound { IsTunnel tunnel.new }
     ensures lasting { lasting_of tunnel.new ≡ lasting_of tunnel.old }
 {
@@ -73,74 +73,81 @@ fn answer_over(
     let left_out = sent.left_out;
     push_sent(&mut heard.outs, &mut sent.outs);
     push_zlb_alone(&mut heard.outs, tunnel);
-    with_words(heard, told, left_out)
+    add_words(heard, told, left_out);
 }
 
 // What a call told goes out over its tunnel.
-fn answer_by(tunnel: &mut Tunnel, mut heard: TunnelStep, told: &TunnelStep, now: u64) -> TunnelStep
+#[inline(never)]
+fn answer_by(tunnel: &mut Tunnel, heard: &mut TunnelStep, told: &TunnelStep, now: u64)
     requires tunnel { IsTunnel tunnel.old }
-    requires few { array_vec_len heard.outs ≤ 8 }
+    requires few { array_vec_len heard.old.outs ≤ 8 }
     requires texts { AllByRecursion IsCallText (payloads told.now.outs.items) }
-    ensures said { said result ≡ (answered_by tunnel.old (said heard) (said told.now) now (payloads told.now.outs.items)).said }
-    ensures after { tunnel.new ≡ (answered_by tunnel.old (said heard) (said told.now) now (payloads told.now.outs.items)).after }
+    ensures said { said heard.new ≡ (answered_by tunnel.old (said heard.old) (said told.now) now (payloads told.now.outs.items)).said }
+    ensures after { tunnel.new ≡ (answered_by tunnel.old (said heard.old) (said told.now) now (payloads told.now.outs.items)).after }
     ensures sound { IsTunnel tunnel.new }
     ensures lasting { lasting_of tunnel.new ≡ lasting_of tunnel.old }
 {
     match told.outs.as_slice() {
         [] => {
             push_zlb(&mut heard.outs, tunnel);
-            with_words(heard, told, false)
+            add_words(heard, told, false);
         }
         [text, ..] => answer_over(tunnel, heard, text.payload(), told, now),
     }
 }
 
+// The words of a call alone.
+#[inline(never)]
+fn say_words(step: &mut TunnelStep, told: &TunnelStep)
+    ensures { said step.new ≡ joined (sends []) (said told.now) false [] }
+{
+    *step = nothing();
+    add_words(step, told, false);
+}
+
 // What a call told as it ended goes out over its tunnel.
-fn part_by(tunnel: &mut Tunnel, told: &TunnelStep, now: u64) -> TunnelStep
+#[inline(never)]
+fn part_by(tunnel: &mut Tunnel, step: &mut TunnelStep, told: &TunnelStep, now: u64)
     requires tunnel { IsTunnel tunnel.old }
     requires texts { AllByRecursion IsCallText (payloads told.now.outs.items) }
-    ensures said { said result ≡ (parted_by tunnel.old (said told.now) now (payloads told.now.outs.items)).said }
+    ensures said { said step.new ≡ (parted_by tunnel.old (said told.now) now (payloads told.now.outs.items)).said }
     ensures after { tunnel.new ≡ (parted_by tunnel.old (said told.now) now (payloads told.now.outs.items)).after }
     ensures sound { IsTunnel tunnel.new }
     ensures lasting { lasting_of tunnel.new ≡ lasting_of tunnel.old }
 {
     match told.outs.as_slice() {
-        [] => with_words(nothing(), told, false),
+        [] => say_words(step, told),
         [text, ..] => {
-            let sent = tunnel.send(text.payload(), now);
-            let left_out = sent.left_out;
-            with_words(sent, told, left_out)
+            *step = tunnel.send(text.payload(), now);
+            let left_out = step.left_out;
+            add_words(step, told, left_out);
         }
     }
 }
 
 /// What a call told goes out over its tunnel, after what the tunnel lets out anyway. Where the call tells nothing, or nothing goes
 /// out, a ZLB does.
-pub(crate) fn answer_in(
-    place: &mut Place,
-    heard: TunnelStep,
-    told: &TunnelStep,
-    now: u64,
-) -> TunnelStep
+#[inline(never)]
+pub(crate) fn answer_in(place: &mut Place, heard: &mut TunnelStep, told: &TunnelStep, now: u64)
     requires tunnel { IsTunnel place.old.tunnel }
-    requires few { array_vec_len heard.outs ≤ 8 }
+    requires few { array_vec_len heard.old.outs ≤ 8 }
     requires texts { AllByRecursion IsCallText (payloads told.now.outs.items) }
-    ensures said { said result ≡ (answered_by place.old.tunnel (said heard) (said told.now) now (payloads told.now.outs.items)).said }
-    ensures after { place.new ≡ place_of now (answered_by place.old.tunnel (said heard) (said told.now) now (payloads told.now.outs.items)).after }
+    ensures said { said heard.new ≡ (answered_by place.old.tunnel (said heard.old) (said told.now) now (payloads told.now.outs.items)).said }
+    ensures after { place.new ≡ place_of now (answered_by place.old.tunnel (said heard.old) (said told.now) now (payloads told.now.outs.items)).after }
     ensures kept { (number : ℕ) → IsPlace number place.old → IsPlace number place.new }
 {
     place.since = now;
-    answer_by(&mut place.tunnel, heard, told, now)
+    answer_by(&mut place.tunnel, heard, told, now);
 }
 
 /// What a call told as it ended goes out over its tunnel.
-pub(crate) fn part_in(place: &mut Place, told: &TunnelStep, now: u64) -> TunnelStep
+pub(crate) fn part_in(place: &mut Place, step: &mut TunnelStep, told: &TunnelStep, now: u64)
     requires tunnel { IsTunnel place.old.tunnel }
     requires texts { AllByRecursion IsCallText (payloads told.now.outs.items) }
-    ensures said { said result ≡ (parted_by place.old.tunnel (said told.now) now (payloads told.now.outs.items)).said }
+    ensures said { said step.new ≡ (parted_by place.old.tunnel (said told.now) now (payloads told.now.outs.items)).said }
     ensures after { place.new ≡ place_of now (parted_by place.old.tunnel (said told.now) now (payloads told.now.outs.items)).after }
     ensures kept { (number : ℕ) → IsPlace number place.old → IsPlace number place.new }
 {
     place.since = now;
-    part_by(&mut place.tunnel, told, now)
+    part_by(&mut place.tunnel, step, told, now);
 }

@@ -91,6 +91,7 @@ pub(crate) fn is_due(place: &Place, now: u64) -> bool
 }
 
 /// The tunnel takes a message.
+#[inline(never)]
 pub(crate) fn hear_in(place: &mut Place, came: &Came, message: &Control<'_>) -> Taken
     ensures answer { answer_of result ≡ Steps place.old.tunnel.number (message_step place.old.tunnel (control_of message.now) came.now.random came.now.moment).said }
     ensures after { place.new ≡ place_of came.now.moment (message_step place.old.tunnel (control_of message.now) came.now.random came.now.moment).after }
@@ -107,6 +108,7 @@ pub(crate) fn hear_in(place: &mut Place, came: &Came, message: &Control<'_>) -> 
 }
 
 /// The tunnel does what its timers ask for.
+#[inline(never)]
 pub(crate) fn remind_in(place: &mut Place, now: u64) -> Told
     ensures told { telling_of result ≡ record { number = place.old.tunnel.number; peer = place.old.tunnel.peer; said = (due_step place.old.tunnel now).said } }
     ensures after { place.new ≡ place_of now (due_step place.old.tunnel now).after }
@@ -122,6 +124,7 @@ pub(crate) fn remind_in(place: &mut Place, now: u64) -> Told
 }
 
 /// The tunnel tells its peer that the gateway shuts down.
+#[inline(never)]
 pub(crate) fn stop_in(place: &mut Place, now: u64) -> Told
     ensures told { telling_of result ≡ record { number = place.old.tunnel.number; peer = place.old.tunnel.peer; said = (stop_step place.old.tunnel now).said } }
     ensures after { place.new ≡ place_of now (stop_step place.old.tunnel now).after }

@@ -82,6 +82,7 @@ impl Tunnels {
     ///
     /// Where the step says `call`, the message is a call's, and [`Tunnels::answer`] is still to acknowledge it. Where the tunnel was
     /// cleared, its number rests from then on.
+    #[inline(never)]
     #[tactic(auto, unfolding(crate::specs::Tunnels::hear))]
     pub fn hear(
         &mut self,
@@ -109,6 +110,7 @@ impl Tunnels {
     ///
     /// `opened` and `ended` are the call's. `left_out` says that 64 messages waited and the call's answer was left out: a call whose
     /// ICRP was left out is not made.
+    #[inline(never)]
     pub fn answer(
         &mut self,
         number: TunnelNo,
@@ -128,15 +130,14 @@ impl Tunnels {
         ensures few { length (payloads result.outs.items) ≤ 9 }
         ensures spelled { AllByRecursion IsSpelled (payloads heard.outs.items) → AllByRecursion IsSpelled (payloads result.outs.items) }
     {
-        let told = call.on_message(message, &[0; 16], now);
-        let Some(at) = numbered_place(self.places.as_slice(), number) else {
-            unreachable!();
-        };
-        answer_in(&mut self.places[at], heard, &told, now)
+        let mut step = heard;
+        self.answer_at(number, &mut step, call, message, now);
+        step
     }
 
     /// Ends a call of the tunnel with this number by a CDN with Result Code 3 (RFC 2661 section 6.12). A call that was not made or has
     /// ended tells nothing. `left_out` says that 64 messages waited and the CDN was left out; the call has ended all the same.
+    #[inline(never)]
     pub fn hang_up(&mut self, number: TunnelNo, call: &mut Call, now: u64) -> TunnelStep
         requires stands { IsSome (tunnel_at self.old number.0) }
         ensures said { (t : TunnelState) → tunnel_at self.old number.0 ≡ Some t → said result ≡ (parted t call.old now).said }
@@ -146,15 +147,14 @@ impl Tunnels {
         ensures one { length (payloads result.outs.items) ≤ 1 }
         ensures spelled { AllByRecursion IsSpelled (payloads result.outs.items) }
     {
-        let told = call.end();
-        let Some(at) = numbered_place(self.places.as_slice(), number) else {
-            unreachable!();
-        };
-        part_in(&mut self.places[at], &told, now)
+        let mut step = nothing();
+        self.part_at(number, &mut step, call, now);
+        step
     }
 
     /// The tunnel at this place, from 0, does what its timers ask for at that moment, in milliseconds (RFC 2661 sections 5.5 and 5.8).
     /// None comes exactly where no tunnel stands there, or its timers ask for nothing.
+    #[inline(never)]
     pub fn remind(&mut self, at: usize, now: u64) -> Option<Told>
         ensures told { option_map telling_of result ≡ (reminded now self.old at).told }
         ensures after { self.new ≡ (reminded now self.old at).after }
@@ -172,6 +172,7 @@ impl Tunnels {
 
     /// The tunnel at this place, from 0, tells its peer that the gateway shuts down (RFC 2661 section 6.4), which clears it. None
     /// comes exactly where no tunnel stands there.
+    #[inline(never)]
     pub fn stop(&mut self, at: usize, now: u64) -> Option<Told>
         ensures told { option_map telling_of result ≡ (stopped now self.old at).told }
         ensures after { self.new ≡ (stopped now self.old at).after }
@@ -203,7 +204,54 @@ impl Tunnels {
         Some(&self.places[at].tunnel)
     }
 
+    // Hands a message to its call, and adds what the call answers to what the tunnel said.
+    #[inline(never)]
+    fn answer_at(
+        &mut self,
+        number: TunnelNo,
+        step: &mut TunnelStep,
+        call: &mut Call,
+        message: &Control<'_>,
+        now: u64,
+    )
+        requires stands { IsSome (tunnel_at self.old number.0) }
+        requires few { length (payloads step.old.outs.items) ≤ 8 }
+        ensures said { (t : TunnelState) → tunnel_at self.old number.0 ≡ Some t
+            → said step.new ≡ (exchanged t (said step.old) call.old (control_of message.now) now).said }
+        ensures after { (t : TunnelState) → tunnel_at self.old number.0 ≡ Some t
+            → self.new ≡ with_step now self.old number.0 (exchanged t (said step.old) call.old (control_of message.now) now).after }
+        ensures call { call.new ≡ (call_step call.old (control_of message.now).avps).after }
+        ensures acknowledged { 0 < length (payloads step.new.outs.items) }
+        ensures few { length (payloads step.new.outs.items) ≤ 9 }
+        ensures spelled { AllByRecursion IsSpelled (payloads step.old.outs.items) → AllByRecursion IsSpelled (payloads step.new.outs.items) }
+    {
+        let told = call.on_message(message, &[0; 16], now);
+        let Some(at) = numbered_place(self.places.as_slice(), number) else {
+            unreachable!();
+        };
+        answer_in(&mut self.places[at], step, &told, now);
+    }
+
+    // Ends a call, and says what its tunnel sends of that.
+    #[inline(never)]
+    fn part_at(&mut self, number: TunnelNo, step: &mut TunnelStep, call: &mut Call, now: u64)
+        requires stands { IsSome (tunnel_at self.old number.0) }
+        ensures said { (t : TunnelState) → tunnel_at self.old number.0 ≡ Some t → said step.new ≡ (parted t call.old now).said }
+        ensures after { (t : TunnelState) → tunnel_at self.old number.0 ≡ Some t
+            → self.new ≡ with_step now self.old number.0 (parted t call.old now).after }
+        ensures call { call.new ≡ (end_step call.old).after }
+        ensures one { length (payloads step.new.outs.items) ≤ 1 }
+        ensures spelled { AllByRecursion IsSpelled (payloads step.new.outs.items) }
+    {
+        let told = call.end();
+        let Some(at) = numbered_place(self.places.as_slice(), number) else {
+            unreachable!();
+        };
+        part_in(&mut self.places[at], step, &told, now);
+    }
+
     // The tunnel at a place takes a message.
+    #[inline(never)]
     fn hear_at(&mut self, at: usize, came: &Came, message: &Control<'_>) -> Taken
         requires within { at < length self.old.places }
         requires stands { (p : PlaceView) → slice_get self.old.places at ≡ Some p → stands p.tunnel.phase ≡ true }
@@ -215,6 +263,7 @@ impl Tunnels {
     }
 
     // A message for the tunnel with its Tunnel ID.
+    #[inline(never)]
     fn hear_named(&mut self, came: &Came, message: &Control<'_>) -> Taken
         ensures answer { answer_of result ≡ (heard_by self.old came.now (control_of message.now) (find (is_named came.now.from message.now.tunnel) self.old.places)).answer }
         ensures after { self.new ≡ (heard_by self.old came.now (control_of message.now) (find (is_named came.now.from message.now.tunnel) self.old.places)).after }
@@ -227,6 +276,7 @@ impl Tunnels {
     }
 
     // An SCCRQ of this peer, or of one that is not configured.
+    #[inline(never)]
     fn hear_request(
         &mut self,
         name: &ArrayVec<u8, 64>,
@@ -246,6 +296,7 @@ impl Tunnels {
     }
 
     // An SCCRQ that asks for a tunnel, for which the lowest number that may be given is taken.
+    #[inline(never)]
     fn begin(
         &mut self,
         name: &ArrayVec<u8, 64>,
@@ -263,6 +314,7 @@ impl Tunnels {
     }
 
     // A tunnel that has taken no message takes an SCCRQ, and where it is made by that, the place of its number.
+    #[inline(never)]
     fn make(&mut self, at: usize, mut tunnel: Tunnel, came: &Came, message: &Control<'_>) -> Taken
         requires at { at ≡ free_place_of came.now.moment self.old }
         requires number { tunnel.number ≡ vacant came.now.moment self.old }

@@ -16,8 +16,8 @@ use Rattle.bng_lns.proofs.Exchanging.{answered_some, answered_few, answered_spel
 use Rattle.bng_lns.proofs.Finding.{found_passes, none_found}
 use Rattle.bng_lns.proofs.Keeping.{place_in, kept_set, same_tunnel, tunnel_stepped, none_stands}
 use Rattle.bng_lns.proofs.Payloads.{length-payloads}
-use Rattle.bng_lns.proofs.tunnels.Tunnels.answer.Goals as goal
-use Rattle.bng_lns.proofs.tunnels.Tunnels.answer.Goals.{After-index_mut}
+use Rattle.bng_lns.proofs.tunnels.Tunnels.answer_at.Goals as goal
+use Rattle.bng_lns.proofs.tunnels.Tunnels.answer_at.Goals.{After-index_mut}
 
 -- where the tunnel stands
 at_place : (c : After-index_mut) → position (is_numbered c.args.number.0) c.self.inside.places.items ≡ Some c.in-Some.at
@@ -42,7 +42,7 @@ pub answer_in-requires-clause-tunnel : goal.answer_in-requires-clause-tunnel
 answer_in-requires-clause-tunnel c = (its_place (goal.at.answer_in-requires-clause-tunnel c).After-index_mut).sound
 
 pub answer_in-requires-clause-few : goal.answer_in-requires-clause-few
-answer_in-requires-clause-few c = omega (arith, length-payloads c.args.heard.outs.items, c.requires.few)
+answer_in-requires-clause-few c = omega (arith, length-payloads c.args.step.now.outs.items, c.requires.few)
 
 pub answer_in-requires-clause-texts : goal.answer_in-requires-clause-texts
 answer_in-requires-clause-texts c = call_texts _ _ c.on_message-told.ensures.sound.outs
@@ -56,7 +56,7 @@ pub returns-clause-said : goal.returns-clause-said
 returns-clause-said c = λ x e.
     let d = (goal.at.returns-clause-said c).After-index_mut in
     let t : TunnelsState = record { shard = c.self.inside.shard; places = c.self.inside.places.items } in
-    let heard = said c.args.heard in
+    let heard = said c.args.step.now in
     let told = said c.on_message-told.result in
     let m = control_of c.args.message.now in
     let same = same_tunnel t c.args.number.0 c.in-Some.at c.index_mut.result.now (at_place d) (there d) x (ap (λ (s : TunnelsState). tunnel_at s c.args.number.0) c.self.view_is ∙ e) in
@@ -68,7 +68,7 @@ pub returns-clause-after : goal.returns-clause-after
 returns-clause-after c = λ x e.
     let d = (goal.at.returns-clause-after c).After-index_mut in
     let t : TunnelsState = record { shard = c.self.inside.shard; places = c.self.inside.places.items } in
-    let heard = said c.args.heard in
+    let heard = said c.args.step.now in
     let told = said c.on_message-told.result in
     let m = control_of c.args.message.now in
     let p = c.index_mut.result.now in
@@ -84,20 +84,20 @@ pub returns-clause-acknowledged : goal.returns-clause-acknowledged
 returns-clause-acknowledged c =
     let told = said c.on_message-told.result in
     subst (λ (s : Said). 0 < length s.outs) (sym c.answer_in.ensures.said)
-    (answered_some c.index_mut.result.now.tunnel (said c.args.heard) told c.args.now told.outs)
+    (answered_some c.index_mut.result.now.tunnel (said c.args.step.now) told c.args.now told.outs)
 
 pub returns-clause-few : goal.returns-clause-few
 returns-clause-few c =
     let d = (goal.at.returns-clause-few c).After-index_mut in
     let told = said c.on_message-told.result in
-    omega (arith, ap (λ (s : Said). length s.outs) c.answer_in.ensures.said, answered_few c.index_mut.result.now.tunnel (said c.args.heard) told c.args.now told.outs (its_place d).sound c.requires.few)
+    omega (arith, ap (λ (s : Said). length s.outs) c.answer_in.ensures.said, answered_few c.index_mut.result.now.tunnel (said c.args.step.now) told c.args.now told.outs (its_place d).sound c.requires.few)
 
 pub returns-clause-spelled : goal.returns-clause-spelled
 returns-clause-spelled c = λ h.
     let d = (goal.at.returns-clause-spelled c).After-index_mut in
     let told = said c.on_message-told.result in
     subst (λ (s : Said). AllByRecursion IsSpelled s.outs) (sym c.answer_in.ensures.said)
-    (answered_spelled c.index_mut.result.now.tunnel (said c.args.heard) told c.args.now told.outs (its_place d).sound (call_texts _ _ c.on_message-told.ensures.sound.outs) h)
+    (answered_spelled c.index_mut.result.now.tunnel (said c.args.step.now) told c.args.now told.outs (its_place d).sound (call_texts _ _ c.on_message-told.ensures.sound.outs) h)
 
 pub returns-clause-call : goal.returns-clause-call
 returns-clause-call c = ap (λ (s : CallStep). s.after) (hears_is c.args.call.now (control_of c.args.message.now) c.on_message-told.ensures.steps)

@@ -12,8 +12,8 @@ use Rattle.bng_lns.specs.Exchange.{parted_by, parted}
 use Rattle.bng_lns.proofs.Exchanging.{parted_one, parted_spelled, call_texts}
 use Rattle.bng_lns.proofs.Finding.{found_passes, none_found}
 use Rattle.bng_lns.proofs.Keeping.{place_in, kept_set, same_tunnel, tunnel_stepped, none_stands}
-use Rattle.bng_lns.proofs.tunnels.Tunnels.hang_up.Goals as goal
-use Rattle.bng_lns.proofs.tunnels.Tunnels.hang_up.Goals.{After-index_mut}
+use Rattle.bng_lns.proofs.tunnels.Tunnels.part_at.Goals as goal
+use Rattle.bng_lns.proofs.tunnels.Tunnels.part_at.Goals.{After-index_mut}
 
 -- where the tunnel stands
 at_place : (c : After-index_mut) → position (is_numbered c.args.number.0) c.self.inside.places.items ≡ Some c.in-Some.at
