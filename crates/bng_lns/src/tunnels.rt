@@ -29,6 +29,7 @@ use bng_l2tp_tunnel::Tunnel;
 use bng_l2tp_wire::Control;
 use bng_l2tp_wire::judge::is_type;
 use bng_l2tp_wire::message::SCCRQ;
+use bng_l2tp_wire::step::nothing;
 use bng_l2tp_wire::values::message_type;
 use std::alloc::{AllocError, Global};
 use std::marker::Model;
