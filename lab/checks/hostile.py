@@ -9,6 +9,7 @@ where it ends or is silent. What it finds is kept in a file with the datagrams b
 import collections
 import os
 import random
+import signal
 import socket
 import sys
 import time
@@ -56,7 +57,9 @@ LOOK, PROBE, ANSWERING, TELLING = 40, 8, 60.0, 10_000
 
 
 class World(Storm):
-    """The storm in steps, each of which ends once the gateway has taken all that was sent."""
+    """The storm in steps, each of which ends once the gateway has taken nearly all that was sent. An interrupt ends all storms."""
+
+    is_interrupted = False
 
     def hear_until(self, what, is_there):
         """Hears all until something has come, and says whether it came."""
@@ -197,7 +200,7 @@ def play(count, seed, program=PROGRAM):
         world = World(lab, seed, access2)
         began = time.monotonic()
         world.make_probes(40)
-        while world.hurled < count and world.step() and len(world.faults) < FAULTS:
+        while world.hurled < count and not World.is_interrupted and world.step() and len(world.faults) < FAULTS:
             pass
         world.seconds = time.monotonic() - began
         calm(world)
@@ -298,6 +301,7 @@ def main():
         print("hostile: skipped, since the program is not built: ./bng does it")
         return 0
     print(f"hostile: runs {program}, {count} datagrams by the seed {seed}", flush=True)
+    signal.signal(signal.SIGINT, lambda *_: setattr(World, "is_interrupted", True))
     world = play(count, seed, program)
     tell(world)
     return 1 if world.faults else 0

@@ -15,8 +15,9 @@ FRONT = b"honest-"
 PASSWORD = b"arctangent"
 HOST = socket.inet_aton("192.0.2.1")
 
-# Packets each way in a session, how many may be on their way at once, and seconds in which each step of a session is to come.
-PACKETS, AT_ONCE, PATIENCE = 12, 4, 60.0
+# Packets each way in a session, how many may be on their way at once, and the seconds and the ticks after which what has not come is lost: where
+# little processor time is left a tick takes seconds.
+PACKETS, AT_ONCE, PATIENCE, TICKS = 12, 4, 30.0, 100
 
 LOST_CARRIER, USER_REQUEST = 2, 1
 
@@ -33,7 +34,7 @@ class Customer(Dialler):
     def prepare(self, world):
         self.world, self.logins, self.ended, self.is_last = world, 0, 0, False
         self.password = PASSWORD
-        self.phase, self.since = "waiting", 0.0
+        self.phase, self.since, self.quiet = "waiting", 0.0, 0
         self.renew()
 
     def renew(self):
@@ -49,7 +50,15 @@ class Customer(Dialler):
         self.world.found(f"{self.name}, {self.phase}: {what}")
 
     def enter(self, phase, now):
-        self.phase, self.since = phase, now
+        self.phase = phase
+        self.note(now)
+
+    def note(self, now):
+        """Something came, or is to come from now on."""
+        self.since, self.quiet = now, 0
+
+    def is_lost(self, now):
+        return self.quiet > TICKS and now - self.since > PATIENCE
 
     def lose(self, now):
         self.wrong("its session was lost: no echo was answered")
@@ -68,6 +77,7 @@ class Customer(Dialler):
         self.enter("waiting", now)
 
     def hear(self, payload, now):
+        self.note(now)
         if payload[:2] == b"\0\x21":
             self.take(payload[2:], now)
             return
@@ -95,7 +105,6 @@ class Customer(Dialler):
         self.coming.remove(octets)
         self.got += 1
         self.down_octets += len(octets)
-        self.since = now
 
     def came_out(self, octets, now):
         """A packet of its address came out at the core."""
@@ -104,7 +113,7 @@ class Customer(Dialler):
             return
         self.on_way.remove(octets)
         self.up_octets += len(octets)
-        self.since = now
+        self.note(now)
 
     def new_packet(self, source, destination):
         chance = self.world.chance
@@ -113,6 +122,7 @@ class Customer(Dialler):
 
     def tick(self, now):
         """Does what is due."""
+        self.quiet += 1
         if self.phase == "waiting" and self.is_last:
             self.enter("done", now)
         elif self.phase == "waiting":
@@ -128,8 +138,8 @@ class Customer(Dialler):
             self.drop_session()
             self.renew()
             self.enter("waiting", now)
-        elif now - self.since > PATIENCE:
-            self.wrong(f"nothing came for {PATIENCE:.0f} s")
+        elif self.is_lost(now):
+            self.wrong(f"nothing came for {now - self.since:.0f} s")
             self.restart(now)
 
     def exchange(self, now):
@@ -144,7 +154,7 @@ class Customer(Dialler):
             self.world.to_core(down)
         elif self.sent == PACKETS and not self.on_way and not self.coming:
             self.go(now)
-        elif now - self.since > PATIENCE:
+        elif self.is_lost(now):
             self.wrong(f"{len(self.on_way)} packets to the core and {len(self.coming)} from it were lost")
             self.restart(now)
 
@@ -219,7 +229,7 @@ class Circuit:
         self.sent, self.on_way, self.coming = 0, set(), set()
         self.name, self.phase = "the circuit", "sending"
 
-    came_out, take, wrong, new_packet = Customer.came_out, Customer.take, Customer.wrong, Customer.new_packet
+    came_out, take, wrong, new_packet, note = Customer.came_out, Customer.take, Customer.wrong, Customer.new_packet, Customer.note
     up_octets = down_octets = got = 0
 
     def tick(self, now):
