@@ -3,3 +3,8 @@ mod Placed
 mod CallsKept
 mod Answering
 mod Laws
+mod Passed
+mod OneCall
+mod Soundness
+mod Heard
+mod Asking

@@ -27,6 +27,8 @@ pub use crate::call::LacCall;
 pub use crate::called::Called;
 pub use crate::calls::CALLS_MOST;
 pub use crate::error::LacError;
-pub use crate::law::one_call_a_message;
+pub use crate::law::{
+    a_message_is_answered, a_tunnel_is_sound, each_call_is_asked_for, one_call_a_message,
+};
 pub use crate::rules::LacRules;
 pub use crate::tunnel::LacTunnel;
