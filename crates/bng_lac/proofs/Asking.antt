@@ -15,16 +15,14 @@ use Rattle.bng_l2tp_tunnel.specs.Messages.{is_type}
 use Rattle.bng_l2tp_tunnel.specs.Outs.{flight_most}
 use Rattle.bng_l2tp_tunnel.proofs.Texts.{after_out-keeps}
 use Rattle.bng_lac.specs.declared.call.LacCall.{LacCall}
-use Rattle.bng_lac.specs.declared.called.Called.{Called}
 use Rattle.bng_lac.specs.declared.called.Called.TheVariants.{Asked, Full}
 use Rattle.bng_lac.specs.Numbers.{sccrp_type, stop_ccn_type, challenge_avp}
 use Rattle.bng_lac.specs.LacState.{LacState, is_waiting, is_established}
-use Rattle.bng_lac.specs.Messages.{is_of_call, is_taken}
+use Rattle.bng_lac.specs.Messages.{is_of_call}
 use Rattle.bng_lac.specs.Refusals.{refusal_of}
 use Rattle.bng_lac.specs.Spelling.{scccn, icrq}
 use Rattle.bng_lac.specs.Calls.{call_of, with_call, new_call}
-use Rattle.bng_lac.specs.CallSteps.{call_step}
-use Rattle.bng_lac.specs.Steps.{Step, waiting_most, flushed, queue, Asking, serial_after, asks, asks_each, connecting, established, ended, accepted, judged, learned, calls_after, heard_by_call, heard, heard_by, having_heard, lac_step, has_no_room, called_of, asked_for, with_new_call, called}
+use Rattle.bng_lac.specs.Steps.{Step, waiting_most, flushed, Asking, serial_after, asks, asks_each, connecting, established, ended, accepted, judged, learned, heard_by_call, heard, heard_by, having_heard, lac_step, called_of, asked_for, with_new_call, called}
 use Rattle.bng_lac.specs.Sound.{held, icrqs, AsksEach}
 use Rattle.bng_lac.proofs.Passed.{passed, waiting_if}
 use Rattle.bng_lac.proofs.Heard.{by_call_quiet}

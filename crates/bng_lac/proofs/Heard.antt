@@ -1,5 +1,5 @@
 -- What a message does to the calls of a tunnel, and that it is acknowledged.
-use Rattle.std.proofs.Common.{◌≡◌, ◌≢◌, ℕ, ◌<◌, Bool, true, false, ◌&&◌, not, cond, Option, None, Some, is_some, List, [], ◌∷◌, ◌++◌, length, map, option_to_list, option_and_then, refl, sym, ap, ◌∙◌, arith, length-append}
+use Rattle.std.proofs.Common.{◌≡◌, ℕ, ◌<◌, Bool, true, false, ◌&&◌, not, cond, Option, None, Some, is_some, List, [], ◌∷◌, ◌++◌, length, map, option_to_list, refl, sym, ap, ◌∙◌, arith, length-append}
 use Rattle.std.proofs.lemmas.Bool.{false≢true}
 use Rattle.bng_l2tp_reliable.specs.declared.answers.Heard.{Heard}
 use Rattle.bng_l2tp_reliable.specs.declared.answers.Heard.TheVariants.{Deliver, Repeat, Ahead, Acked}
@@ -22,11 +22,11 @@ use Rattle.bng_lac.specs.LacState.{LacState, is_waiting, is_established}
 use Rattle.bng_lac.specs.Messages.{is_of_call}
 use Rattle.bng_lac.specs.Refusals.{refusal_of}
 use Rattle.bng_lac.specs.Calls.{call_of}
-use Rattle.bng_lac.specs.CallSteps.{CallStep, call_step, assigned_session}
-use Rattle.bng_lac.specs.Steps.{Step, to_peer, flushed, queue_text, queued_text, clears, asks_each, connecting, established, ended, accepted, judged, learned, calls_after, or_zlb, replied, with_words, heard_by_call, delivered, heard, heard_by, having_heard, lac_step}
+use Rattle.bng_lac.specs.CallSteps.{call_step, assigned_session}
+use Rattle.bng_lac.specs.Steps.{Step, to_peer, flushed, queue_text, asks_each, connecting, established, ended, accepted, judged, learned, calls_after, or_zlb, replied, heard_by_call, delivered, heard, heard_by, having_heard, lac_step}
 use Rattle.bng_lac.specs.Sound.{has_call, peer_of, is_up, ChangesOne, BringsUp, IsAnswerOf}
 use Rattle.bng_lac.proofs.Laws.{opens_waiting}
-use Rattle.bng_lac.proofs.OneCall.{ChangesAt, stays_at, call_changes, call_peer}
+use Rattle.bng_lac.proofs.OneCall.{stays_at, call_changes, call_peer}
 use Rattle.bng_lac.proofs.Passed.{passed, answers}
 
 -- What is told of the calls --------------------------------------------------------------------------------------------------------------

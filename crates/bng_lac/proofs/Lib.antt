@@ -8,3 +8,4 @@ mod OneCall
 mod Soundness
 mod Heard
 mod Asking
+mod Up

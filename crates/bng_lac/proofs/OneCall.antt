@@ -1,6 +1,6 @@
 -- What a message does to one call, and to the calls of a tunnel.
-use Rattle.std.proofs.Common.{◌≡◌, ◌≢◌, ℕ, ◌<◌, ◌==◌, ◌&&◌, ◌||◌, ◌⊎◌, Bool, true, false, cond, not, nat_lt, List, [], ◌∷◌, ◌++◌, filter, find, length, Option, None, Some, is_some, is_none, IsSome, option_and_then, refl, sym, ap, subst, ◌∙◌, inl, inr, arith}
-use Rattle.std.proofs.lemmas.Bool.{eqb-true, eq-eqb, le-ltb, and_parts, or_parts, not-false, false≢true}
+use Rattle.std.proofs.Common.{◌≡◌, ◌≢◌, ℕ, ◌==◌, ◌&&◌, ◌||◌, ◌⊎◌, Bool, true, false, cond, not, nat_lt, List, [], ◌∷◌, filter, length, Option, None, Some, is_some, IsSome, option_and_then, refl, sym, ap, subst, ◌∙◌, inl, inr, arith}
+use Rattle.std.proofs.lemmas.Bool.{eqb-true, eq-eqb, le-ltb, or_parts, not-false, false≢true}
 use Rattle.std.proofs.lemmas.Option.{same_Some}
 use Rattle.byteorder.specs.Endian.{big_from}
 use Rattle.bng_l2tp_wire.specs.Avps.{L2tpAvp}
@@ -14,7 +14,7 @@ use Rattle.bng_lac.specs.declared.call.LacCall.{LacCall}
 use Rattle.bng_lac.specs.Messages.{is_taken_by, lacks_needed}
 use Rattle.bng_lac.specs.Refusals.{has_wrong_avp, call_refusal_of}
 use Rattle.bng_lac.specs.Calls.{is_call, call_of, with_call, without_call}
-use Rattle.bng_lac.specs.CallSteps.{CallStep, assigned_session, passes, opens, ends, refuses, judged, call_step}
+use Rattle.bng_lac.specs.CallSteps.{CallStep, assigned_session, passes, opens, ends, judged, call_step}
 use Rattle.bng_lac.specs.Steps.{calls_after}
 use Rattle.bng_lac.specs.Sound.{has_call, peer_of, is_up}
 use Rattle.bng_lac.proofs.Laws.{none_in, at_back, with_other, without_other, opens_waiting}

@@ -238,12 +238,12 @@ module _ (c : LacCall) where
             let above : Above c.session.0 cs = λ k d l. omega (arith, head_below e cs up k d l, same) in
             subst (λ (ds : List LacCall). AreRising ds) (sym (with_same c e cs same ∙ with_above c cs above)) (rising_cons c cs above (tail_rises e cs up))
         | inr differ ↦ elim differ [
-            | inl low ↦
-                subst (λ (ds : List LacCall). AreRising ds) (sym (with_lower c e cs low)) (rising_cons e (with_call c cs) (above_with e.session.0 cs low (head_below e cs up)) (with_rises cs (tail_rises e cs up)))
-            | inr high ↦
-                let above : Above c.session.0 (e ∷ cs) = above_cons c.session.0 e cs high (λ k d l. omega (arith, head_below e cs up k d l, high)) in
-                subst (λ (ds : List LacCall). AreRising ds) (sym (with_above c (e ∷ cs) above)) (rising_cons c (e ∷ cs) above up)
-          ]
+          | inl low ↦
+              subst (λ (ds : List LacCall). AreRising ds) (sym (with_lower c e cs low)) (rising_cons e (with_call c cs) (above_with e.session.0 cs low (head_below e cs up)) (with_rises cs (tail_rises e cs up)))
+          | inr high ↦
+              let above : Above c.session.0 (e ∷ cs) = above_cons c.session.0 e cs high (λ k d l. omega (arith, head_below e cs up k d l, high)) in
+              subst (λ (ds : List LacCall). AreRising ds) (sym (with_above c (e ∷ cs) above)) (rising_cons c (e ∷ cs) above up)
+        ]
       ]
 
   filters_few : (cs : List LacCall) → length (filter (λ (d : LacCall). nat_lt d.session.0 c.session.0) cs) + length (filter (λ (d : LacCall). nat_lt c.session.0 d.session.0) cs) ≤ length cs

@@ -1,7 +1,7 @@
 -- Each step of a tunnel in use is sound.
-use Rattle.std.proofs.Common.{◌≡◌, ℕ, zero, suc, ◌+◌, ◌<◌, ◌≤◌, Bool, true, false, ◌&&◌, ◌||◌, not, cond, nat_lt, nat_le, Option, None, Some, IsSome, unwrap_or, List, [], ◌∷◌, ◌++◌, length, map, All, option_to_list, option_map, refl, sym, ap, subst, ◌∙◌, arith, min, filter}
+use Rattle.std.proofs.Common.{◌≡◌, ℕ, ◌<◌, ◌≤◌, Bool, true, false, ◌&&◌, not, cond, nat_lt, nat_le, Option, None, Some, IsSome, unwrap_or, List, [], ◌∷◌, ◌++◌, length, map, option_to_list, refl, sym, ap, subst, ◌∙◌, arith, filter}
 use Rattle.std.specs.List.{AllByRecursion}
-use Rattle.std.proofs.lemmas.Bool.{and_parts, or_parts, not-false, false≢true, eqb-true, leb-false, and_cases}
+use Rattle.std.proofs.lemmas.Bool.{or_parts, false≢true, leb-false}
 use Rattle.std.proofs.lemmas.List.Elements.{All-append, All-cons, All-filter}
 use Rattle.std.proofs.lemmas.List.Kept.{AllPairs-filter}
 use Rattle.bng_base.specs.declared.address.Peer.{Peer}
@@ -11,7 +11,7 @@ use Rattle.bng_l2tp_reliable.specs.declared.answers.Heard.TheVariants.{Deliver, 
 use Rattle.bng_l2tp_reliable.specs.declared.answers.Due.{Due}
 use Rattle.bng_l2tp_reliable.specs.declared.answers.Due.TheVariants.{Nothing, Resend, Hello, GiveUp}
 use Rattle.bng_l2tp_reliable.specs.ChannelState.{ChannelState, Message, waiting, with_window}
-use Rattle.bng_l2tp_reliable.specs.Calls.{queued, received, acknowledged, next_out, after_next, is_full}
+use Rattle.bng_l2tp_reliable.specs.Calls.{received, acknowledged, next_out, after_next, is_full}
 use Rattle.bng_l2tp_reliable.specs.Timers.{after_due, due_of}
 use Rattle.bng_l2tp_reliable.specs.declared.outgoing.Outgoing.{Outgoing}
 use Rattle.bng_l2tp_wire.specs.Avps.{L2tpAvp}
@@ -20,9 +20,8 @@ use Rattle.bng_l2tp_tunnel.specs.declared.acknowledging.Acknowledging.{Acknowled
 use Rattle.bng_l2tp_tunnel.specs.declared.acknowledging.Acknowledging.TheVariants.{Never, ByAny, ByZlb}
 use Rattle.bng_l2tp_tunnel.specs.declared.refusal.Refusal.{Refusal}
 use Rattle.bng_l2tp_tunnel.specs.Values.{value_of, message_type, assigned_tunnel, window_of}
-use Rattle.bng_l2tp_tunnel.specs.View.{Said}
 use Rattle.bng_l2tp_tunnel.specs.Messages.{is_type}
-use Rattle.bng_l2tp_tunnel.specs.Outs.{datagram, let_out, after_out, flight_before, flight_most, zlb, with_zlb}
+use Rattle.bng_l2tp_tunnel.specs.Outs.{datagram, let_out, after_out, flight_most, zlb, with_zlb}
 use Rattle.bng_l2tp_tunnel.specs.Spelling.{stop_ccn, hello, code_of, shut_down}
 use Rattle.bng_l2tp_tunnel.specs.Steps.{sends, is_zlb}
 use Rattle.bng_l2tp_tunnel.specs.Sound.{IsSpelled, AreSpelled, IsSentTo}
@@ -37,12 +36,12 @@ use Rattle.bng_lac.specs.declared.call.LacCall.{LacCall}
 use Rattle.bng_lac.specs.declared.rules.LacRules.{LacRules}
 use Rattle.bng_lac.specs.Numbers.{sccrp_type, stop_ccn_type, challenge_avp}
 use Rattle.bng_lac.specs.LacState.{LacState, unused, is_used, is_waiting, is_established, AreRising, IsBefore}
-use Rattle.bng_lac.specs.Messages.{is_of_call, is_taken, is_taken_by}
+use Rattle.bng_lac.specs.Messages.{is_of_call, is_taken_by}
 use Rattle.bng_lac.specs.Refusals.{refusal_of, call_refusal_of}
 use Rattle.bng_lac.specs.Spelling.{sccrq, scccn, icrq, iccn}
 use Rattle.bng_lac.specs.Calls.{is_call, call_of, with_call, without_call, new_call}
-use Rattle.bng_lac.specs.CallSteps.{CallStep, assigned_session, answered_session, passes, opens, ends, refuses, call_step, peer_session, judged as call_judged}
-use Rattle.bng_lac.specs.Steps.{Step, to_peer, nothing, flushed, queue_text, queue, queued_text, answered, cleared, clears, opened, Asking, serial_after, asks, asks_each, connecting, established, ended, accepted, judged, learned, calls_after, or_zlb, replied, with_words, heard_by_call, delivered, heard, heard_by, having_heard, lac_step, waiting_most, has_no_room, asked_for, with_new_call, called, parting, parted, ended_by, reminded, due_step, stop_step}
+use Rattle.bng_lac.specs.CallSteps.{CallStep, assigned_session, answered_session, passes, opens, ends, call_step, peer_session, judged as call_judged}
+use Rattle.bng_lac.specs.Steps.{Step, to_peer, nothing, flushed, queue_text, queue, queued_text, cleared, clears, opened, Asking, asks, asks_each, connecting, established, ended, accepted, judged, learned, calls_after, or_zlb, replied, with_words, heard_by_call, delivered, heard, heard_by, having_heard, lac_step, waiting_most, has_no_room, asked_for, with_new_call, called, parting, parted, ended_by, reminded, due_step, stop_step}
 use Rattle.bng_lac.specs.Sound.{IsDown, IsLac, lasting_of, IsSound}
 use Rattle.bng_lac.proofs.Placed.{with_rises, with_few, filter_few}
 use Rattle.bng_lac.proofs.Passed.{passed, has_tunnel, waiting_if}

@@ -1,15 +1,14 @@
 -- What holds of a tunnel at every moment and of each of its steps, by RFC 2661 sections 3.1, 5.1.1, 5.8, 7.2 and 7.4.1.
-use Rattle.std.specs.Prelude.{◌≡◌, ◌≢◌, ◌≤◌, ℕ, Bool, true, false, ◌&&◌, not, List, [], ◌∷◌, ◌++◌, length, map, Option, Some, None, is_some, IsSome}
+use Rattle.std.specs.Prelude.{◌≡◌, ◌≢◌, ◌≤◌, ℕ, Bool, true, false, ◌&&◌, not, if◌then◌else◌, List, [], ◌∷◌, ◌++◌, length, map, Option, Some, None, is_some, IsSome}
 use Rattle.std.specs.List.{All, AllByRecursion}
 use Rattle.std.specs.Option.{option_and_then}
 use Rattle.bng_base.specs.declared.address.Peer.{Peer}
-use Rattle.bng_l2tp_reliable.specs.declared.answers.Heard.{Heard}
 use Rattle.bng_l2tp_reliable.specs.declared.answers.Heard.TheVariants.{Deliver}
 use Rattle.bng_l2tp_reliable.specs.ChannelState.{Message}
 use Rattle.bng_l2tp_wire.specs.Messages.{ControlMessage, control_text}
-use Rattle.bng_l2tp_tunnel.specs.Values.{message_type, value_of}
+use Rattle.bng_l2tp_tunnel.specs.Values.{message_type, value_of, assigned_tunnel}
 use Rattle.bng_l2tp_tunnel.specs.Outs.{flight_most}
-use Rattle.bng_l2tp_tunnel.specs.Sound.{AreSpelled, IsSentTo}
+use Rattle.bng_l2tp_tunnel.specs.Sound.{AreSpelled, IsSentTo, is_delivered}
 use Rattle.bng_l2tp_call.specs.Numbers.{icrp_type}
 use Rattle.bng_lac.specs.declared.call.LacCall.{LacCall}
 use Rattle.bng_lac.specs.Numbers.{sccrp_type, challenge_avp}
@@ -99,3 +98,14 @@ pub record AsksEach (s : LacState) (m : ControlMessage) (now : ℕ) (step : Step
   pub messages : step.after.channel.messages
       ≡ (having_heard s m now).channel.messages ++ map held (scccn s.secret (value_of s.secret challenge_avp m.avps) ∷ icrqs s.serial s.calls)
   pub left_out : step.said.left_out ≡ false
+
+-- The call of a session is up: the tunnel is established, and the session's frames go to this tunnel and this session of the server.
+pub record IsUp (s : LacState) (session tunnel peer : ℕ) : Type 0 where
+  pub established : is_established s.phase ≡ true
+  pub tunnel_is : s.peer_number ≡ Some tunnel
+  pub peer_is : peer_of session s.calls ≡ Some peer
+
+-- the server's Assigned Tunnel ID after a message: it is read from the first message that is delivered alone
+abbrev pub peer_number_after : LacState → ControlMessage → Option ℕ
+peer_number_after s m =
+    if is_waiting s.phase && is_delivered (heard_by s m) then assigned_tunnel s.secret m.avps else s.peer_number

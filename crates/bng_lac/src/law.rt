@@ -14,8 +14,8 @@ ghost use Rattle.bng_lac.specs.LacState.{LacState, unused, is_used, is_establish
 ghost use Rattle.bng_lac.specs.Spelling.{icrq};
 ghost use Rattle.bng_lac.specs.Calls.{call_of};
 ghost use Rattle.bng_lac.specs.CallSteps.{call_step};
-ghost use Rattle.bng_lac.specs.Steps.{calls_after, opened, called, called_of, ended_by, heard_by, having_heard, lac_step, due_step, stop_step};
-ghost use Rattle.bng_lac.specs.Sound.{IsLac, IsSound, IsAnswerOf, ChangesOne, BringsUp, AsksEach, held};
+ghost use Rattle.bng_lac.specs.Steps.{calls_after, opened, called, called_of, up_of, ended_by, heard_by, having_heard, lac_step, due_step, stop_step};
+ghost use Rattle.bng_lac.specs.Sound.{IsLac, IsSound, IsAnswerOf, ChangesOne, BringsUp, IsUp, AsksEach, held, peer_number_after};
 
 use crate::call::LacCall;
 
@@ -28,6 +28,7 @@ pub fn a_tunnel_is_sound()
     ensures heard { (s : LacState) (m : ControlMessage) (random : List ℕ) (now : ℕ) → IsLac s → is_used s.phase ≡ true → IsSound s (lac_step s m random now) }
     ensures due { (s : LacState) (now : ℕ) → IsLac s → is_used s.phase ≡ true → IsSound s (due_step s now) }
     ensures stopped { (s : LacState) (now : ℕ) → IsLac s → IsSound s (stop_step s now) }
+    ensures number { (s : LacState) (m : ControlMessage) (random : List ℕ) (now : ℕ) → (lac_step s m random now).after.peer_number ≡ peer_number_after s m }
 {}
 
 /// A message that is delivered or came again is acknowledged in its step. A tunnel comes to be established only by an SCCRP that answers
@@ -47,6 +48,11 @@ pub fn one_call_a_message()
         → (c.peer ≡ None) × (message_type avps ≡ Some icrp_type) }
     ensures others { (secret : Option (List ℕ)) (c : LacCall) (avps : List L2tpAvp) (calls : List LacCall) (n : ℕ) → n ≢ c.session.0
         → call_of n (calls_after c (call_step secret c avps).after calls) ≡ call_of n calls }
+{}
+
+/// A call is up only in an established tunnel, and the pair that is told of it is the server's tunnel and the call's session there.
+pub fn a_call_is_up()
+    ensures { (s : LacState) (session tunnel peer : ℕ) → IsLac s → up_of s session ≡ Some (tunnel, peer) → IsUp s session tunnel peer }
 {}
 
 /// Each call is asked for by one ICRQ, none of which is left out: the calls that waited as the tunnel comes to be established, where

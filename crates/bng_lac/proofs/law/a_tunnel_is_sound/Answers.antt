@@ -1,4 +1,5 @@
 use Rattle.bng_lac.proofs.Soundness.{unused_lac, opened_lac, called_lac, ended_lac, lac_sound, due_sound, stop_sound}
+use Rattle.bng_lac.proofs.Up.{lac_number}
 use Rattle.bng_lac.proofs.law.a_tunnel_is_sound.Goals as goal
 
 pub returns-clause-made : goal.returns-clause-made
@@ -21,3 +22,6 @@ returns-clause-due c = λ s now t e. due_sound s now t e
 
 pub returns-clause-stopped : goal.returns-clause-stopped
 returns-clause-stopped c = λ s now t. stop_sound s now t
+
+pub returns-clause-number : goal.returns-clause-number
+returns-clause-number c = λ s m random now. lac_number s m random now
