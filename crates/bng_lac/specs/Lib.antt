@@ -8,3 +8,4 @@ pub mod CallSteps
 pub mod CallView
 pub mod Steps
 pub mod AskingView
+pub mod Sound

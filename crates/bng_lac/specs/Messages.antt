@@ -9,7 +9,7 @@ use Rattle.bng_lac.specs.declared.phase.Phase.{Phase}
 use Rattle.bng_lac.specs.declared.phase.Phase.TheVariants.{Idle, WaitReply, Established}
 use Rattle.bng_lac.specs.declared.call.LacCall.{LacCall}
 
--- the messages of a call that a network server sends (section 3.2)
+-- the messages of a call that come from a network server (section 3.2), and WEN, which it has no cause to send (section 6.13)
 abbrev pub is_of_call : Option ℕ → Bool
 is_of_call type = list_any (is_type type) (ICRP ∷ CDN ∷ WEN ∷ SLI ∷ [])
 
