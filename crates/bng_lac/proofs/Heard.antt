@@ -9,9 +9,9 @@ use Rattle.bng_l2tp_wire.specs.Avps.{L2tpAvp}
 use Rattle.bng_l2tp_wire.specs.Messages.{ControlMessage, control_text}
 use Rattle.bng_l2tp_tunnel.specs.declared.acknowledging.Acknowledging.TheVariants.{Never, ByAny, ByZlb}
 use Rattle.bng_l2tp_tunnel.specs.declared.refusal.Refusal.{Refusal}
-use Rattle.bng_l2tp_wire.specs.Values.{message_type, assigned_tunnel}
+use Rattle.bng_l2tp_wire.specs.Values.{message_type, assigned_tunnel, assigned_session}
 use Rattle.bng_l2tp_wire.specs.Judge.{is_type}
-use Rattle.bng_l2tp_tunnel.specs.Outs.{datagram, let_out, after_out, flight_most, zlb, with_zlb}
+use Rattle.bng_l2tp_tunnel.specs.Outs.{datagram, let_out, after_out, flight_most, zlb, with_zlb, or_zlb}
 use Rattle.bng_l2tp_tunnel.specs.Spelling.{stop_ccn, code_of}
 use Rattle.bng_l2tp_tunnel.specs.Sound.{IsAnswered}
 use Rattle.bng_l2tp_wire.specs.declared.message.TheConstants.{ICRP, SCCRP, STOP_CCN}
@@ -21,8 +21,8 @@ use Rattle.bng_lac.specs.LacState.{LacState, is_waiting, is_established}
 use Rattle.bng_lac.specs.Messages.{is_of_call}
 use Rattle.bng_lac.specs.Refusals.{refusal_of}
 use Rattle.bng_lac.specs.Calls.{call_of}
-use Rattle.bng_lac.specs.CallSteps.{call_step, assigned_session}
-use Rattle.bng_lac.specs.Steps.{Step, to_peer, flushed, queue_text, asks_each, connecting, established, ended, accepted, judged, learned, calls_after, or_zlb, replied, heard_by_call, delivered, heard, heard_by, having_heard, lac_step}
+use Rattle.bng_lac.specs.CallSteps.{call_step}
+use Rattle.bng_lac.specs.Steps.{Step, to_peer, flushed, queue_text, asks_each, connecting, established, ended, accepted, judged, learned, calls_after, replied, heard_by_call, delivered, heard, heard_by, having_heard, lac_step}
 use Rattle.bng_lac.specs.Sound.{has_call, peer_of, is_up, ChangesOne, BringsUp, IsAnswerOf}
 use Rattle.bng_lac.proofs.Laws.{opens_waiting}
 use Rattle.bng_lac.proofs.OneCall.{stays_at, call_changes, call_peer}

@@ -4,7 +4,7 @@ use Rattle.std.proofs.lemmas.Bool.{eqb-true, eq-eqb, le-ltb, or_parts, not-false
 use Rattle.std.proofs.lemmas.Option.{same_Some}
 use Rattle.byteorder.specs.Endian.{big_from}
 use Rattle.bng_l2tp_wire.specs.Avps.{L2tpAvp}
-use Rattle.bng_l2tp_wire.specs.Values.{message_type, value_of, number_in, has_unreadable}
+use Rattle.bng_l2tp_wire.specs.Values.{message_type, value_of, number_in, has_unreadable, assigned_session}
 use Rattle.bng_l2tp_wire.specs.Judge.{is_type, is_wrong, has_unknown}
 use Rattle.bng_l2tp_call.specs.declared.refusal.Refusal.{Refusal}
 use Rattle.bng_l2tp_call.specs.declared.refusal.Refusal.TheVariants.{UnknownAvp, WrongAvp}
@@ -14,7 +14,7 @@ use Rattle.bng_lac.specs.declared.call.LacCall.{LacCall}
 use Rattle.bng_lac.specs.Messages.{is_taken_by, lacks_needed}
 use Rattle.bng_lac.specs.Refusals.{has_wrong_avp, call_refusal_of}
 use Rattle.bng_lac.specs.Calls.{is_call, call_of, with_call, without_call}
-use Rattle.bng_lac.specs.CallSteps.{CallStep, assigned_session, passes, opens, ends, judged, call_step}
+use Rattle.bng_lac.specs.CallSteps.{CallStep, passes, opens, ends, judged, call_step}
 use Rattle.bng_lac.specs.Steps.{calls_after}
 use Rattle.bng_lac.specs.Sound.{has_call, peer_of, is_up}
 use Rattle.bng_lac.proofs.Laws.{none_in, at_back, with_other, without_other, opens_waiting}

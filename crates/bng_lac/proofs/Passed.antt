@@ -7,14 +7,14 @@ use Rattle.bng_l2tp_wire.specs.Messages.{ControlMessage}
 use Rattle.bng_l2tp_tunnel.specs.declared.refusal.Refusal.{Refusal}
 use Rattle.bng_l2tp_wire.specs.Values.{number_in, value_of, message_type, assigned_tunnel, has_unreadable}
 use Rattle.bng_l2tp_wire.specs.Judge.{is_type, is_wrong, has_unknown}
-use Rattle.bng_l2tp_tunnel.specs.Refusals.{has_other_version, is_asked_in_vain}
+use Rattle.bng_l2tp_tunnel.specs.Refusals.{has_other_version, is_asked_in_vain, has_answer}
 use Rattle.bng_lac.specs.declared.phase.Phase.{Phase}
 use Rattle.bng_lac.specs.declared.phase.Phase.TheVariants.{Idle, WaitReply, Established}
 use Rattle.bng_l2tp_wire.specs.declared.message.TheConstants.{SCCRP}
 use Rattle.bng_l2tp_wire.specs.declared.kind.TheConstants.{PROTOCOL_VERSION, FRAMING_CAPABILITIES, HOST_NAME, ASSIGNED_TUNNEL_ID}
 use Rattle.bng_lac.specs.LacState.{LacState, is_waiting}
 use Rattle.bng_lac.specs.Messages.{is_of_call, is_taken, lacks_needed}
-use Rattle.bng_lac.specs.Refusals.{has_wrong_avp, has_answer, fails_challenge, refusal_of}
+use Rattle.bng_lac.specs.Refusals.{has_wrong_avp, fails_challenge, refusal_of}
 use Rattle.bng_lac.specs.Sound.{IsAnswerOf}
 
 first_none : (b : Bool) (r : Refusal) (rest : Option Refusal) → cond b (Some r) rest ≡ None → (b ≡ false) × (rest ≡ None)
@@ -79,9 +79,9 @@ has_tunnel s avps e w =
 -- an SCCRP that is not refused answers the Challenge
 pub answers : (s : LacState) (m : ControlMessage) → is_type (message_type m.avps) SCCRP ≡ true → fails_challenge s.secret s.challenge (message_type m.avps) m.avps ≡ false → IsAnswerOf s m
 answers s m e f =
-    let fails : (is_asked_in_vain s.secret m.avps || not (has_answer s.secret s.challenge m.avps)) ≡ false =
+    let fails : (is_asked_in_vain s.secret m.avps || not (has_answer SCCRP s.secret s.challenge m.avps)) ≡ false =
     subst (λ (x : Option ℕ). fails_challenge s.secret s.challenge x m.avps ≡ false) (type_is (message_type m.avps) SCCRP e) f in
     record {
       type = type_is (message_type m.avps) SCCRP e;
-      answer = not-false (has_answer s.secret s.challenge m.avps) (or_parts (is_asked_in_vain s.secret m.avps) (not (has_answer s.secret s.challenge m.avps)) fails).1;
+      answer = not-false (has_answer SCCRP s.secret s.challenge m.avps) (or_parts (is_asked_in_vain s.secret m.avps) (not (has_answer SCCRP s.secret s.challenge m.avps)) fails).1;
     }

@@ -19,9 +19,9 @@ use Rattle.bng_l2tp_wire.specs.Messages.{ControlMessage, control_text}
 use Rattle.bng_l2tp_tunnel.specs.declared.acknowledging.Acknowledging.{Acknowledging}
 use Rattle.bng_l2tp_tunnel.specs.declared.acknowledging.Acknowledging.TheVariants.{Never, ByAny, ByZlb}
 use Rattle.bng_l2tp_tunnel.specs.declared.refusal.Refusal.{Refusal}
-use Rattle.bng_l2tp_wire.specs.Values.{value_of, message_type, assigned_tunnel, window_of}
+use Rattle.bng_l2tp_wire.specs.Values.{value_of, message_type, assigned_tunnel, window_of, assigned_session}
 use Rattle.bng_l2tp_wire.specs.Judge.{is_type}
-use Rattle.bng_l2tp_tunnel.specs.Outs.{datagram, let_out, after_out, flight_most, zlb, with_zlb}
+use Rattle.bng_l2tp_tunnel.specs.Outs.{datagram, let_out, after_out, flight_most, zlb, with_zlb, or_zlb}
 use Rattle.bng_l2tp_tunnel.specs.Spelling.{stop_ccn, hello, code_of, shut_down}
 use Rattle.bng_l2tp_wire.specs.View.{sends}
 use Rattle.bng_l2tp_tunnel.specs.Steps.{is_zlb}
@@ -41,8 +41,8 @@ use Rattle.bng_lac.specs.Messages.{is_of_call, is_taken_by}
 use Rattle.bng_lac.specs.Refusals.{refusal_of, call_refusal_of}
 use Rattle.bng_lac.specs.Spelling.{sccrq, scccn, icrq, iccn}
 use Rattle.bng_lac.specs.Calls.{is_call, call_of, with_call, without_call, new_call}
-use Rattle.bng_lac.specs.CallSteps.{CallStep, assigned_session, answered_session, passes, opens, ends, call_step, peer_session, judged as call_judged}
-use Rattle.bng_lac.specs.Steps.{Step, to_peer, nothing, flushed, queue_text, queue, queued_text, cleared, clears, opened, Asking, asks, asks_each, connecting, established, ended, accepted, judged, learned, calls_after, or_zlb, replied, with_words, heard_by_call, delivered, heard, heard_by, having_heard, lac_step, waiting_most, has_no_room, asked_for, with_new_call, called, parting, parted, ended_by, reminded, due_step, stop_step}
+use Rattle.bng_lac.specs.CallSteps.{CallStep, answered_session, passes, opens, ends, call_step, peer_session, judged as call_judged}
+use Rattle.bng_lac.specs.Steps.{Step, to_peer, nothing, flushed, queue_text, queue, queued_text, cleared, clears, opened, Asking, asks, asks_each, connecting, established, ended, accepted, judged, learned, calls_after, replied, with_words, heard_by_call, delivered, heard, heard_by, having_heard, lac_step, waiting_most, has_no_room, asked_for, with_new_call, called, parting, parted, ended_by, reminded, due_step, stop_step}
 use Rattle.bng_lac.specs.Sound.{IsDown, IsLac, lasting_of, IsSound}
 use Rattle.bng_lac.proofs.Placed.{with_rises, with_few, filter_few}
 use Rattle.bng_lac.proofs.Passed.{passed, has_tunnel, waiting_if}

@@ -6,16 +6,15 @@ use Rattle.bng_base.specs.declared.address.Peer.{Peer}
 use Rattle.bng_l2tp_reliable.specs.declared.answers.Heard.TheVariants.{Deliver}
 use Rattle.bng_l2tp_reliable.specs.ChannelState.{Message}
 use Rattle.bng_l2tp_wire.specs.Messages.{ControlMessage, control_text}
-use Rattle.bng_l2tp_wire.specs.Values.{message_type, value_of, assigned_tunnel}
+use Rattle.bng_l2tp_wire.specs.Values.{message_type, value_of, assigned_tunnel, assigned_session}
 use Rattle.bng_l2tp_tunnel.specs.Outs.{flight_most}
 use Rattle.bng_l2tp_tunnel.specs.Sound.{AreSpelled, IsSentTo, is_delivered}
 use Rattle.bng_l2tp_wire.specs.declared.message.TheConstants.{ICRP, SCCRP}
+use Rattle.bng_l2tp_tunnel.specs.Refusals.{has_answer}
 use Rattle.bng_lac.specs.declared.call.LacCall.{LacCall}
 use Rattle.bng_l2tp_wire.specs.declared.kind.TheConstants.{CHALLENGE}
 use Rattle.bng_lac.specs.LacState.{LacState, AreRising, is_used, is_waiting, is_established}
-use Rattle.bng_lac.specs.Refusals.{has_answer}
 use Rattle.bng_lac.specs.Calls.{call_of}
-use Rattle.bng_lac.specs.CallSteps.{assigned_session}
 use Rattle.bng_lac.specs.Spelling.{scccn, icrq}
 use Rattle.bng_lac.specs.Steps.{Step, to_peer, serial_after, heard_by, having_heard}
 
@@ -57,7 +56,7 @@ pub record IsSound (s : LacState) (step : Step) : Type 0 where
 -- an SCCRP that answers the tunnel's Challenge, where one was sent (section 5.1.1)
 pub record IsAnswerOf (s : LacState) (m : ControlMessage) : Type 0 where
   pub type : message_type m.avps ≡ Some SCCRP
-  pub answer : has_answer s.secret s.challenge m.avps ≡ true
+  pub answer : has_answer SCCRP s.secret s.challenge m.avps ≡ true
 
 abbrev pub has_call : ℕ → List LacCall → Bool
 has_call session calls = is_some (call_of session calls)
