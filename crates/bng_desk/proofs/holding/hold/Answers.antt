@@ -1,4 +1,4 @@
-use Rattle.std.proofs.Common.{◌≡◌, inl, inr, ℕ, ◌≤◌, ◌+◌, true, List, [], ◌++◌, Vec, Global, map, replicate, refl, length, ap, sym, subst, ◌∙◌, arith}
+use Rattle.std.proofs.Common.{◌≡◌, inl, inr, ℕ, ◌≤◌, ◌+◌, ◌^◌, true, List, [], ◌++◌, Vec, Global, map, replicate, refl, length, ap, sym, subst, ◌∙◌, arith}
 use Rattle.std.proofs.lemmas.List.{with_items_is}
 use Rattle.std.proofs.lemmas.List.Sums.{count_by-le-length, length-filter}
 use Rattle.std.specs.List.{All, AllZip}
@@ -115,6 +115,9 @@ returns-then-prepare_all-clause-rest g c =
     let n = c.opened.new.works in
     let rest = λ (x : Works). let y : Works = record w { shards = n.shards; pool = n.pool; accounts = n.accounts; tally = n.tally; drops = n.drops; kept = x.kept; spare = x.spare } in y in
     c.opened.ensures.rest ∙ ap rest (sym c.opened.ensures.rest)
+
+pub count_refused-requires-clause-within : goal.count_refused-requires-clause-within
+count_refused-requires-clause-within g c = within_wider (2 ^ 61) (2 ^ 62) c.args.works.now.drops (omega arith) c.requires.ready.counts
 
 pub returns-clause-round : goal.returns-clause-round
 returns-clause-round g c =

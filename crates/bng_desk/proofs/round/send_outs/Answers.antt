@@ -1,5 +1,7 @@
 use Rattle.std.proofs.Common.{rules, ◌≡◌, ◌+◌, ◌*◌, ◌^◌, ℕ, List, [], ◌∷◌, ◌++◌, drop, length, length-append, refl, sym, ap, subst, ◌∙◌, arith}
+use Rattle.std.specs.List.{count_by}
 use Rattle.std.proofs.lemmas.List.{drop_all, drop_more}
+use Rattle.std.proofs.lemmas.List.Sums.{count_by-le-length}
 use Rattle.bng_base.specs.Batches.{Batch}
 use Rattle.bng_base.specs.declared.item.OutRecord.{OutRecord}
 use Rattle.bng_base.specs.Stretch.{ExtendsPlant}
@@ -10,7 +12,8 @@ use Rattle.bng_engine.specs.Views.{ShardView, row_keys}
 use Rattle.bng_steps.specs.Protocol.{ShardState, pppoe}
 use Rattle.bng_steps.specs.Sums.{AreCovered, charged_as}
 use Rattle.bng_desk.specs.Reading.{sending}
-use Rattle.bng_desk.proofs.Sending.{SendsSome, sends_none, sends_more, sends_all, sent_low, book_has, row_has, still_covered}
+use Rattle.bng_desk.specs.Round.{is_failed}
+use Rattle.bng_desk.proofs.Sending.{SendsSome, failed_within, sends_none, sends_more, sends_all, sent_low, book_has, row_has, still_covered}
 use Rattle.bng_desk.proofs.round.send_outs.Given.{Over}
 use Rattle.bng_desk.proofs.round.send_outs.Goals as goal
 use Rattle.bng_desk.proofs.round.send_outs.Goals.{After-push_sent}
@@ -78,6 +81,23 @@ charge-charged-requires g c =
       covered = subst (λ (r : OutRecord). AreCovered w.books r) last (book_has v t.was t.now t.turning w was.sends x (left g b) (o g b) (answered g b) sent was.are_outs refl);
       own = subst (λ (r : OutRecord). IsOwned (row_keys w.rows) r) last (row_has v t.was t.now t.turning w was.sends x (left g b) (o g b) (answered g b) sent was.are_outs refl);
     }
+
+pub count_failed-requires : goal.count_failed-requires
+count_failed-requires g c =
+    let was = c.loop-out.invariant.sends in
+    let n = count_by is_failed was.sends in
+    failed_within (2 ^ 62 + 2 ^ 61) n (2 ^ 63) c.args.drops.now c.loop-out.drops
+    (omega (
+      arith,
+      count_by-le-length is_failed was.sends,
+      ap (λ (os : List OutRecord). length os) was.outs_are,
+      length-append c.args.outs.now.items was.sends,
+      c.loop-out.invariant.count,
+      c.loop-out-test.true,
+      ap (λ (os : List OutRecord). length os) c.as_slice-out-items.ensures,
+      ap (λ (os : List OutRecord). length os) c.drain-journal.ensures.outs,
+      c.requires.few,
+    )) c.requires.drops was.drops_are
 
 pub take_back-requires : goal.take_back-requires
 take_back-requires g c =
