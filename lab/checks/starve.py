@@ -25,6 +25,9 @@ from peers.radius_server import STOP
 
 SECONDS = 600
 
+# Seconds in which each step of a run comes, also where little processor time is left.
+PATIENCE = 120
+
 # Of each script these at its start and its end are refused in any case.
 START, END = 700, 60
 
@@ -44,11 +47,13 @@ def exercised(program, heap, number):
 
 def came_out(lab):
     """The packet that came out at the core, or None where `stats` says that memory was wanted for its round."""
-    until = time.monotonic() + 30
+    until = time.monotonic() + PATIENCE
     while time.monotonic() < until:
         ready, _, _ = select.select([lab.core], [], [], 0.05)
         if ready:
             return lab.receive(lab.core)[0]
+        if lab.program.poll() is not None:
+            return None
         if b"drop WantOfMemory 1\n" in (lab.say(b"stats") or b""):
             return None
     return None
@@ -58,23 +63,24 @@ def served(program, heap, number):
     """What comes of a gateway that is sent a packet of its circuit and then `stop`: in words, and whether it may."""
     octets = packet()
     with Lab() as lab:
+        lab.control.settimeout(PATIENCE)
         try:
-            lab.start([program, "serve", lab.configuration], env=heap.environment(number))
+            lab.start([program, "serve", lab.configuration], PATIENCE, env=heap.environment(number))
         except RuntimeError:
-            err = lab.program.stderr.read().decode()
-            said = (lab.program.returncode, lab.program.stdout.read().decode(), err)
-            return f"status {said[0]} before it serves", said[:2] == WANTS[:2]
+            return f"status {lab.program.returncode} before it serves", (lab.program.returncode, lab.program.stdout.read().decode()) == WANTS[:2]
         lab.send(frame(octets))
         forwarded = came_out(lab)
-        is_answered = lab.stop() == b"stopping\n"
+        is_answered = lab.program.poll() is None and lab.stop() == b"stopping\n"
         try:
-            status, out, err = lab.end(60)
+            status, out, err = lab.end(PATIENCE)
         except subprocess.TimeoutExpired:
             return f"{'forwarded' if forwarded else 'dropped'}, {'answered' if is_answered else 'NOT answered'}, and it does not end", False
     stops = [it for it in lab.records if value(it, radius_packets.ACCT_STATUS_TYPE) == STOP]
     sums = {(value(it, radius_packets.ACCT_INPUT_OCTETS), value(it, radius_packets.ACCT_OUTPUT_OCTETS)) for it in stops}
     went = 84 if forwarded else 0
     words = f"status {status}, {'forwarded' if forwarded else 'dropped'}, {'answered' if is_answered else 'NOT answered'}, Stops {sorted(sums)}"
+    if (status, out, err) == WANTS and not (forwarded or is_answered or lab.records):
+        return "status 4 before it serves", True
     if (status, out, err) == WANTS:
         return f"{words}, no report for want of memory", is_answered and sums == {(went, 0)}
     want = report(84) if forwarded else report(0, WantOfMemory=1)

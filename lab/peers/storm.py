@@ -57,7 +57,7 @@ class Storm(StormServer):
         self.resident, self.memory, self.last_stats, self.report = [], None, b"", []
         self.came = self.owed = self.asked = self.offered = self.told = 0
         self.made_at = {}
-        self.withheld = {}
+        self.withheld, self.acknowledged = {}, set()
         self.stranger, self.control, self.unknown_lac = udp(STRANGER), udp(), udp(STRANGER)
         self.auth_stranger, self.probe_end = udp(), udp(STRANGER)
         self.coa = {name: udp(address) for name, address in (("signed", LOOPBACK), ("unsigned", LOOPBACK), ("wrong", STRANGER))}

@@ -98,11 +98,13 @@ class StormServer:
                 self.hurl("acct", "right", self.lab.accounting, copy, way)
         self.book(record)
         is_again = self.withheld.pop(octets, None)
-        if is_again is None and self.chance.random() < 0.01:
+        # One that was acknowledged may have been sent again before that was heard.
+        if octets not in self.acknowledged and is_again is None and self.chance.random() < 0.01:
             self.withheld[octets] = time.monotonic()
             self.hurl("acct", "wrong", self.stranger, reply, "as it is")
             return
         self.asked_again += is_again is not None
+        self.acknowledged.add(octets)
         self.store.keep("acct", reply)
         self.put(self.lab.accounting, reply, "acct")
 
