@@ -1,7 +1,7 @@
 -- Each frame that a trunk took is given, waits or is a stray, once.
-use Rattle.std.proofs.Common.{◌≡◌, ℕ, zero, suc, ◌+◌, ◌-◌, ◌^◌, ◌<◌, ◌==◌, Bool, true, false, cond, not, List, [], ◌∷◌, ◌++◌, Some, refl, sym, ap, ◌∙◌, length, length-append, map, filter, arith}
+use Rattle.std.proofs.Common.{◌≡◌, ℕ, suc, ◌+◌, ◌-◌, ◌^◌, ◌<◌, Bool, true, false, cond, not, List, [], ◌∷◌, ◌++◌, Some, refl, sym, ap, ◌∙◌, length, length-append, filter, arith}
 use Rattle.std.specs.Prelude.{is_some}
-use Rattle.std.specs.List.{find, slice_get, list_any, sum_by, count_by}
+use Rattle.std.specs.List.{slice_get, list_any, sum_by, count_by}
 use Rattle.std.proofs.lemmas.Bool.{eqb-true}
 use Rattle.std.proofs.lemmas.List.{length-map}
 use Rattle.std.proofs.lemmas.List.Sums.{sum_by-cons, length-filter}
@@ -14,10 +14,9 @@ use Rattle.bng_vlan.specs.declared.map.VlanEntry.{VlanEntry}
 use Rattle.bng_vlan.specs.Tags.{without}
 use Rattle.bng_vlan.specs.Map.{Trunks, IsMap, is_trunk, entry_of}
 use Rattle.bng_vlan.specs.Frames.{Came, is_of, is_stray, frames_of, datagram_of}
-use Rattle.bng_vlan.specs.Once.{number_of, AreParted, AreOnce, waiting_in, taken_of_trunks, given_to_entries}
+use Rattle.bng_vlan.specs.Once.{number_of, AreParted, AreOnce, taken_of_trunks, given_to_entries}
 use Rattle.bng_vlan.specs.Untagged.{Untagged, gift, gifts, given_to}
 use Rattle.bng_vlan.specs.Waiting.{Waiting, counted, frames_at}
-use Rattle.bng_vlan.proofs.Lists.{by_test}
 use Rattle.bng_vlan.proofs.Putting.{one_owner}
 use Rattle.bng_vlan.proofs.Sums.{sum_plus, sum_same, sum_none, count_all, single, find_any}
 

@@ -1,5 +1,5 @@
 -- Reading what is written.
-use Rattle.std.proofs.Common.{◌≡◌, ℕ, ◌+◌, ◌-◌, ◌*◌, ◌/◌, ◌%◌, ◌<◌, ◌≤◌, ◌==◌, ◌&&◌, ◌||◌, Bool, true, false, cond, not, List, [], ◌∷◌, ◌++◌, Option, Some, None, refl, sym, ap, ap₂, subst, ◌∙◌, length, length-append, length-take, length-drop, take, drop, get_or, nat_le, arith, append_assoc}
+use Rattle.std.proofs.Common.{◌≡◌, ℕ, ◌+◌, ◌-◌, ◌*◌, ◌/◌, ◌%◌, ◌≤◌, ◌==◌, ◌&&◌, ◌||◌, Bool, true, false, cond, List, [], ◌∷◌, ◌++◌, Option, Some, None, refl, sym, ap, ap₂, ◌∙◌, length, length-append, length-take, length-drop, take, drop, nat_le, arith, append_assoc}
 use Rattle.std.specs.Prelude.{slice_index}
 use Rattle.std.specs.List.{slice_get}
 use Rattle.std.proofs.lemmas.Bool.{eq-eqb, le-leb}
@@ -10,7 +10,7 @@ use Rattle.bng_vlan.specs.declared.map.VlanEntry.{VlanEntry}
 use Rattle.bng_vlan.specs.declared.tag.Tags.{Tags}
 use Rattle.bng_vlan.specs.Tags.{word_at, has_type, vlan_at, has_pair, has_one, tags_of, width_of, without, tag_octets, tagged}
 use Rattle.bng_vlan.specs.Map.{Trunks, IsMap, IsVlan, AreVlans, tags_in}
-use Rattle.bng_vlan.specs.Frames.{Came, same_peer, same_inner, has_tags, is_of, is_whole, is_peer, frames_of}
+use Rattle.bng_vlan.specs.Frames.{Came, same_inner, has_tags, is_of, is_whole, is_peer, frames_of}
 use Rattle.bng_vlan.proofs.Putting.{frames_yes}
 
 both : (x y : Bool) → x ≡ true → y ≡ true → (x && y) ≡ true
