@@ -194,9 +194,9 @@ module _ (seat place : ℕ) where
       by_one shard v vs w its_is parts =
           joined v vs
           ∙ ap (λ (xs : List Stood). xs ++ filter here (stood_in vs))
-            (in_part_of shard (entries_of v) parts.0 (below_or_not seat (length lists))
-            ∙ ap (λ (o : Option Item). given shard o its_whose) is
-            ∙ ap (λ (o : Option Whose). given shard (Some i) o) its_is)
+          (in_part_of shard (entries_of v) parts.0 (below_or_not seat (length lists))
+          ∙ ap (λ (o : Option Item). given shard o its_whose) is
+          ∙ ap (λ (o : Option Whose). given shard (Some i) o) its_is)
 
       in_none : (shard : ℕ) (vs : List (ShardView ShardState Handled)) (fate : Fate) → its_whose ≡ Some (IsLoose fate) → AreParts lists whose shard moment vs → filter here (stood_in vs) ≡ []
       in_none shard [] fate its_is parts = refl
@@ -215,13 +215,13 @@ module _ (seat place : ℕ) where
       once shard n (v ∷ vs) its_is low high parts =
           ⊎_elim
           (λ (lt : shard < n).
-            by_one shard v vs (Stands n) its_is parts
-            ∙ ap (λ (b : Bool). cond b (stood i ∷ []) [] ++ filter here (stood_in vs)) (ne_eqb n shard (λ same. omega (arith, same, lt)))
-            ∙ once (shard + 1) n vs its_is (omega (arith, lt)) (omega (arith, high)) parts.1)
+          by_one shard v vs (Stands n) its_is parts
+          ∙ ap (λ (b : Bool). cond b (stood i ∷ []) [] ++ filter here (stood_in vs)) (ne_eqb n shard (λ same. omega (arith, same, lt)))
+          ∙ once (shard + 1) n vs its_is (omega (arith, lt)) (omega (arith, high)) parts.1)
           (λ (le : n ≤ shard).
-            by_one shard v vs (Stands n) its_is parts
-            ∙ ap (λ (b : Bool). cond b (stood i ∷ []) [] ++ filter here (stood_in vs)) (eq-eqb n shard (omega (arith, low, le)))
-            ∙ ap (λ (xs : List Stood). stood i ∷ xs) (past (shard + 1) n vs its_is (omega (arith, low, le)) parts.1))
+          by_one shard v vs (Stands n) its_is parts
+          ∙ ap (λ (b : Bool). cond b (stood i ∷ []) [] ++ filter here (stood_in vs)) (eq-eqb n shard (omega (arith, low, le)))
+          ∙ ap (λ (xs : List Stood). stood i ∷ xs) (past (shard + 1) n vs its_is (omega (arith, low, le)) parts.1))
           (below_or_not shard n)
 
   -- Beside the shards -----------------------------------------------------------------------------------------------------
@@ -311,9 +311,9 @@ module _ (seat place : ℕ) where
     whole (Stands n) i parts same is its_is within =
         ap (λ (xs : List Stood). xs ++ loose_here (all_loose 0 lists whose)) (once lists whose moment i is 0 n vs its_is (omega arith) (omega (arith, within)) parts)
         ∙ ap (λ (xs : List Stood). stood i ∷ xs)
-          (loose_from 0 seat lists whose (omega arith) same
-          ∙ ap (λ (o : Option Item). left o (slice_get (get_or whose seat []) place)) is
-          ∙ ap (λ (o : Option Whose). left (Some i) o) its_is)
+        (loose_from 0 seat lists whose (omega arith) same
+        ∙ ap (λ (o : Option Item). left o (slice_get (get_or whose seat []) place)) is
+        ∙ ap (λ (o : Option Whose). left (Some i) o) its_is)
 
     -- where the item is told, and whose
     pub listed : AreParts lists whose 0 moment vs → length lists ≡ length whose

@@ -268,8 +268,7 @@ told_among a (x ∷ journals) (suc shard) es at told =
 module _ (pool : PlainView) (table : PlainView) (journals : List (List Handled)) (claims : ClaimsSoFar pppoe (held_by pool) journals (held_by table)) where
   stays_held : (a shard : ℕ) (earlier later : List Handled) (h : Handled) → slice_get journals shard ≡ Some (earlier ++ h ∷ later) → 1 ≤ times_in a h.refused → StaysHeld (entry table.table) later a
   stays_held a shard earlier later h at told =
-      let es = earlier ++ h ∷ later in
-      (
+      let es = earlier ++ h ∷ later in (
         sym (held_in table.table a) ∙ claims.holds a ∙ claims.claims.refused a (told_among a journals shard es at (told_in a earlier later h told)),
         later_none a earlier later h (journal_at (NoneLater pppoe a) journals shard es (claims.claims.in_order a) at) told,
       )

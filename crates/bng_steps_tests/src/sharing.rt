@@ -94,10 +94,7 @@ fn packet() -> Item
 }
 
 // The fate of the packet in a shard 0 that opened with these circuits, whose addresses may be the same, and the outs.
-fn heard(
-    alloc: Global,
-    circuits: &[Static],
-) -> Result<(Fate, Vec<OutRecord>), AllocError>
+fn heard(alloc: Global, circuits: &[Static]) -> Result<(Fate, Vec<OutRecord>), AllocError>
     requires own { All (λ c. IsNumberOf 0 c.session.0) circuits.now }
     requires sessions { AllPairs (λ a b. a.session ≢ b.session) circuits.now }
     requires ports { All (λ c. c.port ≡ 1) circuits.now }
@@ -155,7 +152,17 @@ fn of_two_sessions_with_its_destination_the_lower_number_has_a_packet(
     let alloc = rt.alloc();
     let lost = (Fate::Dropped(DropCause::NoSession), None);
     assert_goes(&rt, alloc, &[], &lost)?;
-    assert_goes(&rt, alloc, &[circuit(7), circuit(3)], &(Fate::Forwarded, Some(3)))?;
-    assert_goes(&rt, alloc, &[circuit(3), circuit(7)], &(Fate::Forwarded, Some(3)))?;
+    assert_goes(
+        &rt,
+        alloc,
+        &[circuit(7), circuit(3)],
+        &(Fate::Forwarded, Some(3)),
+    )?;
+    assert_goes(
+        &rt,
+        alloc,
+        &[circuit(3), circuit(7)],
+        &(Fate::Forwarded, Some(3)),
+    )?;
     assert_goes(&rt, alloc, &[circuit(7)], &(Fate::Forwarded, Some(7)))
 }
