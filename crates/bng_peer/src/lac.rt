@@ -83,6 +83,7 @@ fn response(challenge: &[u8]) -> [u8; 16] {
 
 impl Lac {
     /// The access concentrator at this place, from 0. It asks for a tunnel.
+    #[inline(never)]
     pub(crate) fn new(place: u16, subscribers: u32) -> Lac {
         let number = if place == 0 { 1 } else { 2 };
         let mut lac = Lac {

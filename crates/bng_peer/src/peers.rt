@@ -27,7 +27,7 @@ const TRIES: usize = 3;
 pub(crate) struct Peers {
     subscribers: Vec<Subscriber>,
     count: u32,
-    lacs: [Lac; 2],
+    lacs: Vec<Lac>,
     auth: Server,
     acct: Server,
     operator: Operator,
@@ -56,6 +56,16 @@ fn newcomers(alloc: Global, count: u32) -> Result<Vec<Subscriber>, AllocError> {
     Ok(subscribers)
 }
 
+// The two access concentrators, each with its channel's queue of some 37 KB.
+#[inline(never)]
+fn both_lacs(alloc: Global, count: u32) -> Result<Vec<Lac>, AllocError> {
+    let mut lacs = Vec::new(alloc);
+    for place in 0..2 {
+        lacs.push(Lac::new(place, count))?;
+    }
+    Ok(lacs)
+}
+
 fn no_addresses(alloc: Global) -> Result<Vec<u16>, AllocError> {
     let mut addressed = Vec::new(alloc);
     for _ in 0..ADDRESSES {
@@ -66,6 +76,7 @@ fn no_addresses(alloc: Global) -> Result<Vec<u16>, AllocError> {
 
 impl Peers {
     /// So many subscribers, none of which has said anything.
+    #[inline(never)]
     pub(crate) fn new(alloc: Global, count: u32) -> Result<Peers, AllocError>
         requires { count ≤ 4000 }
     {
@@ -73,7 +84,7 @@ impl Peers {
         let mut peers = Peers {
             subscribers: newcomers(alloc, count)?,
             count,
-            lacs: [Lac::new(0, count), Lac::new(1, count)],
+            lacs: both_lacs(alloc, count)?,
             auth: Server::new(alloc)?,
             acct: Server::new(alloc)?,
             operator: Operator::new(count),
