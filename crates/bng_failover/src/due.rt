@@ -79,7 +79,7 @@ pub(crate) fn timed_out(servers: &[Server], tries: u8, now: u64) -> Option<DueAt
     ensures none { IfNone result (NoneGivenUp servers.now tries now) }
     ensures there { IfSome result (λ d. d.at < length servers.now) }
 {
-    let at = 0;
+    let at = servers.len() - 1;
     match servers[at].requests.oldest(now, Sought::Timeout(tries)) {
         Some(due) => Some(DueAt { at, due }),
         None => None,
