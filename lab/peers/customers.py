@@ -8,7 +8,7 @@ from peers.concentrators import Caller
 from peers.dialler import Dialler
 from peers.ipv4 import UDP, Ipv4, spell
 from peers.mangling import with_ipv4_sum
-from peers.pppoe import CONFIGURE_REQUEST, LCP, PADT, SUCCESS, TERMINATE_ACK, TERMINATE_REQUEST, Packet
+from peers.pppoe import CONFIGURE_REQUEST, IPCP, LCP, PADT, SUCCESS, TERMINATE_ACK, TERMINATE_REQUEST, Packet
 from peers.segment import Host
 
 FRONT = b"honest-"
@@ -91,6 +91,18 @@ class Customer(Dialler):
             # Nothing is lost here: what comes again had to wait, and a second Configure-Ack would begin LCP anew (RFC 1661 section 4.1).
             self.answered.add(payload)
             super().hear(payload, now)
+
+    def begin(self, now):
+        self.has_asked = {LCP: False, IPCP: False}
+        super().begin(now)
+
+    def say_packet(self, packet_said):
+        """Sends a control packet, but for a first Configure-Request that was sent already: that would begin LCP or IPCP anew as well."""
+        is_first = (packet_said.code, packet_said.identifier) == (CONFIGURE_REQUEST, 1) and packet_said.protocol in self.has_asked
+        if not is_first or not self.has_asked[packet_said.protocol]:
+            super().say_packet(packet_said)
+        if is_first:
+            self.has_asked[packet_said.protocol] = True
 
     def hear_end(self, payload):
         """LCP while it hangs up: what the gateway asks it does not answer any more."""
