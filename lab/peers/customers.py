@@ -150,7 +150,7 @@ class Customer(Dialler):
             self.drop_session()
             self.renew()
             self.enter("waiting", now)
-        elif self.is_lost(now):
+        elif self.phase != "done" and self.is_lost(now):
             self.wrong(f"nothing came for {now - self.since:.0f} s")
             self.restart(now)
 
