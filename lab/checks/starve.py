@@ -72,6 +72,15 @@ def came_out(lab):
 
 
 def served(program, heap, number):
+    """The same of a gateway, up to four times where it has status 3: another lab may have taken a port that was free."""
+    for _ in range(4):
+        words, may_be = served_once(program, heap, number)
+        if not words.startswith("status 3"):
+            break
+    return words, may_be
+
+
+def served_once(program, heap, number):
     """What comes of a gateway that is sent a packet of its circuit and then `stop`: in words, and whether it may."""
     octets = packet()
     with Lab() as lab:
