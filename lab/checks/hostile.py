@@ -118,12 +118,14 @@ class World(Storm):
     def step(self, with_storm=True):
         """One step of all parties, and whether the gateway is there still."""
         self.steps += 1
+        began = time.monotonic()
         self.tick()
         if with_storm:
             self.storm()
             self.probe_one()
         if not self.is_offered():
             return False
+        self.pace = time.monotonic() - began
         return self.steps % LOOK != 0 or self.look()
 
     def look(self):
@@ -194,7 +196,7 @@ def play(count, seed, program=PROGRAM):
     port2 = held.getsockname()[1]
     held.close()
     tables = TABLES.format(access2=port2, access2_peer=access2.end.getsockname()[1])
-    with Lab(keys=f"shards = {SHARDS}\necho = 5\n", acknowledges=False, tables=tables, tunnels=True, changes=True) as lab:
+    with Lab(f"shards = {SHARDS}\necho = 20\n", radius_keys="tries = 10\n", acknowledges=False, tables=tables, tunnels=True, changes=True) as lab:
         lab.ports["access2"] = port2
         lab.start([program, "serve", lab.configuration], stderr=None)
         world = World(lab, seed, access2)

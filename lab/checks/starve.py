@@ -45,6 +45,18 @@ def exercised(program, heap, number):
     return f"status {status}, {out.strip() or 'no report'}{', ' + err.strip() if err else ''}", right
 
 
+def answer(lab, word):
+    """What Control answers to a word, or None where the gateway ends before that."""
+    lab.send(word, lab.control, "control")
+    until = time.monotonic() + PATIENCE
+    is_over = False
+    while time.monotonic() < until and not is_over:
+        is_over = lab.program.poll() is not None
+        if select.select([lab.control], [], [], 0.05)[0]:
+            return lab.receive(lab.control)[0]
+    return None
+
+
 def came_out(lab):
     """The packet that came out at the core, or None where `stats` says that memory was wanted for its round."""
     until = time.monotonic() + PATIENCE
@@ -54,23 +66,31 @@ def came_out(lab):
             return lab.receive(lab.core)[0]
         if lab.program.poll() is not None:
             return None
-        if b"drop WantOfMemory 1\n" in (lab.say(b"stats") or b""):
+        if b"drop WantOfMemory 1\n" in (answer(lab, b"stats") or b""):
             return None
     return None
 
 
 def served(program, heap, number):
+    """The same of a gateway, up to four times where it has status 3: another lab may have taken a port that was free."""
+    for _ in range(4):
+        words, may_be = served_once(program, heap, number)
+        if not words.startswith("status 3"):
+            break
+    return words, may_be
+
+
+def served_once(program, heap, number):
     """What comes of a gateway that is sent a packet of its circuit and then `stop`: in words, and whether it may."""
     octets = packet()
     with Lab() as lab:
-        lab.control.settimeout(PATIENCE)
         try:
             lab.start([program, "serve", lab.configuration], PATIENCE, env=heap.environment(number))
         except RuntimeError:
             return f"status {lab.program.returncode} before it serves", (lab.program.returncode, lab.program.stdout.read().decode()) == WANTS[:2]
         lab.send(frame(octets))
         forwarded = came_out(lab)
-        is_answered = lab.program.poll() is None and lab.stop() == b"stopping\n"
+        is_answered = answer(lab, b"stop") == b"stopping\n"
         try:
             status, out, err = lab.end(PATIENCE)
         except subprocess.TimeoutExpired:

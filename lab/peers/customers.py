@@ -8,7 +8,7 @@ from peers.concentrators import Caller
 from peers.dialler import Dialler
 from peers.ipv4 import UDP, Ipv4, spell
 from peers.mangling import with_ipv4_sum
-from peers.pppoe import CONFIGURE_REQUEST, LCP, PADT, SUCCESS, TERMINATE_ACK, TERMINATE_REQUEST, Packet
+from peers.pppoe import CONFIGURE_REQUEST, IPCP, LCP, PADT, SUCCESS, TERMINATE_ACK, TERMINATE_REQUEST, Packet
 from peers.segment import Host
 
 FRONT = b"honest-"
@@ -92,6 +92,18 @@ class Customer(Dialler):
             self.answered.add(payload)
             super().hear(payload, now)
 
+    def begin(self, now):
+        self.has_asked = {LCP: False, IPCP: False}
+        super().begin(now)
+
+    def say_packet(self, packet_said):
+        """Sends a control packet, but for a first Configure-Request that was sent already: that would begin LCP or IPCP anew as well."""
+        is_first = (packet_said.code, packet_said.identifier) == (CONFIGURE_REQUEST, 1) and packet_said.protocol in self.has_asked
+        if not is_first or not self.has_asked[packet_said.protocol]:
+            super().say_packet(packet_said)
+        if is_first:
+            self.has_asked[packet_said.protocol] = True
+
     def hear_end(self, payload):
         """LCP while it hangs up: what the gateway asks it does not answer any more."""
         if payload[2] == TERMINATE_ACK and self.way_out != "asks":
@@ -138,7 +150,7 @@ class Customer(Dialler):
             self.drop_session()
             self.renew()
             self.enter("waiting", now)
-        elif self.is_lost(now):
+        elif self.phase != "done" and self.is_lost(now):
             self.wrong(f"nothing came for {now - self.since:.0f} s")
             self.restart(now)
 

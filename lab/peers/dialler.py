@@ -121,7 +121,7 @@ class Dialler:
             if self.address is None:
                 self.say_packet(Packet(IPCP, CONFIGURE_REQUEST, 1, options_octets([(ADDRESS, bytes(4))])))
         elif heard.code == CONFIGURE_NAK:
-            self.say_packet(heard._replace(code=CONFIGURE_REQUEST, identifier=heard.identifier + 1))
+            self.say_packet(heard._replace(code=CONFIGURE_REQUEST, identifier=(heard.identifier + 1) % 256))
         elif heard.code == CONFIGURE_ACK and self.address is None:
             self.address = socket.inet_ntoa(dict(read_options(heard.data))[ADDRESS])
             self.packet = IPV4 + packet(self.address, HOST, length=100 + self.number % 50)

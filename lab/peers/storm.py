@@ -56,7 +56,7 @@ class Storm(StormServer):
         self.sums, self.asked_again = collections.defaultdict(lambda: [0, 0]), 0
         self.resident, self.memory, self.last_stats, self.report = [], None, b"", []
         self.came = self.owed = self.asked = self.offered = self.told = 0
-        self.made_at = {}
+        self.made_at, self.pace = {}, 0.0
         self.withheld, self.acknowledged = {}, set()
         self.stranger, self.control, self.unknown_lac = udp(STRANGER), udp(), udp(STRANGER)
         self.auth_stranger, self.probe_end = udp(), udp(STRANGER)

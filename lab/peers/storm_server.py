@@ -58,7 +58,8 @@ class StormServer:
                 stranger = self.chance.random() < 0.2
                 self.hurl("auth", "wrong" if stranger else "right", self.auth_stranger if stranger else self.lab.radius, copy, way)
         self.hurl("auth", "wrong", self.auth_stranger, reply, "as it is")
-        self.replies.append((self.steps + self.chance.choice((0, 0, 1, 2)), reply, customer))
+        # It waits a step or two, but not where those take seconds: the gateway waits for it no longer than half a minute.
+        self.replies.append((self.steps + self.chance.choice((0, 0, 1, 2)) * (self.pace < 1), reply, customer))
 
     def reply_to_intruder(self, request):
         chance, luck = self.chance, self.chance.random()
