@@ -6,3 +6,4 @@ pub mod LineCodes
 pub mod OneForm
 pub mod Spellings
 pub mod Repeats
+pub mod Turns
