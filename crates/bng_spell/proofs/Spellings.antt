@@ -11,7 +11,7 @@ use Rattle.bng_base.proofs.ToldLaws.{grows_none, grows_more, rose_late}
 use Rattle.bng_plant.specs.declared.answers.Wrote.{Wrote}
 use Rattle.bng_plant.specs.declared.answers.Wrote.TheVariants.{Ok, Failed}
 use Rattle.bng_spell.specs.Lines.{entry_line, entry_lines}
-use Rattle.bng_spell.specs.Spelling.{Breaks, Spells, Pending, Waits, Holds, Adds, Closes}
+use Rattle.bng_spell.specs.Spelling.{Breaks, Spells, Pending, Holds, Adds, Closes}
 
 clash : {P : Type 0} (b : Bool) → b ≡ false → b ≡ true → P
 clash b f t = absurd (false≢true (sym f ∙ t))
@@ -164,5 +164,5 @@ pub adds_journal : {a b c : SinkTold} {p q r : Pending} (js : List (List Entry))
 adds_journal js i d h so_far one =
     let at : i ≡ 0 + length (take i js) = omega (arith, length-take i js) in
     adds_as (adds_both so_far one) (
-      ap (λ (k : ℕ). entry_lines 0 (take i js) ++ flat_map (entry_line k) (get_or js i d)) at ∙ journals_more 0 (take i js) (get_or js i d) ∙ ap (λ (ks : List (List Entry)). entry_lines 0 ks) (sym (take_more js i d h))
+    ap (λ (k : ℕ). entry_lines 0 (take i js) ++ flat_map (entry_line k) (get_or js i d)) at ∙ journals_more 0 (take i js) (get_or js i d) ∙ ap (λ (ks : List (List Entry)). entry_lines 0 ks) (sym (take_more js i d h))
     )

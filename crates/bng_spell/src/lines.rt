@@ -10,12 +10,7 @@ use bng_base::{Entry, Item, Listed, Loose, OutRecord, RoundRecord};
 use bng_plant::Sink;
 
 // Writes the line of an entry of this shard.
-fn put_entry<O: Sink>(
-    out: &mut O,
-    block: &mut Block,
-    shard: u64,
-    entry: &Entry,
-)
+fn put_entry<O: Sink>(out: &mut O, block: &mut Block, shard: u64, entry: &Entry)
     ensures { Adds (O.told out.old) (O.told out.new) block.old block.new (entry_line shard entry.now) }
 {
     put_line(
@@ -102,12 +97,7 @@ fn put_out<O: Sink>(out: &mut O, block: &mut Block, sent: &OutRecord)
 }
 
 // Writes the lines of the entries of a shard.
-fn put_journal<O: Sink>(
-    out: &mut O,
-    block: &mut Block,
-    shard: u64,
-    journal: &[Entry],
-)
+fn put_journal<O: Sink>(out: &mut O, block: &mut Block, shard: u64, journal: &[Entry])
     ensures { Adds (O.told out.old) (O.told out.new) block.old block.new (flat_map (entry_line shard) journal.now) }
 {
     for entry in journal {
@@ -116,11 +106,7 @@ fn put_journal<O: Sink>(
 }
 
 /// Writes the lines of the entries, by shard.
-pub(crate) fn put_journals<O: Sink>(
-    out: &mut O,
-    block: &mut Block,
-    journals: &[Listed<Entry>],
-)
+pub(crate) fn put_journals<O: Sink>(out: &mut O, block: &mut Block, journals: &[Listed<Entry>])
     ensures { Adds (O.told out.old) (O.told out.new) block.old block.new (entry_lines 0 journals.now) }
 {
     for shard in 0..journals.len() {
@@ -129,11 +115,7 @@ pub(crate) fn put_journals<O: Sink>(
 }
 
 /// Writes the lines of the loose items.
-pub(crate) fn put_loose_items<O: Sink>(
-    out: &mut O,
-    block: &mut Block,
-    loose: &[Loose],
-)
+pub(crate) fn put_loose_items<O: Sink>(out: &mut O, block: &mut Block, loose: &[Loose])
     ensures { Adds (O.told out.old) (O.told out.new) block.old block.new (flat_map loose_line loose.now) }
 {
     for one in loose {
@@ -142,11 +124,7 @@ pub(crate) fn put_loose_items<O: Sink>(
 }
 
 /// Writes the lines of the items of a round that could not be opened.
-pub(crate) fn put_refused_items<O: Sink>(
-    out: &mut O,
-    block: &mut Block,
-    refused: &[Item],
-)
+pub(crate) fn put_refused_items<O: Sink>(out: &mut O, block: &mut Block, refused: &[Item])
     ensures { Adds (O.told out.old) (O.told out.new) block.old block.new (flat_map refused_line refused.now) }
 {
     for item in refused {
@@ -155,11 +133,7 @@ pub(crate) fn put_refused_items<O: Sink>(
 }
 
 /// Writes the lines of the outs.
-pub(crate) fn put_outs<O: Sink>(
-    out: &mut O,
-    block: &mut Block,
-    outs: &[OutRecord],
-)
+pub(crate) fn put_outs<O: Sink>(out: &mut O, block: &mut Block, outs: &[OutRecord])
     ensures { Adds (O.told out.old) (O.told out.new) block.old block.new (flat_map out_line outs.now) }
 {
     for one in outs {
@@ -168,11 +142,7 @@ pub(crate) fn put_outs<O: Sink>(
 }
 
 /// Writes the first line of a round.
-pub(crate) fn put_head<O: Sink>(
-    out: &mut O,
-    block: &mut Block,
-    round: &RoundRecord,
-)
+pub(crate) fn put_head<O: Sink>(out: &mut O, block: &mut Block, round: &RoundRecord)
     ensures { Adds (O.told out.old) (O.told out.new) block.old block.new (head_line round.now) }
 {
     put_line(

@@ -86,12 +86,7 @@ fn put_octets<O: Sink>(out: &mut O, block: &mut Block, octets: &[u8])
 }
 
 // Writes a text and a number.
-fn put_numbered<O: Sink>(
-    out: &mut O,
-    block: &mut Block,
-    text: &'static str,
-    number: u64,
-)
+fn put_numbered<O: Sink>(out: &mut O, block: &mut Block, text: &'static str, number: u64)
     ensures { Adds (O.told out.old) (O.told out.new) block.old block.new (text.now ++ decimal number) }
 {
     put_text(out, block, text);
@@ -117,12 +112,7 @@ fn put_peer<O: Sink>(out: &mut O, block: &mut Block, peer: Peer)
 }
 
 // Writes a text and an address.
-fn put_addressed<O: Sink>(
-    out: &mut O,
-    block: &mut Block,
-    text: &'static str,
-    address: Ip4,
-)
+fn put_addressed<O: Sink>(out: &mut O, block: &mut Block, text: &'static str, address: Ip4)
     ensures { Adds (O.told out.old) (O.told out.new) block.old block.new (text.now ++ address_text address) }
 {
     put_text(out, block, text);
@@ -172,11 +162,7 @@ fn put_role<O: Sink>(out: &mut O, block: &mut Block, role: Role)
 }
 
 // Writes numbers, a comma before each.
-fn put_more_numbers<O: Sink>(
-    out: &mut O,
-    block: &mut Block,
-    numbers: &[u32],
-)
+fn put_more_numbers<O: Sink>(out: &mut O, block: &mut Block, numbers: &[u32])
     ensures { Adds (O.told out.old) (O.told out.new) block.old block.new (flat_map (λ (m : ℕ). codes "," ++ decimal m) numbers.now) }
 {
     for number in numbers {
@@ -234,12 +220,7 @@ fn put_parts<O: Sink>(out: &mut O, block: &mut Block, parts: &[Part])
 }
 
 /// Writes a line: fields, a space behind each, and a last one with the line's end.
-pub(crate) fn put_line<O: Sink>(
-    out: &mut O,
-    block: &mut Block,
-    parts: &[Part],
-    last: Part,
-)
+pub(crate) fn put_line<O: Sink>(out: &mut O, block: &mut Block, parts: &[Part], last: Part)
     ensures { Adds (O.told out.old) (O.told out.new) block.old block.new (flat_map parted_text parts.now ++ (part_text last.entry ++ codes "\n")) }
 {
     put_parts(out, block, parts);

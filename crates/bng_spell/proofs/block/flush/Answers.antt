@@ -1,4 +1,4 @@
-use Rattle.std.proofs.Common.{List, ℕ, [], ◌++◌, take, refl, sym, subst, ◌∙◌, append-nil}
+use Rattle.std.proofs.Common.{List, ℕ, [], take, refl, sym, subst, ◌∙◌, append-nil}
 use Rattle.bng_base.specs.Told.{Grows}
 use Rattle.bng_spell.proofs.Spellings.{adds_broken}
 use Rattle.bng_spell.proofs.block.flush.Goals as goal
