@@ -1,0 +1,9 @@
+pub mod Places
+pub mod Answering
+pub mod Tellings
+pub mod Holding
+pub mod Lightness
+pub mod Journals
+pub mod Following
+pub mod Stepping
+pub mod Entering
