@@ -7,3 +7,7 @@ pub mod Journals
 pub mod Following
 pub mod Stepping
 pub mod Entering
+pub mod Lists
+pub mod Standings
+pub mod Work
+pub mod Due

@@ -5,3 +5,9 @@ pub mod Booking
 pub mod Telling
 pub mod Looking
 pub mod Entering
+pub mod Rounds
+pub mod Dealing
+pub mod Working
+pub mod Kept
+pub mod Opening
+pub mod Closing

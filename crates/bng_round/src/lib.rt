@@ -10,11 +10,13 @@ mod finding;
 mod handling;
 mod mark;
 mod placed;
+mod round;
 mod seated;
 mod telling;
 
 pub use handling::Gate;
 pub use mark::{Done, Mark};
 pub use placed::Placed;
+pub use round::{Floor, Worker};
 pub use seated::Seated;
 pub use telling::{agree, agree_in, brief, brief_in, debrief};
