@@ -36,7 +36,7 @@ module _ (p : LacCall → Bool) where
       by false false a b rest =
           ap (λ x. find p (cond x (d ∷ filter q cs) (filter q cs))) b ∙ rest ∙ sym (ap (λ x. cond x (Some d) (find p cs)) a)
 
-  none_in : (q : LacCall → Bool) → ((d : LacCall) → p d ≡ true → q d ≡ false) → (cs : List LacCall) → find p (filter q cs) ≡ None
+  pub none_in : (q : LacCall → Bool) → ((d : LacCall) → p d ≡ true → q d ≡ false) → (cs : List LacCall) → find p (filter q cs) ≡ None
   none_in q h [] = refl
   none_in q h (d ∷ cs) = by (p d) (q d) refl refl (none_in q h cs)
     where
@@ -51,7 +51,7 @@ module _ (p : LacCall → Bool) where
   at_front [] ys e = e
   at_front (x ∷ xs) ys e = ap (λ o. cond (p x) (Some x) o) (at_front xs ys e)
 
-  at_back : (xs ys : List LacCall) → find p xs ≡ None → find p (xs ++ ys) ≡ find p ys
+  pub at_back : (xs ys : List LacCall) → find p xs ≡ None → find p (xs ++ ys) ≡ find p ys
   at_back [] ys e = refl
   at_back (x ∷ xs) ys e = by (p x) refl (at_back xs ys)
     where

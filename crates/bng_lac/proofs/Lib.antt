@@ -3,3 +3,9 @@ mod Placed
 mod CallsKept
 mod Answering
 mod Laws
+mod Passed
+mod OneCall
+mod Soundness
+mod Heard
+mod Asking
+mod Up

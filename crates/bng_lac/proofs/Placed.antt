@@ -1,12 +1,13 @@
 -- The call of a session, and the calls with it or without it, by its place.
-use Rattle.std.proofs.Common.{◌≡◌, ℕ, zero, suc, ◌<◌, ◌≤◌, ◌==◌, ◌⊎◌, Bool, true, false, cond, not, nat_lt, List, [], ◌∷◌, ◌++◌, length, get_or, set, filter, find, Option, None, Some, Result, Ok, Err, refl, sym, ap, subst, ◌∙◌, arith, inl, inr}
+use Rattle.std.proofs.Common.{◌≡◌, ℕ, zero, suc, ◌+◌, ◌<◌, ◌≤◌, ◌==◌, ◌⊎◌, Bool, true, false, cond, not, nat_lt, List, [], ◌∷◌, ◌++◌, length, get_or, set, filter, find, Option, None, Some, Result, Ok, Err, refl, sym, ap, subst, ◌∙◌, arith, inl, inr, length-append, ltb-true}
 use Rattle.std.specs.Prelude.{IfOk, IfErr, IsSome}
 use Rattle.std.specs.List.{insert, remove}
 use Rattle.std.specs.List.Sorted.{IsSearchInRange, IsBinarySearchResult, IsNonDecreasingBy}
 use Rattle.std.specs.Ordering.{nat_cmp, ordering_index}
-use Rattle.std.proofs.lemmas.Bool.{cases_lt, false≢true}
+use Rattle.std.proofs.lemmas.Bool.{cases_lt, cases_order, cond_both, false≢true}
 use Rattle.std.proofs.lemmas.Bool.Decides.{nat_tests}
 use Rattle.std.proofs.lemmas.Cmp.{ranked}
+use Rattle.std.proofs.lemmas.List.Elements.{All-append, All-filter}
 use Rattle.std.proofs.lemmas.List.Sorted.{IsNonDecreasingBy-from_default}
 use Rattle.bng_lac.specs.declared.call.LacCall.{LacCall}
 use Rattle.bng_lac.specs.LacState.{AreRising}
@@ -217,3 +218,55 @@ module _ (n : ℕ) (cs : List LacCall) (up : AreRising cs) where
       above = λ k d ge l. ranked (get_or cs k d).session.0 n _ (sym ((parted (comparisons_rise d)).1 k d ge l));
     };
   }
+
+-- Calls that come and go -----------------------------------------------------------------------------------------------------------------
+
+module _ (c : LacCall) where
+  above_with : (m : ℕ) (cs : List LacCall) → m < c.session.0 → Above m cs → Above m (with_call c cs)
+  above_with m cs low above =
+      let below = filter (λ (d : LacCall). nat_lt d.session.0 c.session.0) cs in
+      let higher = filter (λ (d : LacCall). nat_lt c.session.0 d.session.0) cs in
+      All-append (λ (d : LacCall). m < d.session.0) below (c ∷ higher)
+      (All-filter (λ (d : LacCall). nat_lt d.session.0 c.session.0) (λ (d : LacCall). m < d.session.0) cs above)
+      (above_cons m c higher low (All-filter (λ (d : LacCall). nat_lt c.session.0 d.session.0) (λ (d : LacCall). m < d.session.0) cs above))
+
+  pub with_rises : (cs : List LacCall) → AreRising cs → AreRising (with_call c cs)
+  with_rises [] up = rising_cons c [] (λ k d l. absurd (omega arith)) up
+  with_rises (e ∷ cs) up =
+      elim (cases_order e.session.0 c.session.0) [
+        | inl same ↦
+            let above : Above c.session.0 cs = λ k d l. omega (arith, head_below e cs up k d l, same) in
+            subst (λ (ds : List LacCall). AreRising ds) (sym (with_same c e cs same ∙ with_above c cs above)) (rising_cons c cs above (tail_rises e cs up))
+        | inr differ ↦ elim differ [
+          | inl low ↦
+              subst (λ (ds : List LacCall). AreRising ds) (sym (with_lower c e cs low)) (rising_cons e (with_call c cs) (above_with e.session.0 cs low (head_below e cs up)) (with_rises cs (tail_rises e cs up)))
+          | inr high ↦
+              let above : Above c.session.0 (e ∷ cs) = above_cons c.session.0 e cs high (λ k d l. omega (arith, head_below e cs up k d l, high)) in
+              subst (λ (ds : List LacCall). AreRising ds) (sym (with_above c (e ∷ cs) above)) (rising_cons c (e ∷ cs) above up)
+        ]
+      ]
+
+  filters_few : (cs : List LacCall) → length (filter (λ (d : LacCall). nat_lt d.session.0 c.session.0) cs) + length (filter (λ (d : LacCall). nat_lt c.session.0 d.session.0) cs) ≤ length cs
+  filters_few [] = omega arith
+  filters_few (e ∷ cs) =
+      by (nat_lt e.session.0 c.session.0) (nat_lt c.session.0 e.session.0) refl refl (filters_few cs)
+    where
+      by : (a b : Bool) → nat_lt e.session.0 c.session.0 ≡ a → nat_lt c.session.0 e.session.0 ≡ b
+          → length (filter (λ (d : LacCall). nat_lt d.session.0 c.session.0) cs) + length (filter (λ (d : LacCall). nat_lt c.session.0 d.session.0) cs) ≤ length cs
+          → length (cond a (e ∷ filter (λ (d : LacCall). nat_lt d.session.0 c.session.0) cs) (filter (λ (d : LacCall). nat_lt d.session.0 c.session.0) cs))
+          + length (cond b (e ∷ filter (λ (d : LacCall). nat_lt c.session.0 d.session.0) cs) (filter (λ (d : LacCall). nat_lt c.session.0 d.session.0) cs)) ≤ length (e ∷ cs)
+      by true true p q h = absurd (omega (arith, ltb-true e.session.0 c.session.0 p, ltb-true c.session.0 e.session.0 q))
+      by true false p q h = omega (arith, h)
+      by false true p q h = omega (arith, h)
+      by false false p q h = omega (arith, h)
+
+  -- there is one call more at most
+  pub with_few : (cs : List LacCall) → length (with_call c cs) ≤ length cs + 1
+  with_few cs =
+      omega (arith, filters_few cs, length-append (filter (λ (d : LacCall). nat_lt d.session.0 c.session.0) cs) (c ∷ filter (λ (d : LacCall). nat_lt c.session.0 d.session.0) cs))
+
+pub filter_few : (p : LacCall → Bool) (cs : List LacCall) → length (filter p cs) ≤ length cs
+filter_few p [] = omega arith
+filter_few p (c ∷ cs) =
+    let rest = filter_few p cs in
+    cond_both (p c) (c ∷ filter p cs) (filter p cs) (λ (ds : List LacCall). length ds ≤ length (c ∷ cs)) (λ _. omega (arith, rest)) (λ _. omega (arith, rest))

@@ -9,3 +9,4 @@ pub mod CallSteps
 pub mod CallView
 pub mod Steps
 pub mod AskingView
+pub mod Sound

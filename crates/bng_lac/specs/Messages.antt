@@ -10,7 +10,7 @@ use Rattle.bng_lac.specs.declared.phase.Phase.TheVariants.{Idle, WaitReply, Esta
 use Rattle.bng_lac.specs.declared.call.LacCall.{LacCall}
 use Rattle.bng_lac.specs.Numbers.{sccrp_type, stop_ccn_type, hello_type, protocol_version_avp, framing_capabilities_avp, host_name_avp, assigned_tunnel_id_avp}
 
--- the messages of a call that a network server sends (section 3.2)
+-- the messages of a call that come from a network server (section 3.2), and WEN, which it has no cause to send (section 6.13)
 abbrev pub is_of_call : Option ℕ → Bool
 is_of_call type = list_any (is_type type) (icrp_type ∷ cdn_type ∷ wen_type ∷ sli_type ∷ [])
 

@@ -21,7 +21,7 @@ use bng_l2tp_wire::kind::{
 };
 use bng_l2tp_wire::message::{CDN, HELLO, ICRP, SCCRP, SLI, STOP_CCN, WEN};
 
-/// Whether a message of this type is one of a call that a network server sends (RFC 2661 section 3.2).
+/// Whether a message of this type is one of a call: those that a network server sends (RFC 2661 section 3.2), and WEN.
 pub(crate) fn is_of_call(found: Option<u16>) -> bool
     ensures { result ≡ belongs_to_call found }
 {

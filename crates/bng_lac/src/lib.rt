@@ -6,7 +6,8 @@
 //! `specs/Messages.antt` is the table of the messages that a tunnel and a call take, `specs/Refusals.antt` the list of the
 //! cases in which they are refused, and `specs/Spelling.antt` what the gateway sends. `specs/Steps.antt` puts these together: a
 //! message is either a tunnel's or a call's, and a call's message does what `call_step` of `specs/CallSteps.antt` does to one
-//! call. What AVPs say and how datagrams go out is `bng_l2tp_tunnel`'s.
+//! call. What AVPs say and how datagrams go out is `bng_l2tp_tunnel`'s. The laws in `specs/Sound.antt` hold of every step, as
+//! `src/law.rt` says.
 #![tactic(auto)]
 
 mod call;
@@ -27,6 +28,9 @@ pub use crate::call::LacCall;
 pub use crate::called::Called;
 pub use crate::calls::CALLS_MOST;
 pub use crate::error::LacError;
-pub use crate::law::one_call_a_message;
+pub use crate::law::{
+    a_call_is_up, a_message_is_answered, a_tunnel_is_sound, each_call_is_asked_for,
+    one_call_a_message,
+};
 pub use crate::rules::LacRules;
 pub use crate::tunnel::LacTunnel;
