@@ -8,3 +8,4 @@ pub mod TaggedSends
 pub mod Sums
 pub mod Accounting
 pub mod ReadBack
+pub mod Reached

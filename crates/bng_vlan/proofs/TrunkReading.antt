@@ -147,3 +147,7 @@ module _ (m : Trunks) (place : ℕ) (e : VlanEntry) (v : Waiting) (came : List C
 
   pub is_broken : (w : Waiting) → SoFar m place e v came w → length came < 224 → length (frames_at place w.frames) ≡ 0 → (Holds m.entries w.frames e.trunk → ⊥) → IsRead m place e v came Broken w
   is_broken w far few none free = by_answer Broken w refl (inl refl) far few none free
+
+-- where a frame waits the trunk is left alone
+pub left_alone : (m : Trunks) (place : ℕ) (e : VlanEntry) (v : Waiting) → slice_get m.entries place ≡ Some e → 0 < length (frames_at place v.frames) → IsRead m place e v [] Stopped v
+left_alone m place e v stands some = is_stopped m place e v [] stands v (begun m place e v) (omega arith) (inl some)

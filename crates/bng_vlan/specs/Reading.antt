@@ -4,13 +4,16 @@ use Rattle.std.specs.List.{AllByRecursion}
 use Rattle.bng_base.specs.declared.outside.Role.{Role}
 use Rattle.bng_base.specs.declared.outside.Received.{Received}
 use Rattle.bng_base.specs.declared.outside.Received.TheVariants.{Empty, Failed}
+use Rattle.bng_base.specs.Packet.{Packet}
 use Rattle.bng_base.specs.Stretch.{PlantStretch}
 use Rattle.bng_vlan.specs.declared.map.VlanEntry.{VlanEntry}
 use Rattle.bng_vlan.specs.declared.ending.Ending.{Ending}
 use Rattle.bng_vlan.specs.declared.ending.Ending.TheVariants.{Stopped, Dry, Broken}
+use Rattle.bng_vlan.specs.declared.ending.ReadEnd.{ReadEnd}
+use Rattle.bng_vlan.specs.declared.ending.ReadEnd.TheVariants.{Found, Stopped as HadStopped, Dry as WasDry, Broken as WasBroken}
 use Rattle.bng_vlan.specs.Map.{Trunks, entry_of}
 use Rattle.bng_vlan.specs.Frames.{Came, is_of, frames_of}
-use Rattle.bng_vlan.specs.Waiting.{Waiting, Holds, Keeps, frames_at}
+use Rattle.bng_vlan.specs.Waiting.{Waiting, Holds, Keeps, Gives, frames_at}
 use Rattle.bng_vlan.specs.Hearing.{trunk_heard, trunk_stretch}
 
 -- all frames that came but one that the last receive took
@@ -50,3 +53,17 @@ pub record Answers (m : Trunks) (place : ℕ) (e : VlanEntry) (answer : Received
   pub up_to : ReadsUpTo m place e v came ending
   pub failed : (answer ≡ Failed) ↔ (ending ≡ Broken)
   pub empty : answer ≡ Empty → (length (frames_at place w.frames) ≡ 0) × IsDrained m e came ending w
+
+-- how a reading ended: at the frame that it came to it stopped
+abbrev pub ended : ReadEnd → Ending
+ended Found = Stopped
+ended HadStopped = Stopped
+ended WasDry = Dry
+ended WasBroken = Broken
+
+-- The frame that a reading came to, the only one that waits for the entry, was given; else none waits for it.
+abbrev pub WasGiven : ReadEnd → (place : ℕ) → (u : Waiting) → Packet → (w : Waiting) → Type 0
+WasGiven Found place u frame w = Gives place u frame.payload w × (frame.headroom ≡ 64)
+WasGiven HadStopped place u frame w = (w ≡ u) × (length (frames_at place w.frames) ≡ 0)
+WasGiven WasDry place u frame w = (w ≡ u) × (length (frames_at place w.frames) ≡ 0)
+WasGiven WasBroken place u frame w = (w ≡ u) × (length (frames_at place w.frames) ≡ 0)

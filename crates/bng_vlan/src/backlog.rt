@@ -154,6 +154,17 @@ impl Backlog {
         false
     }
 
+    /// Whether a frame of an entry's trunk is the entry's.
+    pub(crate) fn is_its(&self, e: &VlanEntry, from: Peer, cut: bool, octets: &[u8]) -> bool
+        requires { 1 ≤ e.now.trunk }
+        ensures { result ≡ is_of (map_of self.now) (record { trunk = e.now.trunk; from = from; cut = cut; octets = octets.now }) e.now }
+    {
+        if cut || !self.is_peer(e.trunk, from) {
+            return false;
+        }
+        is_for(e, e.trunk, &tags_of(octets))
+    }
+
     /// The place of the entry whose a frame of a trunk is, unless it is a stray.
     fn owner(&self, trunk: u8, from: Peer, cut: bool, octets: &[u8]) -> Option<usize>
         requires { 1 ≤ trunk }

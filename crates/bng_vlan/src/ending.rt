@@ -5,3 +5,12 @@ pub enum Ending {
     Dry,
     Broken,
 }
+
+/// What the reading of a trunk for an entry came to: the entry's next frame, or how it ended without one.
+#[derive(Clone, Copy, PartialEq, Eq, Debug)]
+pub enum ReadEnd {
+    Found,
+    Stopped,
+    Dry,
+    Broken,
+}

@@ -2,7 +2,7 @@
 ghost use Rattle.std.specs.Prelude.{◌≡◌, ◌+◌, ◌≤◌, ◌<◌, ◌∷◌, [], ◌++◌, length, take, drop, IfOk};
 ghost use Rattle.bng_vlan.specs.Ring.{HaveHeadroom};
 
-use crate::tag::ADDRESSES;
+use crate::tagging::write_untagged;
 use bng_base::Frame;
 use std::alloc::{AllocError, Global};
 use std::marker::Model;
@@ -69,8 +69,7 @@ impl Queue {
         ensures { self.new ≡ self.old ++ (take 12 octets.now ++ drop (12 + width) octets.now) ∷ [] }
     {
         let place = &mut self.places[(self.oldest + self.size) % PLACES];
-        place.set(&octets[..ADDRESSES]);
-        place.put_back(&octets[ADDRESSES + width..]);
+        write_untagged(place, octets, width);
         self.size += 1;
     }
 

@@ -3,6 +3,7 @@ ghost use Rattle.std.specs.Prelude.{◌≡◌, ◌+◌, ◌≤◌, ◌<◌, ◌/
 ghost use Rattle.bng_vlan.specs.Tags.{tag_octets, tagged, width_of};
 
 use crate::tag::{ADDRESSES, Tags};
+use bng_base::Frame;
 
 /// How many octets the longest tagged frame has that is sent.
 pub(crate) const LONGEST_TAGGED: usize = 4168;
@@ -15,6 +16,17 @@ pub(crate) fn width_of(inner: Option<u16>) -> usize
         None => 4,
         Some(_) => 8,
     }
+}
+
+/// Writes a frame without so many octets behind its addresses, with its whole headroom.
+pub(crate) fn write_untagged(into: &mut Frame, octets: &[u8], width: usize)
+    requires whole { 12 + width ≤ length octets.now }
+    requires fits { length octets.now ≤ 4096 }
+    ensures payload { into.new.payload ≡ take 12 octets.now ++ drop (12 + width) octets.now }
+    ensures headroom { into.new.headroom ≡ 64 }
+{
+    into.set(&octets[..ADDRESSES]);
+    into.put_back(&octets[ADDRESSES + width..]);
 }
 
 /// Adds octets, for which there is room.

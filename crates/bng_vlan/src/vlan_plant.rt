@@ -8,17 +8,17 @@ ghost use Rattle.bng_plant.specs.Calls.{send_most, IsFilled, binds};
 ghost use Rattle.bng_vlan.specs.Stretches.{receiving, sending, waiting, told_over};
 ghost use Rattle.bng_vlan.specs.Map.{IsMap, entry_of, role_of, is_trunk};
 ghost use Rattle.bng_vlan.specs.Frames.{Came};
-ghost use Rattle.bng_vlan.specs.Waiting.{frames_at};
+ghost use Rattle.bng_vlan.specs.Waiting.{Waiting, frames_at};
 ghost use Rattle.bng_vlan.specs.Hearing.{trunk_stretch};
 ghost use Rattle.bng_vlan.specs.Untagged.{Untagged};
-ghost use Rattle.bng_vlan.specs.Reading.{IsRead, Answers};
+ghost use Rattle.bng_vlan.specs.Reading.{IsRead, Answers, ended, WasGiven};
 ghost use Rattle.bng_vlan.specs.Views.{map_of, waiting_of, trunks_in};
 ghost use Rattle.bng_vlan.specs.UntaggedLaws.{untagged_none, untagged_more, untagged_tells};
 
 use crate::backlog::Backlog;
-use crate::ending::Ending;
+use crate::ending::ReadEnd;
 use crate::map::{VlanEntry, VlanError, VlanMap};
-use crate::tagging::{LONGEST_TAGGED, write_tagged};
+use crate::tagging::{LONGEST_TAGGED, width_of, write_tagged, write_untagged};
 use crate::trunk_plant::TrunkPlant;
 use bng_base::{Frame, Peer, Received, Role};
 use bng_plant::{Bound, Sending};
@@ -27,12 +27,13 @@ use std::alloc::{AllocError, Global};
 /// How many receives of a trunk one receive of an entry makes at most.
 const READ_MOST: usize = 224;
 
-/// A plant over another one, on which access ports are VLANs of trunks. `backlog` has the frames that wait, and `text` is the buffer for
-/// what is sent.
+/// A plant over another one, on which access ports are VLANs of trunks. `backlog` has the frames that wait, `arrived` is the frame
+/// into which trunks are read, and `text` is the buffer for what is sent.
 #[derive(Drop)]
 pub struct VlanPlant<'a, P: TrunkPlant> {
     pub plant: &'a mut P,
     pub backlog: Backlog,
+    pub arrived: Frame,
     pub text: Vec<u8>,
     pub ghost room: { 4168 ≤ vec_capacity text },
 }
@@ -45,32 +46,38 @@ fn role_of(trunk: u8) -> Role
     Role::Access(239 + trunk)
 }
 
-/// Reads the trunk of an entry until a frame waits for it.
+/// Reads the trunk of an entry, for which no frame waits, up to its next frame, which goes into `into`.
 fn read<P: TrunkPlant>(
     plant: &mut P,
     backlog: &mut Backlog,
+    arrived: &mut Frame,
     place: usize,
     entry: VlanEntry,
     into: &mut Frame,
-) -> Ending
-    requires { slice_get (map_of backlog.old).entries place ≡ Some entry }
+) -> ReadEnd
+    requires stands { slice_get (map_of backlog.old).entries place ≡ Some entry }
+    requires none { length (frames_at place (waiting_of backlog.old).frames) ≡ 0 }
     ensures map { map_of backlog.new ≡ map_of backlog.old }
-    ensures reads { (came : List Came) × P.adds plant.old (trunk_stretch entry.trunk came result) plant.new × IsRead (map_of backlog.old) place entry (waiting_of backlog.old) came result (waiting_of backlog.new) }
+    ensures reads { (came : List Came) × (u : Waiting) × P.adds plant.old (trunk_stretch entry.trunk came (ended result)) plant.new × IsRead (map_of backlog.old) place entry (waiting_of backlog.old) came (ended result) u × WasGiven result place u into.new (waiting_of backlog.new) }
 {
     for _ in 0..READ_MOST {
-        if backlog.number(place) > 0 {
-            return Ending::Stopped;
-        }
         if backlog.holds(entry.trunk) {
-            return Ending::Stopped;
+            return ReadEnd::Stopped;
         }
-        match plant.recv(role_of(entry.trunk), into) {
-            Received::Got { from, cut } => backlog.put(entry.trunk, from, cut, into),
-            Received::Empty => return Ending::Dry,
-            Received::Failed => return Ending::Broken,
+        match plant.recv(role_of(entry.trunk), arrived) {
+            Received::Got { from, cut } => {
+                let octets = arrived.payload();
+                if backlog.is_its(&entry, from, cut, octets) {
+                    write_untagged(into, octets, width_of(entry.inner));
+                    return ReadEnd::Found;
+                }
+                backlog.put(entry.trunk, from, cut, arrived);
+            }
+            Received::Empty => return ReadEnd::Dry,
+            Received::Failed => return ReadEnd::Broken,
         }
     }
-    Ending::Stopped
+    ReadEnd::Stopped
 }
 
 fn buffer(alloc: Global) -> Result<Vec<u8>, AllocError>
@@ -104,6 +111,7 @@ impl<'a, P: TrunkPlant> VlanPlant<'a, P> {
         Ok(VlanPlant {
             plant,
             backlog,
+            arrived: Frame::new(),
             text,
         })
     }
@@ -125,19 +133,28 @@ impl<'a, P: TrunkPlant> VlanPlant<'a, P> {
         ensures map { map_of self.new.backlog ≡ map_of self.old.backlog }
         ensures adds { (below : PlantStretch) × P.adds self.old.plant.now below self.new.plant.now × Untagged (map_of self.old.backlog) (waiting_of self.old.backlog) below (receiving (Access entry.access) result into.new.payload) (waiting_of self.new.backlog) × Answers (map_of self.old.backlog) place entry result (waiting_of self.old.backlog) below (waiting_of self.new.backlog) }
     {
-        match read(self.plant, &mut self.backlog, place, entry, into) {
-            Ending::Dry => Received::Empty,
-            Ending::Broken => Received::Failed,
-            Ending::Stopped => {
-                if self.backlog.number(place) == 0 {
-                    return Received::Empty;
-                }
-                self.backlog.give(place, into);
-                Received::Got {
-                    from: self.backlog.peer_of(entry.trunk),
-                    cut: false,
-                }
-            }
+        if self.backlog.number(place) > 0 {
+            self.backlog.give(place, into);
+            return Received::Got {
+                from: self.backlog.peer_of(entry.trunk),
+                cut: false,
+            };
+        }
+        match read(
+            self.plant,
+            &mut self.backlog,
+            &mut self.arrived,
+            place,
+            entry,
+            into,
+        ) {
+            ReadEnd::Found => Received::Got {
+                from: self.backlog.peer_of(entry.trunk),
+                cut: false,
+            },
+            ReadEnd::Stopped => Received::Empty,
+            ReadEnd::Dry => Received::Empty,
+            ReadEnd::Broken => Received::Failed,
         }
     }
 }
