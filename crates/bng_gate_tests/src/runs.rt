@@ -18,6 +18,7 @@ mod established;
 mod exercises;
 mod forwarding;
 mod host;
+mod hostile;
 mod limits;
 mod link;
 mod logins;
