@@ -41,17 +41,9 @@ const MALFORMED: &[(Role, u16, &str)] = &[
         "ffffffffffff02000000000188631109000000080101000001010000",
     ),
     // a control message with an AVP of length 5 (RFC 2661 section 4.1)
-    (
-        Role::Tunnel,
-        1705,
-        "c802001100000000000000008005000000",
-    ),
+    (Role::Tunnel, 1705, "c802001100000000000000008005000000"),
     // a packet whose header sum, that of RFC 791 section 3.1, is changed by one bit
-    (
-        Role::Core,
-        9001,
-        "45000014000200000211ecd5c00002010a000002",
-    ),
+    (Role::Core, 9001, "45000014000200000211ecd5c00002010a000002"),
 ];
 
 /// Datagrams inside their grammars, of which each is the front of one that is too long.
@@ -101,10 +93,7 @@ fn what_is_outside_its_grammar_is_malformed(rt: HostRuntime) -> Result<(), Fail>
 
 /// A PADI with an empty Service-Name and 64 empty tags for vendors: 65 tags (RFC 2516 section 4).
 fn many_tags(alloc: Global) -> Result<Vec<u8>, Fail> {
-    let mut frame = hex::decode(
-        alloc,
-        "ffffffffffff020000000001886311090000010401010000",
-    )?;
+    let mut frame = hex::decode(alloc, "ffffffffffff020000000001886311090000010401010000")?;
     for _tag in 0..64 {
         frame.extend_from_slice(&[1, 5, 0, 0])?;
     }
@@ -233,8 +222,16 @@ fn ten_thousand_padis_take_no_session(rt: HostRuntime) -> Result<(), Fail> {
     assert_same(&rt, &frames_of(&ended, 0x07), &10_000);
     // The sessions 0c01 and 0c02 were the lowest of the shard before the PADIs and after them, and these two end at the stop.
     assert_same(&rt, &frames_of(&ended, 0x65), &2);
-    assert_same(&rt, &session_of(&ended, 0x65, 0), &Some([0x0c, 0x01].as_slice()));
-    assert_same(&rt, &session_of(&ended, 0x65, 1), &Some([0x0c, 0x02].as_slice()));
+    assert_same(
+        &rt,
+        &session_of(&ended, 0x65, 0),
+        &Some([0x0c, 0x01].as_slice()),
+    );
+    assert_same(
+        &rt,
+        &session_of(&ended, 0x65, 1),
+        &Some([0x0c, 0x02].as_slice()),
+    );
     assert_same(&rt, &frames_of(&ended, 0xa7), &2);
     Ok(())
 }
@@ -252,7 +249,15 @@ const UNBOUND: &[(u64, &[u8])] = &[
 fn an_end_that_cannot_be_bound_is_told(rt: HostRuntime) -> Result<(), Fail> {
     let alloc = rt.alloc();
     for (call, line) in UNBOUND {
-        let ended = run_over(&rt, alloc, &SERVE, CONFIGURATION, Vec::new(alloc), &[*call], &[])?;
+        let ended = run_over(
+            &rt,
+            alloc,
+            &SERVE,
+            CONFIGURATION,
+            Vec::new(alloc),
+            &[*call],
+            &[],
+        )?;
         assert_status(&rt, &ended, 3);
         assert_err(&rt, &ended, line);
         assert_sent(&rt, &ended, 0);
@@ -316,8 +321,9 @@ fn run_failing<R: Threads + Wait + Sync>(
 /// The Accounting-Response to an Accounting-Request (RFC 2866 section 4.2).
 fn response_to(alloc: Global, record: &[u8]) -> Result<Vec<u8>, Fail> {
     let mut response = Vec::new(alloc);
-    if let (Some(id), Some(authenticator)) = (record.get(1), record.get(4..20)) {
-        let front: [u8; 4] = [5, *id, 0, 20];
+    let id = record.get(1).copied().unwrap_or(0);
+    let front: [u8; 4] = [5, id, 0, 20];
+    if let Some(authenticator) = record.get(4..20) {
         response.extend_from_slice(&front)?;
         response.extend_from_slice(&md5_of(&[&front, authenticator, b"xyzzy5461"]))?;
     }
