@@ -1,6 +1,6 @@
 use super::{LNS, SCCCN, SCCRP, SCCRQ, assert_answer, assert_due, opened, outs, takes};
 use crate::asserts::{assert_holds, assert_same};
-use bng_base::{Frame, SessionNo};
+use bng_base::{Frame, SessionNo, Written};
 use bng_l2tp_wire::Data;
 use bng_lac::{CALLS_MOST, Called, LacTunnel};
 use std::alloc::Global;
@@ -33,6 +33,10 @@ const ZLB_4: &str = "c802000c0007000000050004 ";
 
 // the gateway's CDN of session 1026
 const CDN_OUT: &str = "c80200240007000900050004800800000000000e80080000000e04028008000000010003 ";
+
+// an SCCRP of a server that takes one message
+const SCCRP_OF_ONE: &str =
+    "c8020040040100000000000180080000000000028008000000020100800a0000000300000003800a000000076c6e7331800800000009000780080000000a0001";
 
 // whether a call of a session is asked for
 fn asks(rt: &impl Abort, lac: &mut LacTunnel, session: SessionNo) -> Called {
@@ -104,18 +108,72 @@ fn a_frame_goes_into_the_call_that_is_up(rt: HostRuntime) -> Result<(), Fail> {
     establish(&rt, alloc, &mut lac)?;
     bring_up(&rt, alloc, &mut lac)?;
     let (tunnel, session) = lac.up(FIRST).ok_or("no call is up")?;
-    let mut frame = Frame::new();
-    frame.set(&[
-        0xff, 3, 0xc0, 0x21, 1, 1, 0, 10, 5, 6, 0x11, 0x22, 0x33, 0x44,
-    ]);
-    let header = Data {
+    let ppp = hex::decode(alloc, "c0210101000a050611223344")?;
+    let message = Data {
         tunnel,
         session,
-        ppp: frame.payload(),
+        ppp: ppp.as_slice(),
+    };
+    let mut frame = Frame::new();
+    let written = message.write(&mut frame);
+    assert_holds(&rt, matches!(written, Written::Done));
+    let digits = hex::encode(alloc, frame.payload())?;
+    let wanted = "000200070009ff03c0210101000a050611223344";
+    assert_same(&rt, &digits.as_str(), &wanted);
+    Ok(())
+}
+
+// Neither a frame of the subscriber nor one of the server finds a call before its ICRP.
+#[test]
+fn no_call_is_up_before_its_icrp(rt: HostRuntime) -> Result<(), Fail> {
+    let alloc = rt.alloc();
+    let mut lac = waiting(&rt, alloc)?;
+    establish(&rt, alloc, &mut lac)?;
+    let octets = hex::decode(alloc, "000204010402ff03c0210101000a050611223344")?;
+    let data = Data::read(octets.as_slice())?;
+    assert_same(&rt, &data.tunnel, &lac.number().0);
+    assert_same(&rt, &lac.up(SessionNo(data.session)), &None);
+    bring_up(&rt, alloc, &mut lac)?;
+    assert_same(&rt, &lac.up(SessionNo(data.session)), &Some((7, 9)));
+    Ok(())
+}
+
+// What a tunnel with a call that is up takes next: the same ICRP again, another one of session 10, a HELLO.
+const LATER: &[(&str, &str)] = &[
+    (ICRP, "c802000c0007000000050002 "),
+    (
+        "c802001c0401040200020005800800000000000b80080000000e000a",
+        ZLB_3,
+    ),
+    ("c802001404010000000200058008000000000006", ZLB_3),
+];
+
+#[test]
+fn a_call_comes_up_once(rt: HostRuntime) -> Result<(), Fail> {
+    let alloc = rt.alloc();
+    for (datagram, wanted) in LATER {
+        let mut lac = waiting(&rt, alloc)?;
+        establish(&rt, alloc, &mut lac)?;
+        bring_up(&rt, alloc, &mut lac)?;
+        let step = assert_answer(&rt, alloc, &mut lac, datagram, wanted)?;
+        assert_holds(&rt, !step.opened && !step.ended && !step.cleared);
+        assert_same(&rt, &lac.up(FIRST), &Some((7, 9)));
     }
-    .header();
-    let digits = hex::encode(alloc, &header)?;
-    assert_same(&rt, &digits.as_str(), &"000200070009ff03");
+    Ok(())
+}
+
+// A StopCCN of the server clears the tunnel, which ends its calls.
+#[test]
+fn a_stop_of_the_server_ends_all_calls(rt: HostRuntime) -> Result<(), Fail> {
+    let alloc = rt.alloc();
+    let mut lac = waiting(&rt, alloc)?;
+    establish(&rt, alloc, &mut lac)?;
+    bring_up(&rt, alloc, &mut lac)?;
+    let stop = "c80200240401000000020005800800000000000480080000000900078008000000010001";
+    let step = assert_answer(&rt, alloc, &mut lac, stop, ZLB_3)?;
+    assert_holds(&rt, step.cleared && !lac.used());
+    assert_holds(&rt, lac.calls().is_empty());
+    assert_same(&rt, &lac.up(FIRST), &None);
     Ok(())
 }
 
@@ -124,9 +182,7 @@ fn a_frame_goes_into_the_call_that_is_up(rt: HostRuntime) -> Result<(), Fail> {
 fn the_servers_window_counts(rt: HostRuntime) -> Result<(), Fail> {
     let alloc = rt.alloc();
     let mut lac = waiting(&rt, alloc)?;
-    let one =
-        "c8020040040100000000000180080000000000028008000000020100800a0000000300000003800a000000076c6e7331800800000009000780080000000a0001";
-    assert_answer(&rt, alloc, &mut lac, one, SCCCN)?;
+    assert_answer(&rt, alloc, &mut lac, SCCRP_OF_ONE, SCCCN)?;
     let zlb = "c802000c0401000000010002";
     let icrq = "c80200260007000000020001800800000000000a80080000000e0402800a0000000f00000001 ";
     assert_answer(&rt, alloc, &mut lac, zlb, icrq)?;
@@ -141,6 +197,24 @@ fn the_64th_call_finds_no_room(rt: HostRuntime) -> Result<(), Fail> {
         assert_same(
             &rt,
             &asks(&rt, &mut lac, SessionNo(1025 + index)),
+            &Called::Asked,
+        );
+    }
+    assert_same(&rt, &asks(&rt, &mut lac, SessionNo(2000)), &Called::Full);
+    assert_holds(&rt, !lac.has_call(SessionNo(2000)));
+    Ok(())
+}
+
+// 64 messages wait in the channel at most.
+#[test]
+fn a_full_channel_takes_no_call(rt: HostRuntime) -> Result<(), Fail> {
+    let alloc = rt.alloc();
+    let mut lac = waiting(&rt, alloc)?;
+    assert_answer(&rt, alloc, &mut lac, SCCRP_OF_ONE, SCCCN)?;
+    for index in 0..62u16 {
+        assert_same(
+            &rt,
+            &asks(&rt, &mut lac, SessionNo(1100 + index)),
             &Called::Asked,
         );
     }
