@@ -17,7 +17,8 @@ use Rattle.bng_engine.proofs.Journals.{owned_same, run_owned}
 use Rattle.bng_engine.proofs.Rounds.{in_shards}
 use Rattle.bng_steps.specs.Protocol.{ShardState, Handled, pppoe, terms_of}
 use Rattle.bng_steps.proofs.StepLaws.{pppoe_laws}
-use Rattle.bng_gate.specs.Headline.{AddressesLive, IsAddressed, live_in}
+use Rattle.bng_gate.specs.Addressed.{IsAddressed}
+use Rattle.bng_gate.specs.Headline.{AddressesLive, live_in}
 use Rattle.bng_gate.proofs.Addressing.{went_addressed}
 use Rattle.bng_gate.proofs.Keys.{IsOurs, all_ours}
 use Rattle.bng_gate.proofs.Lists.{contained}
@@ -26,10 +27,10 @@ use Rattle.bng_gate.proofs.Owning.{round_whole}
 use Rattle.bng_gate.proofs.Stopping.{settled_live}
 
 -- the terms that were there, and those that began
-abbrev there : List (ShardHistory ShardState) → List Key
+abbrev pub there : List (ShardHistory ShardState) → List Key
 there hs = flat_map (λ (x : ShardHistory ShardState). keys (terms_of x.state)) hs
 
-abbrev begun : List (ShardTurn Handled) → List Key
+abbrev pub begun : List (ShardTurn Handled) → List Key
 begun ts = flat_map (λ (t : ShardTurn Handled). t.settlement.starts) ts
 
 -- one of a first part or of a second, each with more before it or behind it
@@ -82,15 +83,15 @@ round_owned hs ts hs' next = absurd next
 abbrev IsAllLive : ShardHistory ShardState → Type 0
 IsAllLive h = AllByRecursion IsLive (terms_of h.state)
 
-abbrev AreLive : List (ShardHistory ShardState) → Type 0
+abbrev pub AreLive : List (ShardHistory ShardState) → Type 0
 AreLive hs = AllByRecursion IsAllLive hs
 
 -- so it is at the opening, and after each round
-new_live : (vs : List (ShardView ShardState Handled)) → AllByRecursion (IsNew pppoe) vs → AreLive (map nothing_yet vs)
+pub new_live : (vs : List (ShardView ShardState Handled)) → AllByRecursion (IsNew pppoe) vs → AreLive (map nothing_yet vs)
 new_live [] new = tt
 new_live (v ∷ vs) new = (new.0.live, new_live vs new.1)
 
-next_live : (hs : List (ShardHistory ShardState)) (ts : List (ShardTurn Handled)) (hs' : List (ShardHistory ShardState)) → Zip3 (NextInShard pppoe) hs ts hs' → AreLive hs'
+pub next_live : (hs : List (ShardHistory ShardState)) (ts : List (ShardTurn Handled)) (hs' : List (ShardHistory ShardState)) → Zip3 (NextInShard pppoe) hs ts hs' → AreLive hs'
 next_live [] [] [] next = tt
 next_live (h ∷ hs) (t ∷ ts) (h' ∷ hs') next =
     let n = next.0 in
@@ -104,7 +105,7 @@ all_kept (t ∷ ts) live =
     let rest = filter is_live ts in
     ap (λ (b : Bool). cond (not b) (t ∷ rest) rest) live.0 ∙ ap (λ (us : List Term). t ∷ us) (all_kept ts live.1)
 
-all_there : (hs : List (ShardHistory ShardState)) → AreLive hs → flat_map (λ (x : ShardHistory ShardState). keys (filter is_live (terms_of x.state))) hs ≡ there hs
+pub all_there : (hs : List (ShardHistory ShardState)) → AreLive hs → flat_map (λ (x : ShardHistory ShardState). keys (filter is_live (terms_of x.state))) hs ≡ there hs
 all_there [] live = refl
 all_there (h ∷ hs) live =
     ap (λ (ts : List Term). keys ts ++ flat_map (λ (x : ShardHistory ShardState). keys (filter is_live (terms_of x.state))) hs) (all_kept (terms_of h.state) live.0)
@@ -112,7 +113,7 @@ all_there (h ∷ hs) live =
 
 -- Rounds ---------------------------------------------------------------------------------------------------------------------
 
-round_addresses : (h h' : History ShardState) (ts : List (ShardTurn Handled)) → AreLive h.shards → NextRound pppoe h ts h' → AddressesLive h ts h'
+pub round_addresses : (h h' : History ShardState) (ts : List (ShardTurn Handled)) → AreLive h.shards → NextRound pppoe h ts h' → AddressesLive h ts h'
 round_addresses h h' ts live next =
     let all = live_in h ts in
     let sends = sends_in ts in

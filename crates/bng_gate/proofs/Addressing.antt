@@ -20,7 +20,7 @@ use Rattle.bng_engine.specs.Terms.{Key, key_in}
 use Rattle.bng_engine.specs.Wire.{datagram_of, went}
 use Rattle.bng_engine.proofs.Everywhere.{all_weaker, all_filter}
 use Rattle.bng_steps.specs.Reader.{IsDataSpelled, is_call_data, is_session_data, is_tunnel, IsInputOf, IsOutputOf, IsOutputOn, IsOutputOver, IsInDirection, IsNoPacket}
-use Rattle.bng_gate.specs.Headline.{IsFromTerm, IsToCall, IsToTerm, IsAddressed}
+use Rattle.bng_gate.specs.Addressed.{IsFromTerm, IsToCall, IsToTerm, IsAddressed}
 use Rattle.bng_gate.specs.Rounds.{carries_data, on_data}
 use Rattle.bng_gate.proofs.Keys.{IsOurs}
 

@@ -1,7 +1,8 @@
 -- The headline of a run, from its turns.
-use Rattle.std.proofs.Common.{◌≡◌, ◌≤◌, ◌+◌, ◌⊎◌, inl, inr, ℕ, Bool, List, [], ◌∷◌, length, map, Option, refl, sym, ap, subst, ◌∙◌, arith}
+use Rattle.std.proofs.Common.{◌≡◌, ◌≤◌, ◌+◌, ◌⊎◌, inl, inr, ℕ, Bool, List, [], ◌∷◌, length, map, Option, refl, sym, ap, subst, ◌∙◌, append-nil, arith}
 use Rattle.std.specs.Prelude.{◌↔◌, sum, zip}
-use Rattle.std.specs.List.{AllByRecursion, AllZip, Contains, sum_by}
+use Rattle.std.specs.List.{AllByRecursion, AllZip, Contains, flat_map, range_with_len, sum_by}
+use Rattle.std.proofs.lemmas.List.Elements.{All-from_recursion}
 use Rattle.bng_base.specs.declared.book.Book.{Book}
 use Rattle.bng_base.specs.declared.book.Profile.{Profile}
 use Rattle.bng_base.specs.declared.outside.Datagram.{Datagram}
@@ -19,7 +20,7 @@ use Rattle.bng_engine.specs.Histories.{ShardTurn}
 use Rattle.bng_engine.specs.Laws.{BooksAccount, Opens, RightRound, RunFrom, RowsAccountOnWire, sends_of, stops_of}
 use Rattle.bng_engine.specs.Quantities.{Quantity, empty_book}
 use Rattle.bng_engine.specs.Sums.{is_any}
-use Rattle.bng_engine.specs.Terms.{Key}
+use Rattle.bng_engine.specs.Terms.{Key, Stop, stopped_keys}
 use Rattle.bng_engine.specs.Views.{DeskView, ShardView, rows_where}
 use Rattle.bng_engine.specs.Wire.{went}
 use Rattle.bng_engine.proofs.Everywhere.{all_weaker}
@@ -41,32 +42,35 @@ use Rattle.bng_desk.specs.Round.{view_of, views_of}
 use Rattle.bng_gate.specs.Changed.{AreAnswered, coa_calls_of}
 use Rattle.bng_gate.specs.declared.texts.Refusal.{Refusal}
 use Rattle.bng_gate.specs.declared.texts.Refusal.TheVariants.{Usage, Refused, CannotOpen, OutOfMemory, TraceFailed, OutputFailed}
+use Rattle.bng_gate.specs.Exact.{StopsAccount}
 use Rattle.bng_gate.specs.Exercise.{Exercised, IsPlayed, Prints, exercise_seed, exercise_text, line_by, line_over, peers_beside, records_told}
-use Rattle.bng_gate.specs.Granted.{Granted, held_of, stages_of}
+use Rattle.bng_gate.specs.Granted.{Granted, Held, Stage, held_of, stages_of}
+use Rattle.bng_gate.specs.Headline.{AreStopped, HaveTerms, calls_in_run, circuit_keys, Headline, AddsUpTo, IsSafe, IsQuiet, WasSafe, all_profile_traffic, all_terms_of, all_traffic, terms_of_run, total_in}
+use Rattle.bng_gate.specs.Promise.{IsAddressedIn, IsExclusive, IsPassedOnIn, Passes, Promise, Span}
 use Rattle.bng_gate.specs.Recorded.{Recorded, formed_of}
 use Rattle.bng_gate.specs.Replied.{AreReplied}
 use Rattle.bng_gate.specs.Reported.{ReportsLive}
-use Rattle.bng_gate.specs.Unanswered.{unanswered_of, NamesStops}
-use Rattle.bng_gate.specs.Headline.{AreStopped, HaveTerms, calls_in_run, Headline, AddsUpTo, IsSafe, IsQuiet, StopsAccount, WasSafe, all_profile_traffic, all_terms_of, all_traffic, terms_of_run, total_in}
 use Rattle.bng_gate.specs.Rounds.{rounds_in, rounds_of, plant_of, on_data, drops_of_run}
-use Rattle.bng_gate.specs.Unchanged.{NothingIsInvented, lived_in}
 use Rattle.bng_gate.specs.Run.{World, outside, turns_most, Prepares, Concludes, Course, Runs, report_of, IsReady, IsUntouched, WantsToServe, Why, IsUnwritten, ServeEnds}
-use Rattle.bng_gate.proofs.AddressedLive.{live_addressed}
+use Rattle.bng_gate.specs.Unanswered.{unanswered_of, NamesStops}
+use Rattle.bng_gate.specs.Unchanged.{NothingIsInvented, lived_in}
+use Rattle.bng_gate.proofs.AddressedLive.{live_addressed, new_live}
 use Rattle.bng_gate.proofs.Addressing.{all_addressed}
 use Rattle.bng_gate.proofs.Agreed.{agreed}
 use Rattle.bng_gate.proofs.Drops.{all_dropped}
 use Rattle.bng_gate.proofs.Exercising.{keeps_rules}
 use Rattle.bng_gate.proofs.Follows.{Follows, run_follows}
 use Rattle.bng_gate.proofs.Going.{Shows, balanced_left, books_left, rows_left, shows, stands_itself, wire_left}
-use Rattle.bng_gate.proofs.Invented.{AllWork, nothing_invented, opened_works, stages_invent_nothing}
+use Rattle.bng_gate.proofs.Invented.{AllWork, nothing_invented, opened_works, stages_invent_nothing, stages_went}
 use Rattle.bng_gate.proofs.Keys.{IsOurs}
 use Rattle.bng_gate.proofs.Leaving.{HasNoRows, HasNoTerms, IsEmpty, all_stopped, ended_empty, rows_gone, rows_say_none, shards_say_none, terms_gone}
 use Rattle.bng_gate.proofs.Lines.{lines_gone, one_worker, report_told, rules_gone, stopped_gone, stops_gone, tallies_gone}
-use Rattle.bng_gate.proofs.Lived.{IsLiveDesk, opened_live}
+use Rattle.bng_gate.proofs.Lived.{IsLiveDesk, live_of, opened_live as opened_desk_live}
 use Rattle.bng_gate.proofs.LoginsGranted.{logins_granted}
 use Rattle.bng_gate.proofs.Openings.{opens}
 use Rattle.bng_gate.proofs.Owning.{sends_ours}
 use Rattle.bng_gate.proofs.Passing.{IsKnown}
+use Rattle.bng_gate.proofs.Promised.{AreSpans, Leads, all_of_stages, all_pass, all_passed_on, none_live, opened_live, run_spans, run_stops, spans_of}
 use Rattle.bng_gate.proofs.Recording.{Said, all_said, recorded_of}
 use Rattle.bng_gate.proofs.Refusals.{none_left as none_unanswered}
 use Rattle.bng_gate.proofs.Reporting.{GoesLive, reports_go_on}
@@ -152,7 +156,7 @@ module _ (config : Config) (rules : KeepsRules config) (most : ℕ) (seed : List
   works = subst (λ (vs : List (ShardView ShardState Handled)). AllWork r (map new_history vs)) (sym shards_are) (opened_works config rules r now)
 
   live : IsLiveDesk course.opening
-  live = opened_live course.opening.shards start_opens.new
+  live = opened_desk_live course.opening.shards start_opens.new
 
   known : AllByRecursion (IsKnown (all_terms_of config rounds)) (sends_of rounds)
   known = all_weaker (IsOurs (Contains (all_terms_of config rounds))) (IsKnown (all_terms_of config rounds)) (λ o is. is.known) (sends_of rounds) ours
@@ -173,6 +177,13 @@ module _ (config : Config) (rules : KeepsRules config) (most : ℕ) (seed : List
       nothing_invented config r course.begins.is_opened.are_rules.access course.begins.is_opened.are_rules.core_peer course.opening course.over course.last course.turns course.endings course.run course.ending
       none_kept live works goes.history right (all_terms_of config rounds) known (plant_of course.turns course.endings).taken (plant_of course.turns course.endings).sent
       (stages_taken course.opening course.over course.turns course.endings course.run) (sent_are course.turns course.endings)
+
+  -- what a stage sent comes of what it took
+  abbrev IsOfStage : Stage → Held → Type 0
+  IsOfStage s h = NothingIsInvented config (lived_in h) s.taken s.sent
+
+  leads : Leads course.opening
+  leads = record { view = start; stands = stands_itself course.opening; history = nothing_yet start; accounted = opening_accounted pppoe start start_opens; live = new_live start.shards start_opens.new }
 
   lines : course.last.lines ≡ map (line_after (stops_of rounds)) (map line_of config.statics)
   lines = lines_gone course.opening course.last (rounds_in course.turns course.endings) follows ∙ ap (λ (d : Desk). map (line_after (stops_of rounds)) d.lines) course.begins.is_opened.desk
@@ -269,6 +280,43 @@ module _ (config : Config) (rules : KeepsRules config) (most : ℕ) (seed : List
     exact : StopsAccount (stops_of rounds) sent
     exact = stops_account sent rounds sends end rows_none on_wire
 
+    abbrev spans : List Span
+    spans = spans_of (stages_of course.turns course.endings) (held_of course.turns course.endings)
+
+    -- nothing of a run lies beside its turns, so that it is what they are
+    are_spans : AreSpans course.opening spans course.last
+    are_spans = run_spans course.opening course.over course.last course.turns course.endings course.run course.ending leads
+
+    first_live : live_of course.opening.shards ≡ circuit_keys config
+    first_live = ap (λ (d : Desk). live_of d.shards) course.begins.is_opened.desk ∙ opened_live config r now (range_with_len 0 config.shards)
+
+    last_live : live_of course.last.shards ≡ []
+    last_live = none_live course.last.shards goes.history.shards shown none_left
+
+    passes : Chain Passes (circuit_keys config) spans []
+    passes = subst (λ (ks : List Key). Chain Passes ks spans []) first_live (subst (λ (ks : List Key). Chain Passes (live_of course.opening.shards) spans ks) last_live are_spans.passes)
+
+    all_stops_are : stops_of rounds ≡ flat_map (λ s. s.stops) spans
+    all_stops_are = run_stops course.turns course.endings
+
+    kept : Promise config (circuit_keys config) (plant_of course.turns course.endings).taken sent (stops_of rounds)
+    kept = record {
+      spans = spans;
+      passes = passes;
+      all_taken =
+          stages_taken course.opening course.over course.turns course.endings course.run
+          ∙ all_of_stages IsOfStage (λ s. s.taken) (λ s. s.taken) (λ s h. refl) (stages_of course.turns course.endings) (held_of course.turns course.endings) invented_in_stages;
+      all_sent =
+          sends ∙ ap on_data (stages_went course.turns course.endings
+          ∙ all_of_stages IsOfStage (λ s. s.sent) (λ s. s.sent) (λ s h. refl) (stages_of course.turns course.endings) (held_of course.turns course.endings) invented_in_stages);
+      all_stops = all_stops_are;
+      exclusive = All-from_recursion IsExclusive spans are_spans.exclusive;
+      addressed = All-from_recursion IsAddressedIn spans are_spans.addressed;
+      exact = exact;
+      one_stop_each = λ f. ap (λ (ss : List Stop). sum_by f (stopped_keys ss)) all_stops_are ∙ ap (sum_by f) (sym (append-nil (stopped_keys (flat_map (λ (s : Span). s.stops) spans)))) ∙ all_pass (circuit_keys config) [] spans passes f;
+      passed_on = All-from_recursion (IsPassedOnIn config) spans (all_passed_on config (stages_of course.turns course.endings) (held_of course.turns course.endings) invented_in_stages);
+    }
+
     total : total_of course.last.tallies ≡ total_in sent
     total = total_same sent rounds exact start end goes.history goes.run balance rows_none
 
@@ -356,6 +404,7 @@ module _ (config : Config) (rules : KeepsRules config) (most status : ℕ) (seed
     seed = seed;
     run = run;
     safe = safe_of config rules most seed old new turned;
+    promise = kept config rules most seed old new turned run.ended;
     stopped = stopped_all config rules most seed old new turned run.ended;
     exact = exact config rules most seed old new turned run.ended;
     printed = subst (λ (text : List ℕ). Grows old.out.bytes new.out.bytes text) (report config rules most seed old new turned run.ended) run.reports.printed;

@@ -75,7 +75,7 @@ module _ (config : Config) (kept : KeepsRules config) (r : Rules) (now : ℕ) wh
   pub opened_works : AllWork r (map nothing_yet (views_of (opened_shards config r now)))
   opened_works = opened_with 0 config.shards (omega arith)
 
-all_sent : (vs : List (ShardView ShardState Handled)) → sends_in (map turn_in vs) ≡ flat_map (λ v. v.sends) vs
+pub all_sent : (vs : List (ShardView ShardState Handled)) → sends_in (map turn_in vs) ≡ flat_map (λ v. v.sends) vs
 all_sent [] = refl
 all_sent (v ∷ vs) = ap (λ (os : List OutRecord). v.sends ++ os) (all_sent vs)
 
@@ -195,7 +195,7 @@ endings_went (m ∷ endings) =
     let later = flat_map (λ (s : Stage). s.sent) (map (λ (x : MadeEnd). end_stage_in x.desk x.turn) endings) in
     went_then (end_round_in m.turn) (map (λ (x : MadeEnd). end_round_in x.turn) endings) later (endings_went endings) ∙ ap (λ (ds : List Datagram). ds ++ later) (end_went m.desk m.turn)
 
-stages_went : (turns : List Made) (endings : List MadeEnd) → went (sends_of (rounds_of turns endings)) ≡ flat_map (λ s. s.sent) (stages_of turns endings)
+pub stages_went : (turns : List Made) (endings : List MadeEnd) → went (sends_of (rounds_of turns endings)) ≡ flat_map (λ s. s.sent) (stages_of turns endings)
 stages_went [] endings = endings_went endings
 stages_went (m ∷ turns) endings =
     let later = flat_map (λ (s : Stage). s.sent) (stages_of turns endings) in

@@ -68,6 +68,7 @@ pub mod Lived
 pub mod PassingOn
 pub mod Silent
 pub mod Invented
+pub mod Promised
 pub mod Joining
 pub mod Summing
 pub mod Exercising

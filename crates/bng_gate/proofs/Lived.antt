@@ -77,7 +77,7 @@ moved_owned v w m =
     (λ o is. owned_same end all o m.begun.each is) w.sends
     (all_mapped (IsOwned end) unsent w.sends before)
 
-abbrev live_of : List (ShardView ShardState Entry) → List Key
+abbrev pub live_of : List (ShardView ShardState Entry) → List Key
 live_of vs = flat_map (λ (v : ShardView ShardState Entry). keys (filter is_live (terms_of v.state))) vs
 
 abbrev begun_of : List (ShardView ShardState Handled) → List Key

@@ -28,7 +28,8 @@ use Rattle.bng_desk.specs.declared.line.Line.{Line}
 use Rattle.bng_desk.specs.Model.{all_stopped, carried_on, line_after, live_of, no_traffic, plus_book, plus_traffic, total_of, traffic_at, traffic_or}
 use Rattle.bng_desk.specs.Opening.{line_of}
 use Rattle.bng_desk.proofs.InAll.{book_is, live_in_all, plus_in, stopped_in_all}
-use Rattle.bng_gate.specs.Headline.{StopsAccount, total_in, traffic_of}
+use Rattle.bng_gate.specs.Exact.{StopsAccount}
+use Rattle.bng_gate.specs.Headline.{total_in, traffic_of}
 use Rattle.bng_gate.specs.Rounds.{carries_data, on_data}
 use Rattle.bng_gate.proofs.Lines.{traffic_is}
 

@@ -22,7 +22,8 @@ use Rattle.bng_steps.specs.Protocol.{ShardState, Handled, opened, pppoe}
 use Rattle.bng_desk.specs.Model.{Desk, by_profile, traffic_under}
 use Rattle.bng_desk.specs.Opening.{opened_shards, statics_of}
 use Rattle.bng_desk.specs.Round.{views_of}
-use Rattle.bng_gate.specs.Headline.{AddsUpTo, StopsAccount, all_profile_traffic, profile_traffic, total_in}
+use Rattle.bng_gate.specs.Exact.{StopsAccount}
+use Rattle.bng_gate.specs.Headline.{AddsUpTo, all_profile_traffic, profile_traffic, total_in}
 use Rattle.bng_gate.proofs.Lines.{traffic_is}
 use Rattle.bng_gate.proofs.Traffic.{stops_say}
 

@@ -22,7 +22,8 @@ use Rattle.bng_desk.specs.Model.{Desk, live_terms, state_of, sums_of}
 use Rattle.bng_engine.specs.Laws.{stops_of}
 use Rattle.bng_gate.specs.declared.texts.Refusal.{Refusal}
 use Rattle.bng_gate.specs.declared.texts.Refusal.TheVariants.{Usage, Refused, CannotOpen, OutOfMemory, TraceFailed, OutputFailed}
-use Rattle.bng_gate.specs.Headline.{AreStopped, IsSafe, StopsAccount, all_terms_of, calls_in_run, terms_of_run, total_in}
+use Rattle.bng_gate.specs.Exact.{StopsAccount}
+use Rattle.bng_gate.specs.Headline.{AreStopped, IsSafe, all_terms_of, calls_in_run, terms_of_run, total_in}
 use Rattle.bng_gate.specs.Rounds.{drops_of_run, plant_of, rounds_of}
 use Rattle.bng_gate.specs.Run.{World, outside, turns_most, Course, IsWhole, CompletesTo, FailsToNote, WantsToServe, Concludes, Told}
 use Rattle.bng_gate.specs.Saying.{FailsToSay}

@@ -1,26 +1,13 @@
 -- What a run says in the subject's own words.
-use Rattle.std.specs.Prelude.{◌≡◌, ℕ, ◌+◌, ◌++◌, true, false, List, [], ◌∷◌, Option, None, Some, filter, length, map, take, drop, slice_get, slice_index, count_by, sum_by, zip}
+use Rattle.std.specs.Prelude.{◌≡◌, ℕ, ◌+◌, ◌++◌, true, false, List, [], ◌∷◌, Option, None, Some, filter, length, map, slice_get, count_by, sum_by, zip}
 use Rattle.std.specs.List.{All, AllZip, Contains, flat_map, range_with_len}
-use Rattle.byteorder.specs.Endian.{big_from}
-use Rattle.bng_base.specs.declared.address.Ip4.{Ip4}
-use Rattle.bng_base.specs.declared.address.Mac.{Mac}
-use Rattle.bng_base.specs.declared.address.Peer.{Peer}
-use Rattle.bng_base.specs.declared.address.SessionNo.{SessionNo}
-use Rattle.bng_base.specs.declared.address.TunnelNo.{TunnelNo}
 use Rattle.bng_base.specs.declared.book.Book.{Book}
-use Rattle.bng_base.specs.declared.circuit.Circuit.{Circuit}
-use Rattle.bng_base.specs.declared.circuit.Circuit.TheVariants.{Pppoe, L2tp}
-use Rattle.bng_base.specs.declared.ipv4.Ipv4.{Ipv4}
 use Rattle.bng_base.specs.declared.outside.Datagram.{Datagram}
 use Rattle.bng_base.specs.declared.outside.Heard.{Heard}
-use Rattle.bng_base.specs.declared.outside.Role.{Role}
-use Rattle.bng_base.specs.declared.outside.Role.TheVariants.{Access}
 use Rattle.bng_base.specs.declared.settings.Static.{Static}
 use Rattle.bng_base.specs.Causes.{HasCauses}
 use Rattle.bng_base.specs.Chain.{Chain}
-use Rattle.bng_base.specs.Ipv4Grammar.{IsIpv4}
 use Rattle.bng_base.specs.Listed.{Same}
-use Rattle.bng_base.specs.Roles.{is_core, is_access}
 use Rattle.bng_base.specs.Told.{Grows, GrowsIfTold}
 use Rattle.bng_billing.specs.Calls.{BillingCall, StopsAreAcknowledged}
 use Rattle.bng_config.specs.declared.config.Config.{Config}
@@ -30,24 +17,24 @@ use Rattle.bng_engine.specs.Exact.{ConservedAt}
 use Rattle.bng_engine.specs.Histories.{History, NextRound, ShardHistory, ShardTurn, sends_in}
 use Rattle.bng_engine.specs.Lists.{AnyOf}
 use Rattle.bng_engine.specs.Laws.{RightRound, sends_of, stops_of}
-use Rattle.bng_engine.specs.Quantities.{Quantity, Octets, Packets, empty_book}
-use Rattle.bng_engine.specs.Sums.{stopped_where, has_lease, has_circuit, is_at, is_any}
-use Rattle.bng_engine.specs.Terms.{Key, Stop, is_live, keys, stopped_keys}
-use Rattle.bng_engine.specs.Wire.{is_input, is_from, is_output, is_to, is_on, is_on_to, told_of, went}
-use Rattle.bng_l2tp_tunnel.specs.Sound.{IsSpelled}
-use Rattle.bng_l2tp_wire.specs.Messages.{type_bit}
+use Rattle.bng_engine.specs.Quantities.{Octets, Packets, empty_book}
+use Rattle.bng_engine.specs.Terms.{Key, is_live, keys, stopped_keys}
+use Rattle.bng_engine.specs.Wire.{is_input, is_from, is_output, is_to, told_of, went}
 use Rattle.bng_steps.specs.declared.sums.Traffic.{Traffic}
 use Rattle.bng_steps.specs.Protocol.{Handled, ShardState, terms_of, terms_of_circuits, pppoe}
 use Rattle.bng_steps.specs.Lasting.{IsCause, IsCircuitCause}
-use Rattle.bng_steps.specs.Reader.{IsDataSpelled, is_call_data, is_session_data, is_tunnel, pppoe_reader, tells_pppoe}
+use Rattle.bng_steps.specs.Reader.{pppoe_reader}
 use Rattle.bng_desk.specs.Counting.{by_number}
 use Rattle.bng_desk.specs.Model.{traffic_by}
 use Rattle.bng_desk.specs.Opening.{coa_of, line_of, statics_of}
 use Rattle.bng_desk.specs.Reading.{taken_in}
 use Rattle.bng_desk.specs.Report.{report_text}
 use Rattle.bng_desk.specs.Round.{not_sent, view_of}
+use Rattle.bng_gate.specs.Addressed.{IsAddressed}
 use Rattle.bng_gate.specs.Changed.{AreAnswered, Changed, coa_calls_of}
+use Rattle.bng_gate.specs.Exact.{StopsAccount}
 use Rattle.bng_gate.specs.Granted.{Granted, held_of, stages_of}
+use Rattle.bng_gate.specs.Promise.{Promise}
 use Rattle.bng_gate.specs.Recorded.{Recorded, calls_of}
 use Rattle.bng_gate.specs.Replied.{AreReplied}
 use Rattle.bng_gate.specs.Reported.{ReportsLive}
@@ -55,58 +42,6 @@ use Rattle.bng_gate.specs.Rounds.{rounds_of, history_of, plant_of, on_auth, on_d
 use Rattle.bng_gate.specs.Run.{World, outside, Prepares, Course, Runs}
 use Rattle.bng_gate.specs.Unanswered.{NamesStops}
 use Rattle.bng_gate.specs.Unchanged.{NothingIsInvented, lived_in}
-
--- the octets are an IPv4 packet of which this holds, and nothing else
-pub record IsWhole (Holds : Ipv4 → Type 0) (octets : List ℕ) : Type 0 where
-  pub header : Ipv4
-  pub reads : IsIpv4 header octets
-  pub total : header.total ≡ length octets
-  pub holds : Holds header
-
--- they are a packet whose source is the address of one of these terms
-pub record IsFromTerm (terms : List Key) (octets : List ℕ) : Type 0 where
-  pub term : Key
-  pub among : Contains terms term
-  pub packet : IsWhole (λ v. v.src ≡ term.lease) octets
-
--- they went out on the port of the circuit of one of these terms, to its MAC (octets 0 to 5) and in its session (octets 16 and 17), and
--- after 22 octets they are a packet whose destination is the term's address
-pub record IsToTerm (terms : List Key) (role : Role) (octets : List ℕ) : Type 0 where
-  pub term : Key
-  pub among : Contains terms term
-  pub port : ℕ
-  pub mac : Mac
-  pub session : SessionNo
-  pub circuit : term.circuit ≡ Pppoe port mac session
-  pub role_is : role ≡ Access port
-  pub mac_is : take 6 octets ≡ mac.0
-  pub session_is : big_from 16 2 octets ≡ session.0
-  pub packet : IsWhole (λ v. v.dst ≡ term.lease) (drop 22 octets)
-
--- They went to the peer of the tunnel of the circuit of one of these terms, which is a call, and after 10 octets they are a packet whose
--- destination is the term's address. Octets 2 to 5 are the numbers that the peer gave the tunnel and the call: those of the circuit are the
--- gateway's own.
-pub record IsToCall (terms : List Key) (to : Peer) (octets : List ℕ) : Type 0 where
-  pub term : Key
-  pub among : Contains terms term
-  pub peer : Peer
-  pub tunnel : TunnelNo
-  pub session : SessionNo
-  pub circuit : term.circuit ≡ L2tp peer tunnel session
-  pub to_is : to ≡ peer
-  pub packet : IsWhole (λ v. v.dst ≡ term.lease) (drop 10 octets)
-
--- What went to the core is a packet from the address of one of these terms. What went out on an access port as session data of IPv4
--- (ETHER_TYPE 8864, PPP protocol 0021) is a packet on the circuit of one of them, to its address. What went to the peer of a tunnel as data
--- of IPv4 (RFC 2661 section 3.1: the T bit is 0; PPP protocol 0021) is a packet to that peer for the call of one of them, to its address. All
--- that went there as data is a data message in its one spelling, so that its PPP protocol stands in octets 8 and 9 and no packet hides behind
--- other fields; and what went there with the T bit set is a control message in its one spelling.
-pub record IsAddressed (terms : List Key) (d : Datagram) : Type 0 where
-  pub to_core : is_core d.role ≡ true → IsFromTerm terms d.octets
-  pub to_circuit : is_access d.role ≡ true → is_session_data d.octets ≡ true → IsToTerm terms d.role d.octets
-  pub to_call : is_tunnel d.role ≡ true → is_call_data d.octets ≡ true → IsToCall terms d.peer d.octets
-  pub spelled : is_tunnel d.role ≡ true → type_bit (slice_index d.octets 0) ≡ 0 → IsDataSpelled d.octets
-  pub to_tunnel : is_tunnel d.role ≡ true → type_bit (slice_index d.octets 0) ≡ 1 → IsSpelled d.octets
 
 -- Over the octets alone of what was sent, as anyone reads them. Input: the lengths of the datagrams to the core whose source (octets 12
 -- to 15) is the circuit's address. Output: the lengths of the packets to its address that went out on access ports, which are the session
@@ -151,6 +86,10 @@ pub record AddsUpTo (total : Book) (parts : List Traffic) : Type 0 where
 abbrev pub keys_of_circuits : Config → List (List Key)
 keys_of_circuits config = map (λ n. keys (terms_of_circuits n (statics_of config n))) (range_with_len 0 config.shards)
 
+-- of all shards together
+abbrev pub circuit_keys : Config → List Key
+circuit_keys config = flat_map (λ ks. ks) (keys_of_circuits config)
+
 -- the term with this key is that of a circuit
 abbrev pub IsOfCircuit : Config → Key → Type 0
 IsOfCircuit config k = AnyOf (λ ks. Contains ks k) (keys_of_circuits config)
@@ -189,18 +128,6 @@ HaveTerms h ks = Same (stopped_keys h.stops ++ keys (terms_of h.state)) ks
 -- of each of these terms there is one Stop, and there is no other
 abbrev pub AreStopped : ShardHistory ShardState → List Key → Type 0
 AreStopped h ks = Same (stopped_keys h.stops) ks
-
--- Over the octets alone of what was sent. For each address: the Input octets of the Stops with it sum to the lengths of the packets to the
--- core with that source, and the Output octets to those of the packets on access ports and to peers of tunnels with that destination. For
--- each PPPoE circuit: the Output octets of the Stops with it sum to the lengths of the packets on it, and so for each circuit and address; of
--- the circuit of a call octets tell nothing. So it is of the numbers of packets.
-pub record StopsAccount (stops : List Stop) (sent : List Datagram) : Type 0 where
-  pub from : (q : Quantity) (address : Ip4) → stopped_where q (has_lease address) true stops ≡ told_of pppoe_reader q (is_from address) sent
-  pub to : (q : Quantity) (address : Ip4) → stopped_where q (has_lease address) false stops ≡ told_of pppoe_reader q (is_to address) sent
-  pub on : (q : Quantity) (circuit : Circuit) → tells_pppoe circuit ≡ true → stopped_where q (has_circuit circuit) false stops ≡ told_of pppoe_reader q (is_on circuit) sent
-  pub on_to : (q : Quantity) (circuit : Circuit) (address : Ip4) → tells_pppoe circuit ≡ true → stopped_where q (is_at circuit address) false stops ≡ told_of pppoe_reader q (is_on_to circuit address) sent
-  pub all_input : (q : Quantity) → stopped_where q is_any true stops ≡ told_of pppoe_reader q is_input sent
-  pub all_output : (q : Quantity) → stopped_where q is_any false stops ≡ told_of pppoe_reader q is_output sent
 
 -- What holds of the turns that a run made, whatever frames and datagrams, repeats and moments it met.
 pub record IsSafe (config : Config) (most : ℕ) (seed : List ℕ) (old new : World) (course : Course config most seed (outside old) (outside new)) : Type 0 where
@@ -293,6 +220,8 @@ pub record Headline (config : Config) (most status : ℕ) (old new : World) : Ty
   pub seed : List ℕ
   pub run : Runs config most seed (outside old) (outside new) old.out new.out
   pub safe : IsSafe config most seed old new run.completes.course
+  -- The promise was kept.
+  pub promise : Promise config (circuit_keys config) safe.taken safe.sent (stops_of (rounds_of run.completes.course.turns run.completes.course.endings))
   -- Each term, of a circuit or of a subscriber that logged in, has one Stop. What the Stops say, in octets and in packets, is exactly what
   -- was sent: whoever reads the sent octets alone finds for each address and for each circuit that the Stops with it sum to its packets.
   pub stopped : AllZip AreStopped safe.history.shards (terms_of_run config (rounds_of run.completes.course.turns run.completes.course.endings))

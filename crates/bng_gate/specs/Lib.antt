@@ -10,6 +10,9 @@ pub mod Rounds
 pub mod Recorded
 pub mod Unchanged
 pub mod Changed
+pub mod Addressed
+pub mod Exact
+pub mod Promise
 pub mod Headline
 pub mod Check
 pub mod Exercise
