@@ -10,6 +10,7 @@ import time
 
 from checks import usage
 from checks.changes import changes_sessions
+from checks.closure import reads_the_promise
 from checks.diagnosis import asks_the_doctor
 from checks.example import reads_the_example
 from checks.habits import keeps_an_operators_habits
@@ -229,6 +230,7 @@ def says_when_nobody_takes_its_report(checks):
 
 
 def try_all(checks):
+    reads_the_promise(checks)
     if is_built():
         print(f"smoke: runs {PROGRAM}")
         built = lambda configuration: [PROGRAM, "serve", configuration]

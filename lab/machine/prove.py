@@ -242,7 +242,7 @@ def prove(names):
     below = {it: all_below(named, it) for it in wanted}
     lines = {it: lines_of(it) for it in wanted}
     progress, most = Progress(len(wanted) + (not names)), lanes()
-    whole = "" if names else "; from nothing that takes half an hour or more on four processors"
+    whole = "" if names else "; from nothing that takes half an hour on four processors"
     print(f"bng: proving {progress.count} crates, at most {most} at once{whole}", file=sys.stderr)
     prove_libraries(wanted, below, chains(below, lines), most, progress)
     if not names:

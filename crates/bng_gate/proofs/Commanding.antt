@@ -1,7 +1,6 @@
 -- What follows of how a command ends.
-use Rattle.std.proofs.Common.{◌≡◌, ◌≤◌, ◌⊎◌, inl, inr, ℕ, List, [], ◌∷◌, Option, None, Some, IsSome, refl, sym, ap, subst, arith}
-use Rattle.bng_base.specs.Causes.{Rose}
-use Rattle.bng_base.specs.Told.{EntropyTold, FilesTold, PlantTold, SinkTold, TraceTold, Grows}
+use Rattle.std.proofs.Common.{◌≡◌, ◌≤◌, ◌⊎◌, inl, inr, ℕ, List, [], ◌∷◌, None, Some, IsSome, refl, ap, subst, arith}
+use Rattle.bng_base.specs.Told.{EntropyTold, FilesTold, TraceTold, Grows}
 use Rattle.bng_config.specs.declared.config.Config.{Config}
 use Rattle.bng_config.specs.declared.fault.Fault.{Fault}
 use Rattle.bng_config.specs.Configuration.{HasFault}
@@ -15,8 +14,8 @@ use Rattle.bng_gate.specs.declared.texts.Opening.TheVariants.{Configuration, See
 use Rattle.bng_gate.specs.declared.texts.Refusal.{Refusal}
 use Rattle.bng_gate.specs.declared.texts.Refusal.TheVariants.{Usage, Refused, CannotOpen, OutOfMemory, TraceFailed, OutputFailed}
 use Rattle.bng_gate.specs.Check.{Checks, IsUnchecked}
-use Rattle.bng_gate.specs.Commands.{CheckEnds, ExerciseEnds, LeavesAll, UsageEnds, AsideEnds, CommandEnds, IsCarriedOut, IsInRange, Outcome, WantsWords, refusal_for}
-use Rattle.bng_gate.specs.Exercise.{Exercised, SafelyExercised, Exercises, among_peers, exercise_seed, IsPlayed, IsUnplayed, IsUnprinted, TellsLine}
+use Rattle.bng_gate.specs.Commands.{LeavesAll, UsageEnds, CommandEnds, IsCarriedOut, IsInRange, Outcome, WantsWords, refusal_for}
+use Rattle.bng_gate.specs.Exercise.{Exercised, SafelyExercised, Exercises, among_peers, exercise_seed, IsUnplayed, IsUnprinted, TellsLine}
 use Rattle.bng_gate.specs.Headline.{Headline, IsQuiet, WasSafe}
 use Rattle.bng_gate.specs.Run.{World, Concludes, IsFaultless, IsUnfailed, IsUnprepared, Prepares, Told, turns_most}
 use Rattle.bng_gate.specs.Texts.{status_of}

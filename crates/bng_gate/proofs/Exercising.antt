@@ -18,11 +18,11 @@ use Rattle.bng_base.specs.declared.settings.NamedRange.{NamedRange}
 use Rattle.bng_base.specs.declared.settings.Static.{Static}
 use Rattle.bng_config.specs.declared.config.Config.{Config}
 use Rattle.bng_config.specs.Pools.{ArePools, ranges_of}
-use Rattle.bng_config.specs.Rules.{HasRates, IsCoaRules, IsLac, IsMetered, IsPlaced, KeepsRules, ends_of}
-use Rattle.bng_config.proofs.Pairs.{all_one, all_two, pairs_one, pairs_cons, pairs_map}
+use Rattle.bng_config.specs.Rules.{IsCoaRules, IsMetered, IsPlaced, KeepsRules, ends_of}
+use Rattle.bng_config.proofs.Pairs.{all_one, pairs_one, pairs_cons, pairs_map}
 use Rattle.bng_schema.specs.Names.{IsGatewayName, IsLabelName, IsLabelOctet, IsPrintable, IsSessionOf, IsShortText}
 use Rattle.bng_schema.specs.Ranges.{HasAddress, address_count}
-use Rattle.bng_gate.specs.Exercise.{IsExercise, SharesT, ip, loopback, the_range}
+use Rattle.bng_gate.specs.Exercise.{IsExercise, ip, loopback, the_range}
 
 -- Lists ---------------------------------------------------------------------------------------------------------------------
 

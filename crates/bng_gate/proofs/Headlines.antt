@@ -12,7 +12,6 @@ use Rattle.bng_base.specs.Told.{PlantTold, TraceTold, Grows, GrowsIfTold}
 use Rattle.bng_billing.specs.Calls.{StopsAreAcknowledged}
 use Rattle.bng_billing.proofs.Stops.{stops_acknowledged}
 use Rattle.bng_config.specs.declared.config.Config.{Config}
-use Rattle.bng_config.specs.Configuration.{IsRead}
 use Rattle.bng_config.specs.Rules.{KeepsRules}
 use Rattle.bng_config.proofs.Kept.{read_keeps}
 use Rattle.bng_engine.specs.Accounted.{Accounted, Balanced, nothing_yet as new_history, opening as nothing_yet}
@@ -65,12 +64,12 @@ use Rattle.bng_gate.proofs.Invented.{AllWork, nothing_invented, opened_works, st
 use Rattle.bng_gate.proofs.Keys.{IsOurs}
 use Rattle.bng_gate.proofs.Leaving.{HasNoRows, HasNoTerms, IsEmpty, all_stopped, ended_empty, rows_gone, rows_say_none, shards_say_none, terms_gone}
 use Rattle.bng_gate.proofs.Lines.{lines_gone, one_worker, report_told, rules_gone, stopped_gone, stops_gone, tallies_gone}
-use Rattle.bng_gate.proofs.Lived.{IsLiveDesk, live_of, opened_live as opened_desk_live}
+use Rattle.bng_gate.proofs.Lived.{IsLiveDesk, live_of as live_keys, opened_live as opened_desk_live}
 use Rattle.bng_gate.proofs.LoginsGranted.{logins_granted}
 use Rattle.bng_gate.proofs.Openings.{opens}
 use Rattle.bng_gate.proofs.Owning.{sends_ours}
 use Rattle.bng_gate.proofs.Passing.{IsKnown}
-use Rattle.bng_gate.proofs.Promised.{AreSpans, Leads, all_of_stages, all_pass, all_passed_on, none_live, opened_live, run_spans, run_stops, spans_of}
+use Rattle.bng_gate.proofs.Promised.{AreSpans, Leads, all_of_stages, all_pass, all_passed_on, none_live as none_left_live, opened_live, run_spans, run_stops, spans_of}
 use Rattle.bng_gate.proofs.Recording.{Said, all_said, recorded_of}
 use Rattle.bng_gate.proofs.Refusals.{none_left as none_unanswered}
 use Rattle.bng_gate.proofs.Reporting.{GoesLive, reports_go_on}
@@ -287,14 +286,14 @@ module _ (config : Config) (rules : KeepsRules config) (most : ℕ) (seed : List
     are_spans : AreSpans course.opening spans course.last
     are_spans = run_spans course.opening course.over course.last course.turns course.endings course.run course.ending leads
 
-    first_live : live_of course.opening.shards ≡ circuit_keys config
-    first_live = ap (λ (d : Desk). live_of d.shards) course.begins.is_opened.desk ∙ opened_live config r now (range_with_len 0 config.shards)
+    first_live : live_keys course.opening.shards ≡ circuit_keys config
+    first_live = ap (λ (d : Desk). live_keys d.shards) course.begins.is_opened.desk ∙ opened_live config r now (range_with_len 0 config.shards)
 
-    last_live : live_of course.last.shards ≡ []
-    last_live = none_live course.last.shards goes.history.shards shown none_left
+    last_live : live_keys course.last.shards ≡ []
+    last_live = none_left_live course.last.shards goes.history.shards shown none_left
 
     passes : Chain Passes (circuit_keys config) spans []
-    passes = subst (λ (ks : List Key). Chain Passes ks spans []) first_live (subst (λ (ks : List Key). Chain Passes (live_of course.opening.shards) spans ks) last_live are_spans.passes)
+    passes = subst (λ (ks : List Key). Chain Passes ks spans []) first_live (subst (λ (ks : List Key). Chain Passes (live_keys course.opening.shards) spans ks) last_live are_spans.passes)
 
     all_stops_are : stops_of rounds ≡ flat_map (λ s. s.stops) spans
     all_stops_are = run_stops course.turns course.endings

@@ -1,20 +1,17 @@
 -- An exercise, from its turns.
-use Rattle.std.proofs.Common.{◌≡◌, ◌≤◌, ◌⊎◌, inl, inr, ℕ, List, [], None, refl, sym, ap, subst, ◌∙◌, arith}
+use Rattle.std.proofs.Common.{◌≡◌, ◌≤◌, ◌⊎◌, inl, inr, ℕ, None, subst, arith}
 use Rattle.bng_base.specs.Causes.{Rose}
 use Rattle.bng_base.specs.Stretch.{Outside}
 use Rattle.bng_base.specs.Told.{ClockTold, TraceTold, SinkTold, Grows}
 use Rattle.bng_config.specs.declared.config.Config.{Config}
-use Rattle.bng_desk.specs.declared.desk.DeskState.TheVariants.{Ended}
-use Rattle.bng_desk.specs.Model.{Desk, state_of}
+use Rattle.bng_desk.specs.Model.{Desk}
 use Rattle.bng_gate.specs.declared.texts.Opening.{Opening}
 use Rattle.bng_gate.specs.declared.texts.Opening.TheVariants.{Configuration, Seed, Control, Core, Access, Auth, Acct, Tunnel, Coa}
 use Rattle.bng_gate.specs.declared.texts.Refusal.{Refusal}
 use Rattle.bng_gate.specs.declared.texts.Refusal.TheVariants.{Usage, Refused, CannotOpen, OutOfMemory, TraceFailed, OutputFailed}
 use Rattle.bng_gate.specs.Commands.{ExerciseEnds}
-use Rattle.bng_gate.specs.Exercise.{IsExercise, exercise_seed, among_peers, peers_beside, IsPlayed, IsUnplayed, Prints, TellsLine, Exercises, records_told, line_by, line_over, Exercised, SafelyExercised}
-use Rattle.bng_gate.specs.Run.{World, outside, turns_most, FailsAt, Course, Completes, CompletesTo, Concludes, IsUnserved, Told, WantsToServe}
-use Rattle.bng_gate.specs.Texts.{status_of}
-use Rattle.bng_gate.specs.Unanswered.{unanswered_of}
+use Rattle.bng_gate.specs.Exercise.{IsExercise, exercise_seed, among_peers, peers_beside, IsPlayed, IsUnplayed, TellsLine, Exercises, records_told, Exercised, SafelyExercised}
+use Rattle.bng_gate.specs.Run.{World, outside, turns_most, FailsAt, Course, CompletesTo, IsUnserved, WantsToServe}
 use Rattle.bng_gate.proofs.Exercising.{keeps_rules}
 use Rattle.bng_gate.proofs.Headlines.{exercised_of, safe_of}
 use Rattle.bng_gate.proofs.Refusals.{not_told}

@@ -8,11 +8,11 @@ use Rattle.bng_base.specs.declared.outside.Datagram.{Datagram}
 use Rattle.bng_base.specs.Chain.{Chain}
 use Rattle.bng_base.specs.Listed.{Same}
 use Rattle.bng_config.specs.declared.config.Config.{Config}
-use Rattle.bng_engine.specs.Accounted.{Accounted, Fine, GoesOn}
+use Rattle.bng_engine.specs.Accounted.{Accounted, GoesOn}
 use Rattle.bng_engine.specs.Claims.{claimed_at, is_held, times_in}
 use Rattle.bng_engine.specs.Exact.{holders}
-use Rattle.bng_engine.specs.Histories.{History, NextInShard, NextRound, ShardHistory, ShardTurn, rounds_of as rounds_in_turns, sends_in, stops_in}
-use Rattle.bng_engine.specs.Journals.{after, claims_of}
+use Rattle.bng_engine.specs.Histories.{History, NextInShard, NextRound, ShardHistory, ShardTurn, rounds_of as rounds_in_turns, stops_in}
+use Rattle.bng_engine.specs.Journals.{claims_of}
 use Rattle.bng_engine.specs.Laws.{stops_of as stops_of_rounds}
 use Rattle.bng_engine.specs.Lists.{Zip3, one_if}
 use Rattle.bng_engine.specs.Rounds.{journals_of}
@@ -32,7 +32,7 @@ use Rattle.bng_steps.proofs.InOrder.{opened_terms}
 use Rattle.bng_steps.proofs.StepLaws.{pppoe_laws}
 use Rattle.bng_desk.specs.Model.{Desk}
 use Rattle.bng_desk.specs.Opening.{statics_of}
-use Rattle.bng_desk.specs.Round.{Round, stops_of, view_of, views_of}
+use Rattle.bng_desk.specs.Round.{Round, stops_of, views_of}
 use Rattle.bng_desk.specs.Turn.{Step, Turn}
 use Rattle.bng_gate.specs.Addressed.{IsAddressed}
 use Rattle.bng_gate.specs.Granted.{Held, Stage, end_stage_in, held_of, items_of_end, items_of_turn, round_of_end, round_of_turn, sent_by, stage_in, stages_of}
@@ -243,6 +243,7 @@ module _ (d d' : Desk) (round : Round) (follows : Follows d (Some round) d') (le
   lived_are = ap (λ (ks : List Key). ks ++ begun_in (Some round)) (desk_live d leads) ∙ ap (λ (ks : List Key). there leads.history.shards ++ ks) (sym (begun_same round.shards))
 
   round_spans : Spans d span d'
+  unfolding leads_on turned
   round_spans = record {
     passes = record {
       began = refl;

@@ -1,5 +1,5 @@
 -- How many terms and Stops there are, where each term has its Stop.
-use Rattle.std.proofs.Common.{◌≡◌, ℕ, List, [], ◌∷◌, ◌++◌, length, length-append, map, refl, ap, ◌∙◌, arith}
+use Rattle.std.proofs.Common.{◌≡◌, ℕ, List, [], ◌∷◌, length, length-append, map, refl, ap, ◌∙◌, arith}
 use Rattle.std.specs.List.{AllByRecursion, AllZip, flat_map, sum_by}
 use Rattle.std.proofs.lemmas.List.{length-map}
 use Rattle.std.proofs.lemmas.List.Sums.{sum_by-cons}
