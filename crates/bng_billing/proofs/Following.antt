@@ -50,7 +50,7 @@ same_attributes old new r classes h =
     ∙ ap (λ (wall : ℕ). front old r classes
     ++ (unless_start s (low_octets book) ++ octets_of 44 (session_id wall facts.term) ∷ [] ++ unless_start s (usage facts r.moment) ++ in_stop s (cause r.moment) ++ unless_start s (gigawords book) ++ port facts r.moment)) h.wall
 
-says_alike : (old new : AcctRules) (was secret : List ℕ) (r : Record) (id : ℕ) (octets : List ℕ) → SameGateway old new → was ≡ secret → SaysRecord new was r id octets → SaysRecord old secret r id octets
+pub says_alike : (old new : AcctRules) (was secret : List ℕ) (r : Record) (id : ℕ) (octets : List ℕ) → SameGateway old new → was ≡ secret → SaysRecord new was r id octets → SaysRecord old secret r id octets
 says_alike old new was secret r id octets same e h = record {
   packet = h.packet;
   reads = h.reads;
@@ -66,7 +66,7 @@ says_alike old new was secret r id octets same e h = record {
 -- What a call does to what is open and out ----------------------------------------------------------------------------------
 
 -- the call gives this number to a record
-abbrev FormsNumber : BillingCall → ℕ → Type 0
+abbrev pub FormsNumber : BillingCall → ℕ → Type 0
 FormsNumber (Formed status facts moment m) n = m ≡ n
 FormsNumber (Given now m id octets) n = ⊥
 FormsNumber (Again now id octets) n = ⊥
@@ -75,7 +75,7 @@ FormsNumber (Heard from octets found) n = ⊥
 FormsNumber Stopped n = ⊥
 
 -- the call gives this identifier to a request
-abbrev GivesIdentifier : BillingCall → ℕ → Type 0
+abbrev pub GivesIdentifier : BillingCall → ℕ → Type 0
 GivesIdentifier (Formed status facts moment m) id = ⊥
 GivesIdentifier (Given now m i octets) id = i ≡ id
 GivesIdentifier (Again now i octets) id = ⊥
@@ -219,39 +219,39 @@ was_out calls k Stopped s t at b by id n r is owner = inr (record {
 -- What is known -------------------------------------------------------------------------------------------------------------
 
 module _ (rules : BillingRules) (calls : List BillingCall) where
-  forms : (k n : ℕ) (r : Record) (c : BillingCall) → slice_get calls k ≡ Some c → FormedAt calls k n r → FormsNumber c n
+  pub forms : (k n : ℕ) (r : Record) (c : BillingCall) → slice_get calls k ≡ Some c → FormedAt calls k n r → FormsNumber c n
   forms k n r c at f = subst (λ (x : BillingCall). FormsNumber x n) (some_is (Formed f.status f.facts f.moment n) c (sym f.at ∙ at)) refl
 
-  gives : (k m id : ℕ) (o : List ℕ) (c : BillingCall) → slice_get calls k ≡ Some c → GivenAt calls k m id o → GivesIdentifier c id
+  pub gives : (k m id : ℕ) (o : List ℕ) (c : BillingCall) → slice_get calls k ≡ Some c → GivenAt calls k m id o → GivesIdentifier c id
   gives k m id o c at g = subst (λ (x : BillingCall). GivesIdentifier x id) (some_is (Given g.now m id o) c (sym g.at ∙ at)) refl
 
   -- the record was formed before the call with this number, and no call between gave another one its number
-  record WasFormed (k n : ℕ) (r : Record) : Type 0 where
-    formed : ℕ
-    before : formed < k
-    is : FormedAt calls formed n r
-    only : (j : ℕ) (q : Record) → formed < j → j < k → FormedAt calls j n q → ⊥
+  pub record WasFormed (k n : ℕ) (r : Record) : Type 0 where
+    pub formed : ℕ
+    pub before : formed < k
+    pub is : FormedAt calls formed n r
+    pub only : (j : ℕ) (q : Record) → formed < j → j < k → FormedAt calls j n q → ⊥
 
   -- the octets were given out before the call with this number, as the request of a record that was formed before; where they were
   -- sent, a call between told it
-  record WasGiven (k n id : ℕ) (octets : List ℕ) (r : Record) (flag : Bool) : Type 0 where
-    formed : ℕ
-    is_formed : FormedAt calls formed n r
-    only : (j : ℕ) (q : Record) → formed < j → j < k → FormedAt calls j n q → ⊥
-    given : ℕ
-    before : given < k
-    is : GivenAt calls given n id octets
-    alone : (j m : ℕ) (o : List ℕ) → given < j → j < k → GivenAt calls j m id o → ⊥
-    formed_first : formed < given
-    sent : flag ≡ true → (j : ℕ) × (given < j) × (j < k) × (slice_get calls j ≡ Some (Told id true))
+  pub record WasGiven (k n id : ℕ) (octets : List ℕ) (r : Record) (flag : Bool) : Type 0 where
+    pub formed : ℕ
+    pub is_formed : FormedAt calls formed n r
+    pub only : (j : ℕ) (q : Record) → formed < j → j < k → FormedAt calls j n q → ⊥
+    pub given : ℕ
+    pub before : given < k
+    pub is : GivenAt calls given n id octets
+    pub alone : (j m : ℕ) (o : List ℕ) → given < j → j < k → GivenAt calls j m id o → ⊥
+    pub formed_first : formed < given
+    pub sent : flag ≡ true → (j : ℕ) × (given < j) × (j < k) × (slice_get calls j ≡ Some (Told id true))
 
-  record Knows (k : ℕ) (b : BillingState) : Type 0 where
-    holds : IsBilling b.client b.spool
-    server : b.client.acct_server ≡ rules.server
-    secret : b.client.secret ≡ rules.secret.items
-    gateway : SameGateway rules.acct b.spool.rules
-    records : (n : ℕ) (x : Sheet) → sheet_at b.spool.sheets n ≡ Some x → WasFormed k n x.record
-    requests : (id n : ℕ) (r : Pending) (x : Sheet) → request_of (places_of b) id ≡ Some r → r.owner ≡ owner_of n → sheet_at b.spool.sheets n ≡ Some x → WasGiven k n id r.octets x.record (flag_of b id)
+  pub record Knows (k : ℕ) (b : BillingState) : Type 0 where
+    pub holds : IsBilling b.client b.spool
+    pub server : b.client.acct_server ≡ rules.server
+    pub secret : b.client.secret ≡ rules.secret.items
+    pub gateway : SameGateway rules.acct b.spool.rules
+    pub records : (n : ℕ) (x : Sheet) → sheet_at b.spool.sheets n ≡ Some x → WasFormed k n x.record
+    pub requests : (id n : ℕ) (r : Pending) (x : Sheet) → request_of (places_of b) id ≡ Some r → r.owner ≡ owner_of n → sheet_at b.spool.sheets n ≡ Some x → WasGiven k n id r.octets x.record (flag_of b id)
 
   -- one call later
   only_later : (k n formed : ℕ) (c : BillingCall) → slice_get calls k ≡ Some c → (FormsNumber c n → ⊥) → ((j : ℕ) (q : Record) → formed < j → j < k → FormedAt calls j n q → ⊥)
@@ -343,7 +343,7 @@ module _ (rules : BillingRules) (calls : List BillingCall) where
         no_both (Heard from octets found) f g = f
         no_both Stopped f g = f
 
-    knows_later : Knows (suc k) t
+    pub knows_later : Knows (suc k) t
     knows_later =
         let kept = serves c by in
         record {
@@ -415,7 +415,7 @@ module _ (rules : BillingRules) (calls : List BillingCall) where
       (all_answered left (suc k) (λ j x e. subst (λ (y : ℕ). slice_get calls y ≡ Some x) (shifted j) (part (suc j) x e)) mid last run
       (knows_later k c s mid (subst (λ (y : ℕ). slice_get calls y ≡ Some c) here (part 0 c refl)) does known) i from octets n at)
 
-  knows_new : (b : BillingState) → IsNewBilling rules b → Knows 0 b
+  pub knows_new : (b : BillingState) → IsNewBilling rules b → Knows 0 b
   knows_new b new = record {
     holds = new_holds rules b new;
     server = new.client.acct_server;

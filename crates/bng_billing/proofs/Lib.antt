@@ -8,3 +8,4 @@ pub mod Acting
 pub mod Saying
 pub mod Stops
 pub mod Following
+pub mod Delivering

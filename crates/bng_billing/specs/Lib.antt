@@ -8,3 +8,4 @@ pub mod Stopping
 pub mod Calls
 pub mod Laws
 pub mod Answered
+pub mod Sent

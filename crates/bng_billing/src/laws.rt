@@ -1,5 +1,5 @@
 // What holds of all accounting, whoever calls it.
-ghost use Rattle.std.specs.Prelude.{ℕ, ◌≡◌, ◌↔◌, [], List, Some};
+ghost use Rattle.std.specs.Prelude.{ℕ, ◌≡◌, ◌↔◌, [], List, None, Some};
 ghost use Rattle.bng_base.specs.Chain.{Chain};
 ghost use Rattle.bng_base.specs.declared.address.Peer.{Peer};
 ghost use Rattle.bng_acct.specs.declared.facts.RecordNo.{RecordNo};
@@ -13,6 +13,7 @@ ghost use Rattle.bng_billing.specs.Sending.{IsSentBy};
 ghost use Rattle.bng_billing.specs.Calls.{BillingCall, Does, StopsAreAcknowledged};
 ghost use Rattle.bng_billing.specs.Laws.{IsAcknowledgementOf, SaysFirst, SaysAgain, KeepsRecords};
 ghost use Rattle.bng_billing.specs.Answered.{AreAnswered};
+ghost use Rattle.bng_billing.specs.Sent.{ArePaired, AreRequests, StopsAreSent};
 
 /// Over any calls from the opening on each record that is open waits in its order or is out, so none is lost; each request that is
 /// out is of an open record, no two of one record's, and its octets are that record's Accounting-Request.
@@ -49,4 +50,15 @@ pub fn records_stay_out_until_acknowledged()
 /// datagram that was heard later. That the records and their terms agree is what `free` ensures.
 pub fn stops_are_acknowledged()
     ensures { (rules : BillingRules) (opening last : BillingState) (calls : List BillingCall) → IsNewBilling rules opening → Chain Does opening calls last → Agree last.spool.sheets last.spool.held → ((unacked_stops last.spool ≡ []) ↔ StopsAreAcknowledged calls) }
+{}
+
+/// Over any calls from the opening on what is sent is the Accounting-Request of a record that one of the calls formed.
+pub fn requests_are_of_records()
+    ensures { (rules : BillingRules) (opening last : BillingState) (calls : List BillingCall) → IsNewBilling rules opening → Chain Does opening calls last → AreRequests rules calls }
+{}
+
+/// Where each request that is given out is told to be sent or not, and each Stop that was formed was acknowledged, the
+/// Accounting-Request of each Stop was sent.
+pub fn acknowledged_stops_were_sent()
+    ensures { (rules : BillingRules) (opening last : BillingState) (calls : List BillingCall) → IsNewBilling rules opening → Chain Does opening calls last → ArePaired None calls → StopsAreAcknowledged calls → StopsAreSent rules calls }
 {}

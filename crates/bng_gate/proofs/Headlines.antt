@@ -34,10 +34,11 @@ use Rattle.bng_desk.specs.declared.desk.DeskState.TheVariants.{Ended}
 use Rattle.bng_desk.specs.declared.line.Line.{Line}
 use Rattle.bng_desk.specs.Accounting.{FormedRecord}
 use Rattle.bng_desk.specs.Counting.{by_number}
-use Rattle.bng_desk.specs.Model.{Desk, all_stopped as all_say, by_profile, carried_on, all_carried, line_after, live_of, live_terms, plus_book, state_of, sums_of, total_of, traffic_by}
+use Rattle.bng_desk.specs.Model.{Desk, all_stopped as all_say, by_profile, carried_on, all_carried, line_after, live_of, live_terms, plus_book, state_of, sums_of, total_of, traffic_by, keys_in}
 use Rattle.bng_desk.specs.Opening.{billing_rules, coa_of, line_of, opened_shards}
 use Rattle.bng_desk.specs.Report.{report_text}
-use Rattle.bng_desk.specs.Round.{view_of, views_of}
+use Rattle.bng_desk.specs.Round.{terms_in, view_of, views_of}
+use Rattle.bng_desk.specs.Taking.{states_of}
 use Rattle.bng_gate.specs.Changed.{AreAnswered, coa_calls_of}
 use Rattle.bng_gate.specs.declared.texts.Refusal.{Refusal}
 use Rattle.bng_gate.specs.declared.texts.Refusal.TheVariants.{Usage, Refused, CannotOpen, OutOfMemory, TraceFailed, OutputFailed}
@@ -58,6 +59,7 @@ use Rattle.bng_gate.proofs.Addressing.{all_addressed}
 use Rattle.bng_gate.proofs.Agreed.{agreed}
 use Rattle.bng_gate.proofs.Drops.{all_dropped}
 use Rattle.bng_gate.proofs.Exercising.{keeps_rules}
+use Rattle.bng_gate.proofs.Delivered.{are_billed, opening_starts}
 use Rattle.bng_gate.proofs.Follows.{Follows, run_follows}
 use Rattle.bng_gate.proofs.Going.{Shows, balanced_left, books_left, rows_left, shows, stands_itself, wire_left}
 use Rattle.bng_gate.proofs.Invented.{AllWork, nothing_invented, opened_works, stages_invent_nothing, stages_went}
@@ -298,24 +300,6 @@ module _ (config : Config) (rules : KeepsRules config) (most : ℕ) (seed : List
     all_stops_are : stops_of rounds ≡ flat_map (λ s. s.stops) spans
     all_stops_are = run_stops course.turns course.endings
 
-    kept : Promise config (circuit_keys config) (plant_of course.turns course.endings).taken sent (stops_of rounds)
-    kept = record {
-      spans = spans;
-      passes = passes;
-      all_taken =
-          stages_taken course.opening course.over course.turns course.endings course.run
-          ∙ all_of_stages IsOfStage (λ s. s.taken) (λ s. s.taken) (λ s h. refl) (stages_of course.turns course.endings) (held_of course.turns course.endings) invented_in_stages;
-      all_sent =
-          sends ∙ ap on_data (stages_went course.turns course.endings
-          ∙ all_of_stages IsOfStage (λ s. s.sent) (λ s. s.sent) (λ s h. refl) (stages_of course.turns course.endings) (held_of course.turns course.endings) invented_in_stages);
-      all_stops = all_stops_are;
-      exclusive = All-from_recursion IsExclusive spans are_spans.exclusive;
-      addressed = All-from_recursion IsAddressedIn spans are_spans.addressed;
-      exact = exact;
-      one_stop_each = λ f. ap (λ (ss : List Stop). sum_by f (stopped_keys ss)) all_stops_are ∙ ap (sum_by f) (sym (append-nil (stopped_keys (flat_map (λ (s : Span). s.stops) spans)))) ∙ all_pass (circuit_keys config) [] spans passes f;
-      passed_on = All-from_recursion (IsPassedOnIn config) spans (all_passed_on config (stages_of course.turns course.endings) (held_of course.turns course.endings) invented_in_stages);
-    }
-
     total : total_of course.last.tallies ≡ total_in sent
     total = total_same sent rounds exact start end goes.history goes.run balance rows_none
 
@@ -392,6 +376,30 @@ module _ (config : Config) (rules : KeepsRules config) (most : ℕ) (seed : List
         stops_acknowledged (billing_rules config course.begins.bound.wall) recorded.0.opened course.last.billing (calls_in_run config most seed old new course) recorded.0.is_new recorded.0.calls
         (agreed config most seed course.begins.bound.now course.begins.bound.wall course.opening course.over course.last course.turns course.endings course.begins.is_opened course.run course.ending ended)
 
+    -- the promise
+    kept : (status : ℕ) → (status ≡ 0 → unanswered_of course.last ≡ []) → Promise config status (circuit_keys config) (plant_of course.turns course.endings).taken sent (stops_of rounds)
+    kept status none = record {
+      spans = spans;
+      passes = passes;
+      all_taken =
+          stages_taken course.opening course.over course.turns course.endings course.run
+          ∙ all_of_stages IsOfStage (λ s. s.taken) (λ s. s.taken) (λ s h. refl) (stages_of course.turns course.endings) (held_of course.turns course.endings) invented_in_stages;
+      all_sent =
+          sends ∙ ap on_data (stages_went course.turns course.endings
+          ∙ all_of_stages IsOfStage (λ s. s.sent) (λ s. s.sent) (λ s h. refl) (stages_of course.turns course.endings) (held_of course.turns course.endings) invented_in_stages);
+      all_stops = all_stops_are;
+      exclusive = All-from_recursion IsExclusive spans are_spans.exclusive;
+      addressed = All-from_recursion IsAddressedIn spans are_spans.addressed;
+      exact = exact;
+      billed =
+          are_billed config course.begins.bound.wall course.begins.is_opened.starts course.turns course.endings course.last (plant_of course.turns course.endings).taken sent recorded.0
+          (opening_starts (terms_in (states_of (opened_shards config r now))) now course.begins.bound.wall (keys_in (opened_shards config r now)) course.begins.is_opened.starts course.begins.is_opened.are_starts)
+          (nothing_yet start) goes.history (subst (λ (is : List (List FormedRecord)). Chain ReportsLive (nothing_yet start) (zip rounds is) goes.history) (sym recorded.1) goes.live)
+          status (λ zero. answered.0 (none zero));
+      one_stop_each = λ f. ap (λ (ss : List Stop). sum_by f (stopped_keys ss)) all_stops_are ∙ ap (sum_by f) (sym (append-nil (stopped_keys (flat_map (λ (s : Span). s.stops) spans)))) ∙ all_pass (circuit_keys config) [] spans passes f;
+      passed_on = All-from_recursion (IsPassedOnIn config) spans (all_passed_on config (stages_of course.turns course.endings) (held_of course.turns course.endings) invented_in_stages);
+    }
+
 module _ (config : Config) (rules : KeepsRules config) (most status : ℕ) (seed : List ℕ) (old new : World) (run : Runs config most seed (outside old) (outside new) old.out new.out)
     (none : status ≡ 0 → unanswered_of run.completes.course.last ≡ []) (some : status ≡ 6 → NamesStops run.completes.course.last old.err new.err) where
   abbrev turned : Course config most seed (outside old) (outside new)
@@ -403,7 +411,7 @@ module _ (config : Config) (rules : KeepsRules config) (most status : ℕ) (seed
     seed = seed;
     run = run;
     safe = safe_of config rules most seed old new turned;
-    promise = kept config rules most seed old new turned run.ended;
+    promise = kept config rules most seed old new turned run.ended status none;
     stopped = stopped_all config rules most seed old new turned run.ended;
     exact = exact config rules most seed old new turned run.ended;
     printed = subst (λ (text : List ℕ). Grows old.out.bytes new.out.bytes text) (report config rules most seed old new turned run.ended) run.reports.printed;

@@ -56,6 +56,7 @@ pub mod Calling
 pub mod Agreed
 pub mod Reporting
 pub mod Recording
+pub mod Delivered
 pub mod Addressing
 pub mod AddressedLive
 pub mod Traffic

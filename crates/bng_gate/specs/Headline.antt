@@ -221,7 +221,7 @@ pub record Headline (config : Config) (most status : ℕ) (old new : World) : Ty
   pub run : Runs config most seed (outside old) (outside new) old.out new.out
   pub safe : IsSafe config most seed old new run.completes.course
   -- The promise was kept.
-  pub promise : Promise config (circuit_keys config) safe.taken safe.sent (stops_of (rounds_of run.completes.course.turns run.completes.course.endings))
+  pub promise : Promise config status (circuit_keys config) safe.taken safe.sent (stops_of (rounds_of run.completes.course.turns run.completes.course.endings))
   -- Each term, of a circuit or of a subscriber that logged in, has one Stop. What the Stops say, in octets and in packets, is exactly what
   -- was sent: whoever reads the sent octets alone finds for each address and for each circuit that the Stops with it sum to its packets.
   pub stopped : AllZip AreStopped safe.history.shards (terms_of_run config (rounds_of run.completes.course.turns run.completes.course.endings))
