@@ -5,6 +5,7 @@
 //! address. `open` and `prepare` alone take memory.
 #![tactic(auto)]
 
+mod body;
 mod claim;
 mod holder;
 mod indexed;
