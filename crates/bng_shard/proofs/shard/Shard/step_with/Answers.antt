@@ -34,14 +34,14 @@ hear-fate-requires-clause-asked c =
     let a : Body = c.deref_mut-body.result.now in
     let was : Fits c.deref_mut-body.result.now = subst Fits (sym c.deref_mut-body.ensures.value) c.self.invariant in
     let seen = ap shown_of c.deref_mut-body.ensures.value ∙ c.self.view_is in
-    (answered_at a was (subst (λ (v : ShardView ShardState Entry). 0 < v.room) (sym seen) c.requires.room) c.args.self.now seen c.args.item.now c.args.claim c.requires.answered)
+    answered_at a was (subst (λ (v : ShardView ShardState Entry). 0 < v.room) (sym seen) c.requires.room) c.args.self.now seen c.args.item.now c.args.claim c.requires.answered
 
 pub hear-fate-requires-clause-begins : goal.hear-fate-requires-clause-begins
 hear-fate-requires-clause-begins c x is =
     let a : Body = c.deref_mut-body.result.now in
     let was : Fits c.deref_mut-body.result.now = subst Fits (sym c.deref_mut-body.ensures.value) c.self.invariant in
     let seen = ap shown_of c.deref_mut-body.ensures.value ∙ c.self.view_is in
-    let some = some_left a.left (claimed_within a.rules a.served c.args.item.now (a.left == 0) c.args.claim ((answered_at a was (subst (λ (v : ShardView ShardState Entry). 0 < v.room) (sym seen) c.requires.room) c.args.self.now seen c.args.item.now c.args.claim c.requires.answered)) x is) in
+    let some = some_left a.left (claimed_within a.rules a.served c.args.item.now (a.left == 0) c.args.claim (answered_at a was (subst (λ (v : ShardView ShardState Entry). 0 < v.room) (sym seen) c.requires.room) c.args.self.now seen c.args.item.now c.args.claim c.requires.answered) x is) in
     let numbers = was.numbers some in
     let room = ap (λ (v : ShardView ShardState Entry). v.room) seen in
     let unused = subst (λ (v : ShardView ShardState Entry). IsUnused x.0 (terms_of v.state)) (sym seen) (c.requires.unused x is) in
@@ -66,7 +66,7 @@ left_after-body-requires c =
     let a : Body = c.deref_mut-body.result.now in
     let was : Fits c.deref_mut-body.result.now = subst Fits (sym c.deref_mut-body.ensures.value) c.self.invariant in
     let seen = ap shown_of c.deref_mut-body.ensures.value ∙ c.self.view_is in
-    record { left = λ x is. some_left a.left (claimed_within a.rules a.served c.args.item.now (a.left == 0) c.args.claim ((answered_at a was (subst (λ (v : ShardView ShardState Entry). 0 < v.room) (sym seen) c.requires.room) c.args.self.now seen c.args.item.now c.args.claim c.requires.answered)) x is) }
+    record { left = λ x is. some_left a.left (claimed_within a.rules a.served c.args.item.now (a.left == 0) c.args.claim (answered_at a was (subst (λ (v : ShardView ShardState Entry). 0 < v.room) (sym seen) c.requires.room) c.args.self.now seen c.args.item.now c.args.claim c.requires.answered) x is) }
 
 pub book-requires-clause-low : goal.book-requires-clause-low
 book-requires-clause-low c =
@@ -98,7 +98,7 @@ invariant_of-self c =
     let ties = moved_holds a.rules s s' outs outs' e limited fate does own (are_tied a.served a.terms own c.are_rising.ensures was.numbered was.tied) in
     let begun = moved_begun a.rules s s' outs outs' e limited fate does in
     let (answer, is_answer, pushed) = c.hear-fate.ensures.answered does.deed.entry (ap (λ (x : Entry). x.item) does.entry) in
-    let left = c.left_after-self-inside.ensures in
+    let left = c.left_after-body.ensures in
     record {
       numbered = rows_numbered c.hear-fate.new.served c.hear-fate.new.terms keys;
       numbered_news = news_numbered c.hear-fate.new.served c.hear-fate.new.terms keys;

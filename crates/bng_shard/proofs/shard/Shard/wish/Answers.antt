@@ -14,7 +14,7 @@ returns-clause-wished c =
     let a : Body = c.deref-body.result.now in
     let was : Fits c.deref-body.result.now = subst Fits (sym c.deref-body.ensures) c.self.invariant in
     let seen = ap shown_of c.deref-body.ensures ∙ c.self.view_is in
-    wished_at a was (subst (λ (v : ShardView ShardState Entry). 0 < v.room) (sym seen) c.requires) c.args.self.now seen c.args.item.now c.wish_for.result c.wish_for.ensures
+    wished_at a was (subst (λ (v : ShardView ShardState Entry). 0 < v.room) (sym seen) c.requires.room) c.args.self.now seen c.args.item.now c.wish_for.result c.wish_for.ensures
 
 pub returns-clause-may : goal.returns-clause-may
 returns-clause-may c =
