@@ -127,6 +127,7 @@ effects_of h [] = []
 effects_of h (e ∷ es) = record h { deed = record h.deed { entry = e } } ∷ effects_of h es
 
 entries_are : (h : Handled) (es : List Entry) → map (λ (x : Handled). x.deed.entry) (effects_of h es) ≡ es
+  unfolding effects_of
 entries_are h [] = refl
 entries_are h (e ∷ es) = ap (λ (xs : List Entry). e ∷ xs) (entries_are h es)
 

@@ -8,6 +8,7 @@ ghost use Rattle.bng_engine.specs.Terms.{keys};
 ghost use Rattle.bng_engine.specs.Views.{row_keys};
 ghost use Rattle.bng_profile.specs.Books.{AreDifferent, names_of};
 ghost use Rattle.bng_steps.specs.Protocol.{SaysOf, TellsNew, ended_terms, entry_of, entry_with, key_of, opened, pppoe, sessions_of, stop_of, terms_of};
+ghost use Rattle.bng_shard.specs.Fits.{Fits, shown_of};
 ghost use Rattle.bng_shard.specs.Handling.{AreHeld, Handles, HandlesAs, HasPools, IsUnused, Leaves, is_limited};
 ghost use Rattle.bng_shard.specs.Room.{Admits};
 ghost use Rattle.bng_steps.specs.declared.session.Session.{Session as Seen};
@@ -69,6 +70,17 @@ impl Model for Shard {
     ghost invariant = { λ a. Fits a.body.value };
 }
 
+// A shard that keeps this.
+fn boxed(alloc: Global, body: Body) -> Result<Shard, ShardError>
+    requires fits { Fits body }
+    ensures shown { IfOk result (λ s. s ≡ shown_of body) }
+{
+    match Box::new(alloc, body) {
+        Ok(body) => Ok(Shard { body }),
+        Err(_) => Err(ShardError::OutOfMemory),
+    }
+}
+
 impl Shard {
     /// A shard with this number, at most 63, that works by these rules, and these circuits. It has no other session and no tunnel. The
     /// rules name a way to authenticate, what each access port offers, and 1 to 16 profiles with different names. The circuits' session
@@ -128,10 +140,8 @@ impl Shard {
             room: 0,
             lent: false,
         };
-        match Box::new(alloc, body) {
-            Ok(body) => Ok(Shard { body }),
-            Err(_) => Err(ShardError::OutOfMemory),
-        }
+        let shard = boxed(alloc, body)?;
+        Ok(shard)
     }
 
     /// Makes room for a round of so many items: for an entry and ten outs of each, for a term that it begins, and for the outs of a Tick

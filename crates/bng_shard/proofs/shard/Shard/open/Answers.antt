@@ -12,8 +12,8 @@ use Rattle.bng_steps.specs.State.{State}
 use Rattle.bng_steps.proofs.Opened.{opened_numbered, opened_placed, opened_rows_apart, opened_tied, opened_view, opened_whole}
 use Rattle.bng_shard.proofs.shard.Shard.open.Goals as goal
 
-pub invariant_of-result : goal.invariant_of-result
-invariant_of-result c =
+pub boxed-shard-requires-clause-fits : goal.boxed-shard-requires-clause-fits
+boxed-shard-requires-clause-fits c =
     let cs = c.args.circuits.now in
     let rows = c.in-Ok-open-2.terms.rows in
     let served = c.in-Ok-open.served in
@@ -47,5 +47,5 @@ returns-clause-opened c =
     let opened =
     opened_whole c.args.number c.args.now profiles cs c.in-Ok-open.served c.in-Ok-open-2.terms c.in-Ok-open.ensures.opened c.in-Ok-open-2.ensures.terms c.in-Ok-open-2.ensures.none.0
     ∙ ap (λ (ps : List Profile). opened_slots c.args.number ps cs c.args.now) c.as_slice.ensures in
-    opened_view c.args.rules c.args.number cs c.args.now (whole c.in-Ok-open.served c.in-Ok-open-2.terms) c.new-3.result.items (rows_in c.in-Ok-open-2.terms.rows) c.in_ok-profiles.profiles.books c.new.result.items c.new-2.result.items opened c.new-3.ensures.items c.in-Ok-open-2.ensures.rows
+    c.in_ok-shard.ensures.shown ∙ opened_view c.args.rules c.args.number cs c.args.now (whole c.in-Ok-open.served c.in-Ok-open-2.terms) c.new-3.result.items (rows_in c.in-Ok-open-2.terms.rows) c.in_ok-profiles.profiles.books c.new.result.items c.new-2.result.items opened c.new-3.ensures.items c.in-Ok-open-2.ensures.rows
     c.in_ok-profiles.ensures.books c.new.ensures c.new-2.ensures
