@@ -10,7 +10,7 @@ use Rattle.bng_base.specs.declared.item.Entry.{Entry}
 use Rattle.bng_base.specs.declared.item.Item.{Item}
 use Rattle.bng_base.specs.declared.item.ItemKind.{ItemKind}
 use Rattle.bng_base.specs.declared.item.ItemKind.TheVariants.{Access, Core, Tunnel, Verdict, Change, Tick, End}
-use Rattle.bng_engine.specs.Terms.{Key, Term}
+use Rattle.bng_engine.specs.Terms.{Key}
 use Rattle.bng_engine.specs.Views.{ShardView}
 use Rattle.bng_pool.specs.Plain.{PlainView}
 use Rattle.bng_pool.specs.Tables.{Puts, Table, entry}
@@ -22,7 +22,7 @@ use Rattle.bng_steps.specs.Running.{TermsView, whole}
 use Rattle.bng_steps.specs.State.{State}
 use Rattle.bng_steps.specs.Step.{Step}
 use Rattle.bng_steps.specs.Wished.{IsAnswered, IsWished, WishesFor}
-use Rattle.bng_steps.proofs.TermLaws.{AnyCause, Begins, Moves, Remains, step_moves, terms_there, zip_keys}
+use Rattle.bng_steps.proofs.TermLaws.{AnyCause, Begins, Remains, step_moves, terms_there, zip_keys}
 use Rattle.bng_shard.specs.Handling.{AnswersClaim, AreHeld, Handles, HandlesAs, IsUnused, is_limited}
 use Rattle.bng_shard.specs.declared.body.Body.{Body}
 use Rattle.bng_shard.specs.Fits.{Fits, begun_in, shown_of}
@@ -127,7 +127,7 @@ effects_of h [] = []
 effects_of h (e ∷ es) = record h { deed = record h.deed { entry = e } } ∷ effects_of h es
 
 entries_are : (h : Handled) (es : List Entry) → map (λ (x : Handled). x.deed.entry) (effects_of h es) ≡ es
-  unfolding effects_of
+unfolding effects_of
 entries_are h [] = refl
 entries_are h (e ∷ es) = ap (λ (xs : List Entry). e ∷ xs) (entries_are h es)
 

@@ -1,4 +1,3 @@
-use Rattle.bng_shard.specs.declared.body.Body.{Body}
 use Rattle.bng_shard.specs.Fits.{Fits}
 use Rattle.std.proofs.Common.{ap, arith, length, subst, sym}
 use Rattle.bng_shard.proofs.shard.Shard.drain.Goals as goal

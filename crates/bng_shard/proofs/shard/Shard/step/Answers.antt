@@ -1,5 +1,4 @@
 use Rattle.std.proofs.Common.{ℕ, sym, subst, arith}
-use Rattle.bng_base.specs.declared.item.Claim.{Claim}
 use Rattle.bng_steps.specs.declared.rules.Rules.{Rules}
 use Rattle.bng_steps.specs.Protocol.{entry_of}
 use Rattle.bng_steps.specs.Wished.{MayWish}

@@ -1,15 +1,11 @@
 use Rattle.bng_shard.specs.declared.body.Body.{Body}
 use Rattle.bng_shard.specs.Fits.{Fits, shown_of}
-use Rattle.std.proofs.Common.{◌≡◌, ◌≢◌, ◌≤◌, refl, sym, ap, subst, arith, not, true, ◌∙◌}
+use Rattle.std.proofs.Common.{◌≡◌, ◌≢◌, ◌≤◌, sym, ap, subst, arith, not, true, ◌∙◌}
 use Rattle.std.specs.List.{All, AllPairs}
-use Rattle.bng_base.specs.declared.item.Entry.{Entry}
-use Rattle.bng_engine.specs.Views.{ShardView}
 use Rattle.bng_sessions.specs.Sessions.{Sessions}
 use Rattle.bng_steps.specs.declared.session.Session.{Session}
 use Rattle.bng_steps.specs.declared.terms.Running.{Running}
 use Rattle.bng_steps.specs.Placed.{ArePlaced}
-use Rattle.bng_steps.specs.Protocol.{ShardState, terms_of}
-use Rattle.bng_shard.specs.Handling.{AreHeld}
 use Rattle.bng_steps.specs.Running.{AreTied, TermsView, tenures_in}
 use Rattle.bng_steps.specs.State.{State, leaves}
 use Rattle.bng_steps.proofs.LeavingFirst.{left_all, left_pairs, none_over}
