@@ -1,5 +1,5 @@
 //! One shard.
-ghost use Rattle.std.specs.Prelude.{ℕ, Some, drop, slice_get, IfSome, IfNone, ◌≡◌, ◌≢◌, ◌≤◌, ◌<◌, ◌+◌, ◌^◌, [], IfOk, OnOk, length, option_map, replicate};
+ghost use Rattle.std.specs.Prelude.{ℕ, Some, drop, slice_get, IfSome, IfNone, ◌≡◌, ◌≢◌, ◌≤◌, ◌<◌, ◌+◌, ◌^◌, [], IfOk, OnOk, length, option_map};
 ghost use Rattle.bng_engine.specs.Calls.{Kept, IsReady};
 ghost use Rattle.bng_engine.specs.Protocol.{IsOwned};
 ghost use Rattle.bng_base.specs.declared.address.Ip4.{Ip4 as Address};
@@ -11,11 +11,8 @@ ghost use Rattle.bng_steps.specs.Protocol.{SaysOf, TellsNew, ended_terms, entry_
 ghost use Rattle.bng_shard.specs.Fits.{Fits, shown_of};
 ghost use Rattle.bng_shard.specs.Handling.{AreHeld, Handles, HandlesAs, HasPools, IsUnused, Leaves, is_limited};
 ghost use Rattle.bng_shard.specs.Room.{Admits};
-ghost use Rattle.bng_steps.specs.declared.session.Session.{Session as Seen};
-ghost use Rattle.bng_steps.specs.Interims.{AwaitsInterims, owed, row_in, row_told, with_report};
-ghost use Rattle.bng_sessions.specs.Sessions.{IsNumberOf, value_at};
+ghost use Rattle.bng_sessions.specs.Sessions.{IsNumberOf};
 ghost use Rattle.std.specs.List.{All, AllPairs};
-ghost use Rattle.bng_engine.specs.Lists.{AnyOf};
 ghost use Rattle.bng_pool.specs.Tables.{TableFrees};
 ghost use Rattle.bng_steps.specs.State.{reaped};
 ghost use Rattle.bng_steps.specs.Tenures.{LeavesTerms, Tenure};
@@ -26,16 +23,15 @@ use crate::body::{Body, books_of};
 use crate::claim::{ask, left_after};
 use crate::indexed::Indexed;
 use crate::rooms::{handed_out, is_lent, reserve_amply};
-use bng_base::{At, Batch, Book, Claim, Entry, Fate, Item, LONGEST, OutRecord, SessionNo, Static};
+use bng_base::{At, Batch, Book, Claim, Entry, Fate, Item, LONGEST, OutRecord, Static};
 use bng_coa::ChangeVerdict;
 use bng_pool::PlainPool;
 use bng_steps::{
     Charged, EndedTerm, Incoming, LiveTerm, Rules, Served, ShardError, Terms, Wish, book,
     charged_as, hear, stop_from, tally, wish_for,
 };
-use std::alloc::{AllocError, Global};
+use std::alloc::Global;
 use std::marker::Model;
-use std::mem;
 
 /// The sessions and the L2TP tunnels of one shard, with the provisioned circuits whose numbers are the shard's. Contracts see it as the
 /// engine does: its rules, what it serves by them and what it answered to requests for changes, a row for each term with what it carried, a
