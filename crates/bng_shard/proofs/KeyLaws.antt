@@ -9,7 +9,7 @@ use Rattle.bng_pool.specs.Tables.{Table, entry}
 use Rattle.bng_steps.specs.declared.rules.Rules.{Rules}
 use Rattle.bng_steps.specs.declared.terms.Running.{Running}
 use Rattle.bng_steps.specs.Protocol.{key_in, term_in}
-use Rattle.bng_shard.specs.Handling.{AreHeld}
+use Rattle.bng_shard.specs.Handling.{AreHeld, IsUnused}
 use Rattle.bng_steps.specs.Running.{AreRising, AreTied, TermsView, row_from, rows_in, tenures_in, whole}
 use Rattle.bng_steps.specs.Serving.{AreOwn}
 use Rattle.bng_steps.specs.State.{State}
@@ -111,14 +111,28 @@ not_theirs table shard a k free holds e = none_some shard (sym free ∙ ap (λ (
 pub free_of : (table : Table) (shard : ℕ) (a : Ip4) (ks : List Key) → entry table a.0 ≡ None → HoldTheirs table shard ks → AllByRecursion (λ (k : Key). k.lease ≢ a) ks
 free_of table shard a ks free h = all_so (λ (k : Key). entry table k.lease.0 ≡ Some shard) (λ (k : Key). k.lease ≢ a) ks (λ k holds. not_theirs table shard a k free holds) h
 
+unused_terms : (a : Ip4) (ts : List Term) → AllByRecursion (λ (k : Key). k.lease ≢ a) (keys ts) → AllByRecursion (λ (t : Term). t.key.lease.0 ≢ a.0) ts
+unused_terms a [] h = tt
+unused_terms a (t ∷ ts) h = ((λ e. h.0 (same_address t.key.lease a e)), unused_terms a ts h.1)
+
+pub unused_of : (a : Ip4) (ts : List Term) → AllByRecursion (λ (k : Key). k.lease ≢ a) (keys ts) → IsUnused a.0 ts
+unused_of a ts h = All-from_recursion (λ (t : Term). t.key.lease.0 ≢ a.0) ts (unused_terms a ts h)
+
+-- no key has an address that no term has
+unused_each : (a : Ip4) (ts : List Term) → AllByRecursion (λ (t : Term). t.key.lease.0 ≢ a.0) ts → AllByRecursion (λ (k : Key). k.lease ≢ a) (keys ts)
+unused_each a [] h = tt
+unused_each a (t ∷ ts) h = ((λ e. h.0 (ap (λ (b : Ip4). b.0) e)), unused_each a ts h.1)
+
+pub keys_unused : (a : Ip4) (ts : List Term) → IsUnused a.0 ts → AllByRecursion (λ (k : Key). k.lease ≢ a) (keys ts)
+keys_unused a ts h = unused_each a ts (recursion_from_All (λ (t : Term). t.key.lease.0 ≢ a.0) ts h)
+
 free_rows : (a : Ip4) (rows : List Running) → AllByRecursion (λ (k : Key). k.lease ≢ a) (keys_there (tenures_in rows)) → AllByRecursion (λ (r : Running). r.lease ≢ a) rows
 free_rows a [] h = tt
 free_rows a (r ∷ rows) h = (h.0, free_rows a rows h.1)
 
--- no row has an address that was free
-pub rows_free : (table : Table) (shard : ℕ) (a : Ip4) (rows : List Running) → entry table a.0 ≡ None → AreHeld shard (map term_in (tenures_in rows)) table → All (λ (r : Running). r.lease ≢ a) rows
-rows_free table shard a rows free h =
-    All-from_recursion (λ (r : Running). r.lease ≢ a) rows (free_rows a rows (free_of table shard a (keys_there (tenures_in rows)) free (all_held table shard (map term_in (tenures_in rows)) h)))
+-- and no row
+pub rows_unused : (a : Ip4) (rows : List Running) → IsUnused a.0 (map term_in (tenures_in rows)) → All (λ (r : Running). r.lease ≢ a) rows
+rows_unused a rows h = All-from_recursion (λ (r : Running). r.lease ≢ a) rows (free_rows a rows (keys_unused a (map term_in (tenures_in rows)) h))
 
 -- what is kept of a state's terms
 pub record KeysFit (s : State) : Type 0 where

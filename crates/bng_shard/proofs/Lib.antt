@@ -3,3 +3,4 @@ pub mod KeyLaws
 pub mod Stepping
 pub mod Reaping
 pub mod AskedPool
+pub mod Answered

@@ -1,9 +1,10 @@
 -- A term that has ended leaves a shard, and gives its address back, and one that began is told. Once none that ended is left, the sessions
 -- that ended leave.
-use Rattle.std.proofs.Common.{◌≡◌, ◌≢◌, ℕ, zero, suc, ◌+◌, true, false, not, List, [], ◌∷◌, ◌++◌, map, filter, sum_by, Option, Some, None, refl, sym, ap, subst, ◌∙◌, arith}
+use Rattle.std.proofs.Common.{◌≡◌, ◌≢◌, ℕ, zero, suc, ◌+◌, true, false, cond, not, List, [], ◌∷◌, ◌++◌, map, filter, sum_by, Option, Some, None, refl, sym, ap, subst, ◌∙◌, arith}
 use Rattle.std.specs.Option.{IfSome}
 use Rattle.std.specs.List.{All, AllByRecursion, AllPairs}
 use Rattle.std.proofs.Math.ListN.{get_or}
+use Rattle.std.proofs.lemmas.List.Elements.{All-from_recursion, recursion_from_All}
 use Rattle.arrayvec.specs.ArrayVec.{ArrayVec}
 use Rattle.bng_base.specs.declared.address.Ip4.{Ip4}
 use Rattle.bng_base.specs.declared.book.Book.{Book}
@@ -20,10 +21,10 @@ use Rattle.bng_steps.specs.declared.term.EndedTerm.{EndedTerm}
 use Rattle.bng_steps.specs.declared.terms.Running.{Running}
 use Rattle.bng_steps.specs.Placed.{ArePlaced}
 use Rattle.bng_steps.specs.Protocol.{SaysOf, ShardState, TellsNew, stop_of, term_in}
-use Rattle.bng_shard.specs.Handling.{AreHeld, Leaves}
+use Rattle.bng_shard.specs.Handling.{AreHeld, IsUnused, Leaves}
 use Rattle.bng_steps.specs.Running.{AreTied, TakesFirst, TermsView, has_ended, key_from, rows_in, tenure_in, tenures_in, whole}
 use Rattle.bng_steps.specs.State.{IsTermOf, State, leaves, reaped}
-use Rattle.bng_steps.specs.Tenures.{LeavesTerms, Tenure}
+use Rattle.bng_steps.specs.Tenures.{LeavesTerms, Tenure, is_over}
 use Rattle.bng_steps.proofs.LeavingFirst.{all_are_live, ended_from, left_are, left_least, left_leaves, left_live, left_lives, left_one, left_sums, left_were, rows_fit, told_least}
 use Rattle.bng_steps.proofs.ListParts.{all_left}
 use Rattle.bng_steps.proofs.Values.{kept, kept_from}
@@ -43,11 +44,6 @@ module _ {X : Type 0} where
       pairs_within R before after x back (λ i j e below within. h (suc i) (suc j) e (omega (arith, below)) (omega (arith, within))) k d (omega (arith, lt))
 
 -- each row has its address
-held_rows : (P : Term → Type 0) (rows : List Running) → All P (map term_in (tenures_in rows)) → All (λ (r : Running). P (term_in (tenure_in r))) rows
-held_rows P [] h k d lt = absurd (omega (arith, lt))
-held_rows P (r ∷ rows) h zero d lt = h zero (term_in (tenure_in d)) (omega arith)
-held_rows P (r ∷ rows) h (suc k) d lt = held_rows P rows (λ j e within. h (suc j) e (omega (arith, within))) k d (omega (arith, lt))
-
 rows_held : (P : Term → Type 0) (rows : List Running) → All (λ (r : Running). P (term_in (tenure_in r))) rows → All P (map term_in (tenures_in rows))
 rows_held P [] h k e lt = absurd (omega (arith, lt))
 rows_held P (r ∷ rows) h zero e lt = h zero r (omega arith)
@@ -56,24 +52,55 @@ rows_held P (r ∷ rows) h (suc k) e lt = rows_held P rows (λ j f within. h (su
 same_address : (a b : Ip4) → a.0 ≡ b.0 → a ≡ b
 same_address a b e = λ i. record { 0 = e i }
 
-module _ (rows rows' : List Running) (r : Running) (shard : ℕ) (table : Table) (takes : TakesFirst true rows r rows') (held : AreHeld shard (map term_in (tenures_in rows)) table) where
+-- the address of one that leaves is that of no other
+pub left_unused : (rows rows' : List Running) (r : Running) → TakesFirst true rows r rows' → AllPairs (λ (b c : Running). b.lease ≢ c.lease) rows → IsUnused r.lease.0 (map term_in (tenures_in rows'))
+left_unused rows rows' r takes apart =
+    let differ = pairs_within (λ (b c : Running). b.lease ≢ c.lease) takes.before takes.after r (λ a b other same. other (sym same)) (subst (AllPairs (λ (b c : Running). b.lease ≢ c.lease)) takes.were apart) in
+    let P : Term → Type 0 = λ t. t.key.lease.0 ≢ r.lease.0 in
+    let are : All (λ (q : Running). P (term_in (tenure_in q))) (takes.before ++ takes.after) =
+    λ j d lt same. differ j d lt (same_address r.lease (get_or (takes.before ++ takes.after) j d).lease (sym same)) in
+    rows_held P rows' (subst (All (λ (q : Running). P (term_in (tenure_in q)))) (sym takes.are) are)
+
+terms_each : (P : Term → Type 0) (ts : List Tenure) → All P (map term_in ts) → All (λ (t : Tenure). P (term_in t)) ts
+terms_each P [] h k d lt = absurd (omega (arith, lt))
+terms_each P (t ∷ ts) h zero d lt = h zero (term_in d) (omega arith)
+terms_each P (t ∷ ts) h (suc k) d lt = terms_each P ts (λ j e within. h (suc j) e (omega (arith, within))) k d (omega (arith, lt))
+
+each_terms : (P : Term → Type 0) (ts : List Tenure) → All (λ (t : Tenure). P (term_in t)) ts → All P (map term_in ts)
+each_terms P [] h k e lt = absurd (omega (arith, lt))
+each_terms P (t ∷ ts) h zero e lt = h zero t (omega arith)
+each_terms P (t ∷ ts) h (suc k) e lt = each_terms P ts (λ j f within. h (suc j) f (omega (arith, within))) k e (omega (arith, lt))
+
+module _ (shard : ℕ) (terms terms' : List Tenure) (t : Tenure) (left : LeavesTerms terms terms' t) (table : Table) (held : AreHeld shard (map term_in terms) table) where
+  abbrev HasIt : Tenure → Type 0
+  HasIt u = entry table u.address.0 ≡ Some shard
+
   -- it has its address until then
-  pub held_here : entry table r.lease.0 ≡ Some shard
-  held_here =
-      let P : Term → Type 0 = λ t. entry table t.key.lease.0 ≡ Some shard in
-      all_within (λ (q : Running). P (term_in (tenure_in q))) takes.before takes.after r (subst (All (λ (q : Running). P (term_in (tenure_in q)))) takes.were (held_rows P rows held))
+  pub held_here : entry table t.address.0 ≡ Some shard
+  held_here = all_within HasIt left.before left.after t (subst (All HasIt) left.were (terms_each (λ (u : Term). entry table u.key.lease.0 ≡ Some shard) terms held))
 
   -- and the others keep theirs
-  pub held_still : (k : ℕ) (table' : Table) → AllPairs (λ (b c : Running). b.lease ≢ c.lease) rows → TableFrees table k r.lease.0 table' → AreHeld shard (map term_in (tenures_in rows')) table'
-  held_still k table' apart frees =
-      let differ = pairs_within (λ (b c : Running). b.lease ≢ c.lease) takes.before takes.after r (λ a b other same. other (sym same)) (subst (AllPairs (λ (b c : Running). b.lease ≢ c.lease)) takes.were apart) in
-      let P : Term → Type 0 = λ t. entry table t.key.lease.0 ≡ Some shard in
-      let were : All (λ (q : Running). P (term_in (tenure_in q))) (takes.before ++ takes.after) =
-      all_left (λ (q : Running). P (term_in (tenure_in q))) takes.before takes.after r (subst (All (λ (q : Running). P (term_in (tenure_in q)))) takes.were (held_rows P rows held)) in
-      let P' : Term → Type 0 = λ t. entry table' t.key.lease.0 ≡ Some shard in
-      let are : All (λ (q : Running). P' (term_in (tenure_in q))) (takes.before ++ takes.after) =
-      λ j d lt. frees.elsewhere (get_or (takes.before ++ takes.after) j d).lease.0 (λ same. differ j d lt (same_address r.lease (get_or (takes.before ++ takes.after) j d).lease (sym same))) ∙ were j d lt in
-      rows_held P' rows' (subst (All (λ (q : Running). P' (term_in (tenure_in q)))) (sym takes.are) are)
+  pub held_still : (table' : Table) (k a : ℕ) → TableFrees table k a table' → IsUnused a (map term_in terms') → AreHeld shard (map term_in terms') table'
+  held_still table' k a frees unused =
+      let P : Term → Type 0 = λ u. entry table u.key.lease.0 ≡ Some shard in
+      let were : All HasIt (left.before ++ left.after) = all_left HasIt left.before left.after t (subst (All HasIt) left.were (terms_each P terms held)) in
+      let stay : All P (map term_in terms') = each_terms P terms' (subst (All HasIt) (sym left.are) were) in
+      λ j d lt. frees.elsewhere (get_or (map term_in terms') j d).key.lease.0 (unused j d lt) ∙ stay j d lt
+
+-- as do those that stay where none is left that ended
+held_live : (P : Term → Type 0) (ts : List Tenure) → AllByRecursion P (map term_in ts) → AllByRecursion P (map term_in (filter (λ (t : Tenure). not (is_over t)) ts))
+held_live P [] h = tt
+held_live P (t ∷ ts) h =
+    let rest = filter (λ (u : Tenure). not (is_over u)) ts in
+    elim (not (is_over t)) as (λ b. AllByRecursion P (map term_in (cond b (t ∷ rest) rest))) [
+      | true ↦ (h.0, held_live P ts h.1)
+      | false ↦ held_live P ts h.1
+    ]
+
+pub held_settled : (shard : ℕ) (s : State) (table : Table) → AreHeld shard (map term_in s.terms) table → AreHeld shard (map term_in (reaped s).terms) table
+held_settled shard s table h =
+    let P : Term → Type 0 = λ t. entry table t.key.lease.0 ≡ Some shard in
+    All-from_recursion P (map term_in (reaped s).terms) (held_live P s.terms (recursion_from_All P (map term_in s.terms) h))
 
 -- A term leaves -----------------------------------------------------------------------------------------------------------
 
@@ -125,13 +152,9 @@ module _ (rules : Rules) (s : State) (changed : List Answer) (books : List Book)
   -- what is reported of it
   pub ended_so : (t t' : TermsView) (room : ℕ) (r : Running) (o : Option EndedTerm) → TakesFirst true t.rows r t'.rows → t' ≡ record t { rows = t'.rows }
       → IfSome o (λ e. (r.cause ≡ Some e.cause) × ((stop_of e).key ≡ key_from r) × (e.carried ≡ r.carried))
-      → (table table' : Table) → (k : ℕ) × TableFrees table k r.lease.0 table'
-      → IfSome o (λ e. Leaves (shown t room) (shown t' 0) (stop_of e) × ((k : ℕ) × TableFrees table k e.address.0 table'))
-  ended_so t t' room r None takes others says table table' frees = tt
-  ended_so t t' room r (Some e) takes others says table table' frees = (
-    leaves_so t t' room r (stop_of e) takes others says.0 says.1 says.2,
-    (frees.0, subst (λ (k : Key). TableFrees table frees.0 k.lease.0 table') (sym says.1) frees.1),
-  )
+      → IfSome o (λ e. Leaves (shown t room) (shown t' 0) (stop_of e))
+  ended_so t t' room r None takes others says = tt
+  ended_so t t' room r (Some e) takes others says = leaves_so t t' room r (stop_of e) takes others says.0 says.1 says.2
 
   -- One is told ---------------------------------------------------------------------------------------------------------------
 
@@ -175,6 +198,11 @@ ended_said rows rows' r (Some e) takes one says = (
   },
   left_leaves rows rows' r true takes,
 )
+
+pub ended_unused : (rows rows' : List Running) (r : Running) (o : Option EndedTerm) → TakesFirst true rows r rows' → AllPairs (λ (b c : Running). b.lease ≢ c.lease) rows
+    → IfSome o (λ e. (r.cause ≡ Some e.cause) × ((stop_of e).key ≡ key_from r) × (e.carried ≡ r.carried)) → IfSome o (λ e. IsUnused e.address.0 (map term_in (tenures_in rows')))
+ended_unused rows rows' r None takes apart one = tt
+ended_unused rows rows' r (Some e) takes apart one = subst (λ (k : Key). IsUnused k.lease.0 (map term_in (tenures_in rows'))) (sym one.1) (left_unused rows rows' r takes apart)
 
 -- those that stay were there
 module _ (sessions : Sessions Session) where

@@ -9,8 +9,7 @@ use Rattle.std.proofs.lemmas.List.Folds.{list_any-append}
 use Rattle.bng_base.specs.declared.address.Ip4.{Ip4}
 use Rattle.bng_base.specs.declared.book.Book.{Book}
 use Rattle.bng_base.specs.declared.fate.Fate.{Fate}
-use Rattle.bng_base.specs.declared.item.Claim.{Claim}
-use Rattle.bng_base.specs.declared.item.Claim.TheVariants.{NoClaim, Claimed, Held, Exhausted}
+use Rattle.bng_base.specs.declared.item.Claim.TheVariants.{Claimed}
 use Rattle.bng_base.specs.declared.item.Entry.{Entry}
 use Rattle.bng_base.specs.declared.item.ItemKind.{ItemKind}
 use Rattle.bng_base.specs.declared.item.ItemKind.TheVariants.{Access, Core, Tunnel, Verdict, Change, Tick, End}
@@ -22,14 +21,12 @@ use Rattle.bng_engine.specs.Showing.{with_journal}
 use Rattle.bng_engine.specs.Terms.{Key, keys}
 use Rattle.bng_engine.specs.Views.{Row, ShardView, row_keys}
 use Rattle.bng_engine.proofs.SameLists.{same_equal}
-use Rattle.bng_pool.specs.Plain.{PlainView}
-use Rattle.bng_pool.specs.Tables.{Puts, Table, entry}
 use Rattle.bng_steps.specs.declared.changes.Answer.{Answer}
 use Rattle.bng_steps.specs.declared.rules.Rules.{Rules}
 use Rattle.bng_steps.specs.Changes.{IsAnswerOf}
 use Rattle.bng_steps.specs.Hearing.{Does, outs_most}
-use Rattle.bng_steps.specs.Protocol.{ShardState, Handled, claimed_by, key_in, pppoe, refused_by}
-use Rattle.bng_shard.specs.Handling.{AnswersClaim, AreHeld, Handles}
+use Rattle.bng_steps.specs.Protocol.{ShardState, Handled, claimed_by, pppoe, refused_by}
+use Rattle.bng_shard.specs.Handling.{HandlesAs}
 use Rattle.bng_shard.specs.Room.{is_tick, is_end, has_tick, has_end}
 use Rattle.bng_shard.specs.Fits.{begun_in, owed}
 use Rattle.bng_steps.specs.Placed.{ArePlaced}
@@ -38,9 +35,9 @@ use Rattle.bng_steps.specs.State.{State}
 use Rattle.bng_steps.specs.Step.{Step}
 use Rattle.bng_steps.specs.Sums.{Rises}
 use Rattle.bng_steps.proofs.StepLaws.{light}
-use Rattle.bng_steps.proofs.TermLaws.{AnyCause, Begins, Moves, Remains, step_moves, terms_there, zip_keys}
+use Rattle.bng_steps.proofs.TermLaws.{AnyCause, Begins, Moves, Remains, step_moves, terms_there}
 use Rattle.bng_steps.proofs.Tying.{Holds, step_ties}
-use Rattle.bng_shard.proofs.KeyLaws.{keys_there, HoldTheirs, all_last, keys_more, all_held, are_held, free_of, all_both, same_address, KeysFit, remain_fit, begin_fit}
+use Rattle.bng_shard.proofs.KeyLaws.{keys_there, KeysFit, remain_fit, begin_fit}
 
 -- the outs that a round may still have -------------------------------------------------------------------------------------
 
@@ -116,7 +113,7 @@ begun_more (x ∷ journal) e =
     omega (arith, length-append (claimed_by x.claim) (claims (journal ++ e ∷ [])), length-append (claimed_by x.claim) (claims journal), begun_more journal e)
 
 -- none may begin exactly where as many began as the allowance is
-limit_is : (left begun all : ℕ) → left + begun ≡ all → (left == 0) ≡ nat_le all begun
+pub limit_is : (left begun all : ℕ) → left + begun ≡ all → (left == 0) ≡ nat_le all begun
 limit_is left begun all e =
     elim (nat_le all begun) as (λ b. nat_le all begun ≡ b → (left == 0) ≡ b) [
       | true ↦ λ is. eq-eqb left 0 (grind (arith, nat_tests, is, e))
@@ -161,47 +158,6 @@ module _ (r : Rules) (s s' : State) (outs outs' : List OutRecord) (e : Entry) (l
     | inr m ↦ begin_fit r s s' h m.0 m.2 (free m.0 m.1)
   ]
 
-  -- the terms hold their addresses, by the table that answered
-  module _ (shard : ℕ) (pool pool' : PlainView) (answers : AnswersClaim shard e.claim pool pool') (held : AreHeld shard (terms_there s) pool.table) where
-    abbrev pub ks : List Key
-    ks = keys_there s.terms
-
-    theirs : HoldTheirs pool.table shard ks
-    theirs = all_held pool.table shard (terms_there s) held
-
-    puts : (a : Ip4) → e.claim ≡ Claimed a → Puts pool.table a.0 shard pool'.table
-    puts a is = (subst (λ (c : Claim). AnswersClaim shard c pool pool') is answers).0
-
-    pub claimed_free : (a : Ip4) → e.claim ≡ Claimed a → AllByRecursion (λ (k : Key). k.lease ≢ a) ks
-    claimed_free a is = free_of pool.table shard a ks (puts a is).free theirs
-
-    same_table : (c : Claim) → e.claim ≡ c → claimed_by c ≡ [] → pool'.table ≡ pool.table
-    same_table NoClaim is none = ap (λ (p : PlainView). p.table) (subst (λ (c : Claim). AnswersClaim shard c pool pool') is answers)
-    same_table (Claimed a) is none = absurd (let never : ⊥ = cc in never)
-    same_table (Held a) is none = ap (λ (p : PlainView). p.table) (subst (λ (c : Claim). AnswersClaim shard c pool pool') is answers).1
-    same_table (Exhausted k) is none = ap (λ (p : PlainView). p.table) (subst (λ (c : Claim). AnswersClaim shard c pool pool') is answers).1
-
-    pub held_after : AreHeld shard (terms_there s') pool'.table
-    held_after = are_held pool'.table shard (terms_there s') (elim moved as (λ _. HoldTheirs pool'.table shard (keys_there s'.terms)) [
-      | inl m ↦
-          subst (HoldTheirs pool'.table shard) (sym (zip_keys AnyCause s.terms s'.terms m.1.terms))
-          (subst (λ (table : Table). HoldTheirs table shard ks) (sym (same_table e.claim refl m.0)) theirs)
-      | inr m ↦
-          let a = m.0 in
-          let put = puts a m.1 in
-          let begins = m.2 in
-          let k = key_in begins.one in
-          let stay : HoldTheirs pool'.table shard ks =
-          all_both (λ (j : Key). entry pool.table j.lease.0 ≡ Some shard) (λ (j : Key). j.lease ≢ a) (λ (j : Key). entry pool'.table j.lease.0 ≡ Some shard) ks
-          (λ j holds other. put.elsewhere j.lease.0 (λ same. other (same_address j.lease a same)) ∙ holds) theirs (claimed_free a m.1) in
-          subst (HoldTheirs pool'.table shard) (sym (ap keys_there begins.terms ∙ keys_more s.terms begins.one))
-          (all_last (λ (j : Key). entry pool'.table j.lease.0 ≡ Some shard) ks k stay (ap (λ (b : Ip4). entry pool'.table b.0) begins.address ∙ put.put))
-    ])
-
-  -- by the number of the shard after it
-  pub moved_held : (pool' : PlainView) → AreHeld s.sessions.shard (terms_there s') pool'.table → AreHeld s'.sessions.shard (terms_there s') pool'.table
-  moved_held pool' h = subst (λ (n : ℕ). AreHeld n (terms_there s') pool'.table) (sym moved_shard) h
-
   module _ (changed changed' : List Answer) (answer : Option Answer) (is_answer : IsAnswerOf r s does.deed.entry answer) (pushed : changed' ≡ changed ++ option_to_list answer) (rows rows' : List Row) (books books' : List Book) (allowance left room : ℕ) (journal journal' : List Entry) (counted : left + begun_in journal ≡ allowance) (is_limited : limited ≡ (left == 0))
       (fit : row_keys rows' ≡ keys (terms_there s')) (sums : SayTheSame rows rows') where
     abbrev effect : Handled
@@ -228,17 +184,13 @@ module _ (r : Rules) (s s' : State) (outs outs' : List OutRecord) (e : Entry) (l
       room = refl;
     }
 
-    pub handles : (e0 : Entry) (claim : Claim) → e ≡ record e0 { claim = claim } → (pool pool' : PlainView) → AnswersClaim s.sessions.shard claim pool pool' → AreHeld s'.sessions.shard (terms_there s') pool'.table
-        → (tally tally' : Book) → journal' ≡ journal ++ e ∷ [] → length e.item.frame.payload ≤ 4096 → BooksRise books does.deed.outs books' → Rises tally does.deed.outs tally' → length does.deed.outs ≤ outs_most e0.item.kind
-        → Handles (view r s changed rows books allowance journal outs room) (view r s' changed' rows' books' allowance journal' outs' (room - 1)) pool pool' e0 fate tally tally'
-    handles e0 claim with_claim pool pool' answers held tally tally' is short rise rises few = record {
-      claim = claim;
-      shown = record { effect = effect; entry = does.entry ∙ with_claim; journal = is ∙ ap (λ (x : Entry). journal ++ x ∷ []) with_claim; handles = one_handled rise };
-      answers = answers;
-      held = held;
+    pub handles_as : (tally tally' : Book) → journal' ≡ journal ++ e ∷ [] → length e.item.frame.payload ≤ 4096 → BooksRise books does.deed.outs books' → Rises tally does.deed.outs tally'
+        → HandlesAs (view r s changed rows books allowance journal outs room) (view r s' changed' rows' books' allowance journal' outs' (room - 1)) e fate tally tally'
+    handles_as tally tally' is short rise rises = record {
+      shown = record { effect = effect; entry = does.entry; journal = is; handles = one_handled rise };
       fate_is = does.fate_is;
       light = light r s limited does.deed does.says (subst (λ (x : Entry). length x.item.frame.payload ≤ 4096) (sym does.entry) short);
-      few = few;
+      few = does.few;
       tallied = rises;
     }
 

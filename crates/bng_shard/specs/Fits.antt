@@ -1,13 +1,14 @@
 -- What the fields of a shard keep.
-use Rattle.std.specs.Prelude.{◌≡◌, ◌≢◌, ℕ, ◌+◌, ◌*◌, ◌^◌, ◌<◌, ◌≤◌, cond, List, length, vec_capacity}
+use Rattle.std.specs.Prelude.{◌≡◌, ◌≢◌, ℕ, ◌+◌, ◌*◌, ◌^◌, ◌<◌, ◌≤◌, cond, List, [], length, vec_capacity}
 use Rattle.std.specs.List.{All, AllPairs, flat_map}
 use Rattle.bng_base.specs.declared.item.Entry.{Entry}
+use Rattle.bng_engine.specs.Views.{ShardView}
 use Rattle.bng_profile.specs.Books.{names_of}
-use Rattle.bng_shard.specs.declared.shard.Shard.TheInside.{Inside}
+use Rattle.bng_shard.specs.declared.body.Body.{Body}
 use Rattle.bng_steps.specs.declared.terms.Running.{Running}
-use Rattle.bng_steps.specs.Protocol.{claimed_by}
+use Rattle.bng_steps.specs.Protocol.{ShardState, claimed_by}
 use Rattle.bng_shard.specs.Room.{has_tick, has_end}
-use Rattle.bng_steps.specs.Running.{AreTied, tenures_in}
+use Rattle.bng_steps.specs.Running.{AreTied, rows_in, tenures_in, whole}
 use Rattle.bng_steps.specs.Placed.{ArePlaced}
 
 -- how many outs a Tick and an End may still have that the round has not had
@@ -18,11 +19,27 @@ owed journal = cond (has_tick journal) 0 320 + cond (has_end journal) 0 320
 abbrev pub begun_in : List Entry → ℕ
 begun_in journal = length (flat_map (λ (e : Entry). claimed_by e.claim) journal)
 
+-- a shard that keeps this, as contracts see it
+abbrev pub shown_of : Body → ShardView ShardState Entry
+shown_of a = record {
+  number = a.served.sessions.shard;
+  state = record { rules = a.rules; slots = whole a.served a.terms; changed = a.changed.items };
+  rows = rows_in a.terms.rows;
+  books = a.profiles.books;
+  allowance = a.allowance;
+  journal = a.journal.items;
+  outs = a.outs.items;
+  sends = [];
+  stops = [];
+  starts = [];
+  room = a.room;
+}
+
 -- No term has a number above those that began, no two have one address, and each session's lease is that of a live term. As long as a
 -- round goes on, as many terms may begin still as the allowance is above those that began in it. At most 16 pools, a way to authenticate,
 -- and what each access port offers. At most 16 profiles, and of each its name and a book, in their order. Where a round has room for an
 -- entry, there is room for it, for its outs, for a term that it begins, and for what it is answered.
-pub record Fits (a : Inside) : Type 0 where
+pub record Fits (a : Body) : Type 0 where
   pub numbered : All (λ (r : Running). r.term.serial ≤ a.served.begun) a.terms.rows
   pub numbered_news : All (λ (r : Running). r.term.serial ≤ a.served.begun) a.terms.news
   pub apart : AllPairs (λ (b c : Running). b.lease ≢ c.lease) a.terms.rows

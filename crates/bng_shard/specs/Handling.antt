@@ -1,6 +1,6 @@
 -- What the calls of a shard do to its view, and to the table of addresses.
-use Rattle.std.specs.Prelude.{◌≡◌, ℕ, ◌+◌, ◌≤◌, Bool, List, [], ◌∷◌, ◌++◌, Some, length, slice_get, sum_by}
-use Rattle.std.specs.List.{All, AllByRecursion}
+use Rattle.std.specs.Prelude.{◌≡◌, ◌≢◌, ℕ, ◌+◌, ◌≤◌, Bool, List, [], ◌∷◌, ◌++◌, Some, length, nat_le, slice_get, sum_by}
+use Rattle.std.specs.List.{All, AllByRecursion, flat_map}
 use Rattle.bng_base.specs.declared.book.Book.{Book}
 use Rattle.bng_base.specs.declared.book.Range.{Range}
 use Rattle.bng_base.specs.declared.fate.Fate.{Fate}
@@ -19,7 +19,7 @@ use Rattle.bng_pool.specs.Tables.{Table, IsTaken, Puts, entry}
 use Rattle.bng_steps.specs.State.{reaped}
 use Rattle.bng_steps.specs.Hearing.{outs_most}
 use Rattle.bng_steps.specs.Sums.{Rises}
-use Rattle.bng_steps.specs.Protocol.{ShardState, terms_of, pppoe, packet_octets, ended_terms}
+use Rattle.bng_steps.specs.Protocol.{ShardState, terms_of, pppoe, packet_octets, ended_terms, claimed_by}
 
 -- each pool of the rules is a range of the table, at its place
 abbrev pub HasPools : List NamedRange → List Range → Type 0
@@ -29,6 +29,14 @@ HasPools pools ranges = (k : ℕ) (p : NamedRange) → slice_get pools k ≡ Som
 abbrev pub AreHeld : ℕ → List Term → Table → Type 0
 AreHeld shard terms table = All (λ (t : Term). entry table t.key.lease.0 ≡ Some shard) terms
 
+-- no term has this address
+abbrev pub IsUnused : ℕ → List Term → Type 0
+IsUnused a terms = All (λ (t : Term). t.key.lease.0 ≢ a) terms
+
+-- the shard's allowance of new terms is used up by the entries of its journal
+abbrev pub is_limited : ShardView ShardState Entry → Bool
+is_limited v = nat_le v.allowance (length (flat_map (λ (e : Entry). claimed_by e.claim) v.journal))
+
 -- the table answered so: it gave the shard an address that was free, or it held what was asked for already, and is as it was
 abbrev pub AnswersClaim : ℕ → Claim → PlainView → PlainView → Type 0
 AnswersClaim shard NoClaim pool pool' = pool' ≡ pool
@@ -36,6 +44,15 @@ AnswersClaim shard (Claimed a) pool pool' = Puts pool.table a.0 shard pool'.tabl
 AnswersClaim shard (Held a) pool pool' = IsTaken pool.table a.0 × (pool' ≡ pool)
 AnswersClaim shard (Exhausted k) pool pool' =
     ((r : Range) → slice_get pool.ranges k ≡ Some r → (b : ℕ) → InRange r b → IsTaken pool.table b) × (pool' ≡ pool)
+
+-- A shard handled one entry, which has what was answered where it asked for an address: what it did is a step, of at most 4,160 octets of
+-- packets and of few outs. What passed is in the tally of the entry's seat.
+pub record HandlesAs (v v' : ShardView ShardState Entry) (e : Entry) (fate : Fate) (tally tally' : Book) : Type 0 where
+  pub shown : HandlesEntry pppoe v e v'
+  pub fate_is : shown.effect.deed.fate ≡ fate
+  pub light : packet_octets shown.effect.deed.outs ≤ 4160
+  pub few : length shown.effect.deed.outs ≤ outs_most e.item.kind
+  pub tallied : Rises tally shown.effect.deed.outs tally'
 
 -- A shard handled one entry: what it did is a step, of at most 4,160 octets of packets and of few outs, and the table answered its claim.
 -- What passed is in the tally of the entry's seat. Each term of the shard holds its address, as before.

@@ -30,7 +30,7 @@ impl Shard {
         if !self.may_report(reports, now) {
             return None;
         }
-        match self.served.survey(reports, now) {
+        match self.body.served.survey(reports, now) {
             Survey::Owes(number) => {
                 let told = self.told_of(number);
                 reports.note(number, now);
@@ -50,14 +50,15 @@ impl Shard {
         ensures session { result.term.term.session ≡ number }
         ensures says { AnyOf (SaysOf result.term.user.items result.term.class.items result.term.began (key_of result.term)) self.now.state.slots.terms }
     {
-        let Some(session) = self.served.get(number) else {
+        let body = &*self.body;
+        let Some(session) = body.served.get(number) else {
             unreachable!();
         };
         let Some(lease) = session.lease() else {
             unreachable!();
         };
-        self.terms.are_rising();
-        let Some(told) = self.terms.told_of(lease.serial) else {
+        body.terms.are_rising();
+        let Some(told) = body.terms.told_of(lease.serial) else {
             unreachable!();
         };
         told

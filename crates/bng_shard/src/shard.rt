@@ -1,75 +1,49 @@
 //! One shard.
-ghost use Rattle.std.specs.Prelude.{ℕ, Some, drop, slice_get, IfSome, IfNone, ◌≡◌, ◌≢◌, ◌≤◌, ◌<◌, ◌+◌, ◌^◌, [], IfOk, OnOk, length, option_map, replicate};
+ghost use Rattle.std.specs.Prelude.{ℕ, Some, drop, slice_get, IfSome, IfNone, ◌≡◌, ◌≢◌, ◌≤◌, ◌<◌, ◌+◌, ◌^◌, [], IfOk, OnOk, length, option_map};
 ghost use Rattle.bng_engine.specs.Calls.{Kept, IsReady};
 ghost use Rattle.bng_engine.specs.Protocol.{IsOwned};
-ghost use Rattle.bng_engine.specs.Quantities.{empty_book};
+ghost use Rattle.bng_base.specs.declared.address.Ip4.{Ip4 as Address};
 ghost use Rattle.bng_engine.specs.Showing.{ChargesShown};
 ghost use Rattle.bng_engine.specs.Terms.{keys};
 ghost use Rattle.bng_engine.specs.Views.{row_keys};
 ghost use Rattle.bng_profile.specs.Books.{AreDifferent, names_of};
-ghost use Rattle.bng_steps.specs.Protocol.{SaysOf, TellsNew, ended_terms, entry_of, key_of, opened, pppoe, sessions_of, stop_of, terms_of};
-ghost use Rattle.bng_shard.specs.Handling.{AreHeld, Handles, HasPools, Leaves};
+ghost use Rattle.bng_steps.specs.Protocol.{SaysOf, TellsNew, ended_terms, entry_of, entry_with, key_of, opened, pppoe, sessions_of, stop_of, terms_of};
+ghost use Rattle.bng_shard.specs.Fits.{Fits, shown_of};
+ghost use Rattle.bng_shard.specs.Handling.{AreHeld, Handles, HandlesAs, HasPools, IsUnused, Leaves, is_limited};
 ghost use Rattle.bng_shard.specs.Room.{Admits};
-ghost use Rattle.bng_steps.specs.declared.session.Session.{Session as Seen};
-ghost use Rattle.bng_steps.specs.Interims.{AwaitsInterims, owed, row_in, row_told, with_report};
-ghost use Rattle.bng_sessions.specs.Sessions.{IsNumberOf, value_at};
+ghost use Rattle.bng_sessions.specs.Sessions.{IsNumberOf};
 ghost use Rattle.std.specs.List.{All, AllPairs};
-ghost use Rattle.bng_engine.specs.Lists.{AnyOf};
 ghost use Rattle.bng_pool.specs.Tables.{TableFrees};
 ghost use Rattle.bng_steps.specs.State.{reaped};
 ghost use Rattle.bng_steps.specs.Tenures.{LeavesTerms, Tenure};
+ghost use Rattle.bng_steps.specs.Wished.{IsAnswered, IsWished, MayWish};
 ghost use Rattle.bng_steps.specs.Sums.{charged_as, AreCovered, AreLow, IsLow, RowsAreLow};
 
+use crate::body::{Body, books_of};
 use crate::claim::{ask, left_after};
 use crate::indexed::Indexed;
 use crate::rooms::{handed_out, is_lent, reserve_amply};
-use bng_base::{At, Batch, Book, Entry, Fate, Item, LONGEST, OutRecord, SessionNo, Static};
+use bng_base::{At, Batch, Book, Claim, Entry, Fate, Item, LONGEST, OutRecord, Static};
 use bng_coa::ChangeVerdict;
 use bng_pool::PlainPool;
-use bng_profile::Profiles;
 use bng_steps::{
-    Answer, Charged, EndedTerm, Incoming, LiveTerm, ReportedTerm, Reports, Rules, Served,
-    ShardError, Survey, Terms, book, charged_as, hear, stop_from, tally, wish_for,
+    Charged, EndedTerm, Incoming, LiveTerm, Rules, Served, ShardError, Terms, Wish, book,
+    charged_as, hear, stop_from, tally, wish_for,
 };
-use std::alloc::{AllocError, Global};
+use std::alloc::Global;
 use std::marker::Model;
-use std::mem;
 
 /// The sessions and the L2TP tunnels of one shard, with the provisioned circuits whose numbers are the shard's. Contracts see it as the
 /// engine does: its rules, what it serves by them and what it answered to requests for changes, a row for each term with what it carried, a
 /// book for each profile, and of a round that is going on its allowance of new terms, the journal, what is to be sent, and for how many
 /// items more there is room.
 pub struct Shard {
-    rules: Rules,
-    pub(crate) served: Served<Indexed>,
-    pub(crate) terms: Terms,
-    pub(crate) profiles: Profiles,
-    pub(crate) allowance: u32,
-    // how many terms may still begin in the round
-    left: u32,
-    journal: Batch<Entry>,
-    outs: Batch<OutRecord>,
-    pub(crate) changed: Vec<Answer>,
-    room: usize,
-    // whether a journal was handed out with its memory, and no list was given for the next ones since
-    lent: bool,
+    pub(crate) body: Box<Body>,
 }
 
 impl Drop for Shard {
     fn drop(self) {
-        let Shard {
-            rules: _,
-            served: _,
-            terms: _,
-            profiles: _,
-            allowance: _,
-            left: _,
-            journal: _,
-            outs: _,
-            changed: _,
-            room: _,
-            lent: _,
-        } = self;
+        let Shard { body: _ } = self;
     }
 }
 
@@ -85,24 +59,20 @@ impl Model for Shard {
 
     ghost coded = { Prim.hlevel (codes, state_code) };
 
-    ghost use Rattle.bng_steps.specs.Running.{rows_in, whole};
-    ghost use Rattle.bng_shard.specs.Fits.{Fits};
+    ghost use Rattle.bng_shard.specs.Fits.{Fits, shown_of};
 
-    ghost view = { λ a. record { number = a.served.sessions.shard; state = record { rules = a.rules; slots = whole a.served a.terms; changed = a.changed.items }; rows = rows_in a.terms.rows; books = a.profiles.books; allowance = a.allowance; journal = a.journal.items; outs = a.outs.items; sends = []; stops = []; starts = []; room = a.room } };
+    ghost view = { λ a. shown_of a.body.value };
 
-    ghost invariant = { Fits };
+    ghost invariant = { λ a. Fits a.body.value };
 }
 
-// A book for each profile of these rules, in which nothing stands.
-fn books_of(alloc: Global, rules: &Rules) -> Result<Profiles, ShardError>
-    requires some_profile { 0 < length rules.now.profiles }
-    requires few_profiles { length rules.now.profiles ≤ 16 }
-    requires different { AreDifferent (names_of rules.now.profiles) }
-    ensures names { IfOk result (λ p. p.names ≡ names_of rules.now.profiles) }
-    ensures books { IfOk result (λ p. p.books ≡ replicate (length rules.now.profiles) empty_book) }
+// A shard that keeps this.
+fn boxed(alloc: Global, body: Body) -> Result<Shard, ShardError>
+    requires fits { Fits body }
+    ensures shown { IfOk result (λ s. s ≡ shown_of body) }
 {
-    match Profiles::open(alloc, rules.profiles.as_slice()) {
-        Ok(profiles) => Ok(profiles),
+    match Box::new(alloc, body) {
+        Ok(body) => Ok(Shard { body }),
         Err(_) => Err(ShardError::OutOfMemory),
     }
 }
@@ -153,7 +123,7 @@ impl Shard {
         let Ok(terms) = Terms::open(alloc, number, circuits, now) else {
             return Err(ShardError::OutOfMemory);
         };
-        Ok(Shard {
+        let body = Body {
             rules,
             served,
             terms,
@@ -165,7 +135,9 @@ impl Shard {
             changed: Vec::new(alloc),
             room: 0,
             lent: false,
-        })
+        };
+        let shard = boxed(alloc, body)?;
+        Ok(shard)
     }
 
     /// Makes room for a round of so many items: for an entry and ten outs of each, for a term that it begins, and for the outs of a Tick
@@ -182,21 +154,98 @@ impl Shard {
         ensures few { sessions_of self.new.state ≤ 1022 }
     {
         let items = usize::from(items);
-        self.room = 0;
-        self.allowance = allowance;
-        self.left = allowance;
-        prove!(self.served.count() <= 1022);
-        if !reserve_amply(&mut self.journal, &mut self.outs, items) {
+        let body = &mut *self.body;
+        body.room = 0;
+        body.allowance = allowance;
+        body.left = allowance;
+        prove!(body.served.count() <= 1022);
+        if !reserve_amply(&mut body.journal, &mut body.outs, items) {
             return Err(ShardError::OutOfMemory);
         }
-        if !self.terms.reserve(items) {
+        if !body.terms.reserve(items) {
             return Err(ShardError::OutOfMemory);
         }
-        if self.changed.reserve(items).is_err() {
+        if body.changed.reserve(items).is_err() {
             return Err(ShardError::OutOfMemory);
         }
-        self.room = items;
+        body.room = items;
         Ok(())
+    }
+
+    /// The rules by which it works: its items are judged by them.
+    pub fn rules(&self) -> &Rules
+        ensures { result.now ≡ self.now.state.rules }
+    {
+        let body = &*self.body;
+        &body.rules
+    }
+
+    /// What an item asks of the pools of addresses, as things stand in the round: one address, any address of one pool, or nothing. What
+    /// it asks is an address that a pool of the rules has, or a pool that is there.
+    pub fn wish(&self, item: &Item) -> Wish
+        requires room { 0 < self.now.room }
+        ensures wished { IsWished self.now.state.rules self.now.state.slots item.now (is_limited self.now) result }
+        ensures may { MayWish self.now.state.rules.pools result }
+    {
+        let body = &*self.body;
+        wish_for(&body.served, &body.rules, item, body.left == 0)
+    }
+
+    /// Handles an item that stood at this place of this seat's list, at the round's moment in milliseconds, below 2^60, and answers
+    /// its fate before its sends. `claim` is what was answered to what the item asks of the pools; an address that was claimed is that
+    /// of no term of the shard. It appends one entry to the journal, and takes no memory. What passes is entered in the seat's tally,
+    /// `ledger`, and in the book of its term's profile. A round has at most one Tick and one End for a shard.
+    pub fn step_with(
+        &mut self,
+        seat: u16,
+        place: u16,
+        now: u64,
+        item: &Item,
+        claim: Claim,
+        ledger: &mut Book,
+    ) -> Fate
+        requires room { 0 < self.old.room }
+        requires once { Admits self.old item.now.kind }
+        requires moment { now < 2 ^ 60 }
+        requires whole { item.now.frame.headroom ≡ 64 }
+        requires low_books { AreLow (2 ^ 63) self.old.books }
+        requires low_ledger { IsLow (2 ^ 63) ledger.old }
+        requires answered { IsAnswered self.old.state.rules self.old.state.slots item.now (is_limited self.old) claim }
+        requires unused { (a : Address) → claim ≡ Claim.Claimed a → IsUnused a.0 (terms_of self.old.state) }
+        ensures { HandlesAs self.old self.new (entry_with claim seat place now item.now) result ledger.old ledger.new }
+    {
+        prove!(item.frame.payload().len() <= LONGEST);
+        let body = &mut *self.body;
+        let at = At {
+            shard: body.served.shard(),
+            seat,
+            place,
+        };
+        let before = body.outs.as_slice().len();
+        let limited = body.left == 0;
+        body.terms.are_rising();
+        let incoming = Incoming {
+            rules: &body.rules,
+            at,
+            moment: now,
+            item,
+        };
+        let fate = hear(
+            &mut body.served,
+            &mut body.terms,
+            &incoming,
+            claim,
+            limited,
+            &mut body.changed,
+            &mut body.outs,
+        );
+        body.left = left_after(body.left, claim);
+        let sends = &body.outs.as_slice()[before..];
+        book(&mut body.profiles, sends);
+        tally(ledger, sends);
+        body.journal.push_entry(seat, place, now, item, claim);
+        body.room -= 1;
+        fate
     }
 
     /// Handles an item that stood at this place of this seat's list, at the round's moment in milliseconds, below 2^60, and answers
@@ -223,39 +272,15 @@ impl Shard {
         requires held { AreHeld self.old.number (terms_of self.old.state) pool.old.table }
         ensures { Handles self.old self.new pool.old pool.new (entry_of seat place now item.now) result ledger.old ledger.new }
     {
-        prove!(item.frame.payload().len() <= LONGEST);
-        let at = At {
-            shard: self.served.shard(),
-            seat,
-            place,
-        };
-        let before = self.outs.as_slice().len();
-        let limited = self.left == 0;
-        let wish = wish_for(&self.served, &self.rules, item, limited);
-        let claim = ask(pool, &self.rules, at.shard, wish);
-        self.terms.are_rising();
-        let incoming = Incoming {
-            rules: &self.rules,
-            at,
-            moment: now,
-            item,
-        };
-        let fate = hear(
-            &mut self.served,
-            &mut self.terms,
-            &incoming,
-            claim,
-            limited,
-            &mut self.changed,
-            &mut self.outs,
-        );
-        self.left = left_after(self.left, claim);
-        let sends = &self.outs.as_slice()[before..];
-        book(&mut self.profiles, sends);
-        tally(ledger, sends);
-        self.journal.push_entry(seat, place, now, item, claim);
-        self.room -= 1;
-        fate
+        let wish = self.wish(item);
+        let claim = ask(pool, self.rules(), self.number(), wish);
+        self.step_with(seat, place, now, item, claim, ledger)
+    }
+
+    fn number(&self) -> u16
+        ensures { result ≡ self.now.number }
+    {
+        self.body.served.shard()
     }
 
     /// Hands out the journal of the round and what is to be sent for it. A list with nothing on it has no memory: the shard keeps its own.
@@ -264,12 +289,36 @@ impl Shard {
         ensures outs { result.1.items ≡ self.old.outs }
         ensures after { self.new ≡ record self.old { journal = []; outs = []; room = 0 } }
     {
-        let alloc = self.terms.allocator();
-        self.room = 0;
-        let journal = handed_out(&mut self.journal, alloc);
-        let outs = handed_out(&mut self.outs, alloc);
-        self.lent = is_lent(self.lent, &journal);
+        let body = &mut *self.body;
+        let alloc = body.terms.allocator();
+        body.room = 0;
+        let journal = handed_out(&mut body.journal, alloc);
+        let outs = handed_out(&mut body.outs, alloc);
+        body.lent = is_lent(body.lent, &journal);
         (journal, outs)
+    }
+
+    /// Hands out the first term in order that has ended, by its session number and then by its own: its address is still to be given
+    /// back, and no other term has it. None exactly where no ended term is left; then every session that ended has left. It is called
+    /// once the outs of the round were sent and charged.
+    pub fn take_ended(&mut self) -> Option<EndedTerm>
+        ensures one { IfSome result (λ e. Leaves self.old self.new (stop_of e)) }
+        ensures says { IfSome result (λ e. (t : Tenure) × SaysOf e.user.items e.class.items e.began (stop_of e).key t
+            × LeavesTerms self.old.state.slots.terms self.new.state.slots.terms t) }
+        ensures unused { IfSome result (λ e. IsUnused e.address.0 (terms_of self.new.state)) }
+        ensures none { IfNone result ((ended_terms self.old.state ≡ [])
+            × (self.new ≡ record self.old { state = record self.old.state { slots = reaped self.old.state.slots }; room = 0 })) }
+        ensures few { sessions_of self.new.state ≤ 1022 }
+    {
+        let body = &mut *self.body;
+        body.room = 0;
+        let Some(row) = body.terms.take_first_over() else {
+            body.served.settle();
+            prove!(body.served.count() <= 1022);
+            return None;
+        };
+        prove!(body.served.count() <= 1022);
+        stop_from(row)
     }
 
     /// Hands out the first term in order that has ended, by its session number and then by its own: its address is given back to the
@@ -286,15 +335,9 @@ impl Shard {
         ensures held { AreHeld self.new.number (terms_of self.new.state) pool.new.table }
         ensures few { sessions_of self.new.state ≤ 1022 }
     {
-        self.room = 0;
-        let Some(row) = self.terms.take_first_over() else {
-            self.served.settle();
-            prove!(self.served.count() <= 1022);
-            return None;
-        };
-        prove!(self.served.count() <= 1022);
-        pool.give_back(row.lease);
-        stop_from(row)
+        let ended = self.take_ended()?;
+        pool.give_back(ended.address);
+        Some(ended)
     }
 
     /// Hands out the first term in order of those of whose beginning no Start was formed yet. None exactly where there is none.
@@ -303,7 +346,8 @@ impl Shard {
             × TellsNew self.old.state.slots self.new.state.slots tenure × (self.new ≡ record self.old { state = record self.old.state { slots = self.new.state.slots } })) }
         ensures none { IfNone result ((self.old.state.slots.news ≡ []) × (self.new ≡ self.old)) }
     {
-        let row = self.terms.take_first_new()?;
+        let body = &mut *self.body;
+        let row = body.terms.take_first_new()?;
         Some(row.shown())
     }
 
@@ -313,11 +357,12 @@ impl Shard {
         ensures first { result ≡ option_map (λ a. (a.ask, a.verdict)) (slice_get self.old.state.changed 0) }
         ensures after { self.new ≡ record self.old { state = record self.old.state { changed = drop 1 self.old.state.changed }; room = 0 } }
     {
-        self.room = 0;
-        if self.changed.is_empty() {
+        let body = &mut *self.body;
+        body.room = 0;
+        if body.changed.is_empty() {
             return None;
         }
-        let answer = self.changed.remove(0);
+        let answer = body.changed.remove(0);
         Some((answer.ask, answer.verdict))
     }
 
@@ -328,14 +373,15 @@ impl Shard {
         requires journal { self.old.journal ≡ [] }
         ensures { self.new ≡ record self.old { room = 0 } }
     {
-        self.room = 0;
-        self.journal = list;
-        self.lent = false;
+        let body = &mut *self.body;
+        body.room = 0;
+        body.journal = list;
+        body.lent = false;
     }
 
     /// Whether a list for the journals to come would serve: one with memory was handed out, and none came in its place.
     pub fn wants_journal(&self) -> bool {
-        self.lent
+        self.body.lent
     }
 
     /// The same for what is to be sent.
@@ -344,8 +390,9 @@ impl Shard {
         requires outs { self.old.outs ≡ [] }
         ensures { self.new ≡ record self.old { room = 0 } }
     {
-        self.room = 0;
-        self.outs = list;
+        let body = &mut *self.body;
+        body.room = 0;
+        body.outs = list;
     }
 
     /// Takes the answer to the send of an out that `drain` handed out: where it was sent, its packet is added to its term's row, and
@@ -357,7 +404,8 @@ impl Shard {
         ensures after { ChargesShown pppoe self.old out.now self.new }
         ensures answer { result ≡ charged_as out.now.charge }
     {
-        self.terms.settle(&mut self.profiles, out);
+        let body = &mut *self.body;
+        body.terms.settle(&mut body.profiles, out);
         charged_as(out.charge)
     }
 }

@@ -22,28 +22,28 @@ impl Shard {
     pub fn allowance(&self) -> u32
         ensures { result ≡ self.now.allowance }
     {
-        self.allowance
+        self.body.allowance
     }
 
     /// How many terms began, from the opening on.
     pub fn begun(&self) -> u64
         ensures { result ≡ self.now.state.slots.begun }
     {
-        self.served.begun()
+        self.body.served.begun()
     }
 
     /// How many sessions there are, provisioned circuits among them.
     pub fn sessions(&self) -> u32
         ensures { result ≡ sessions_of self.now.state }
     {
-        self.served.count()
+        self.body.served.count()
     }
 
     /// The earliest deadline of its sessions and its tunnels, in milliseconds; none exactly where none has one.
     pub fn due(&self) -> Option<u64>
         ensures { result ≡ deadline_of self.now.state }
     {
-        self.served.due()
+        self.body.served.due()
     }
 
     /// What passed under the profile at this place, from 0, of those of the rules, and was not taken off.
@@ -52,14 +52,14 @@ impl Shard {
         ensures book { result ≡ book_at profile self.now.books }
         ensures number { length self.now.books ≡ length self.now.state.rules.profiles }
     {
-        self.profiles.book(profile)
+        self.body.profiles.book(profile)
     }
 
     /// What the term that has this address carried; none exactly where no term has it.
     pub fn carried(&self, address: Ip4) -> Option<Traffic>
         ensures { result ≡ option_map traffic_in (row_at self.now.rows address) }
     {
-        self.terms.carried_by(address)
+        self.body.terms.carried_by(address)
     }
 
     /// The octets and the packets that the terms that are there, those of which no Stop was handed out yet, carried together: from
@@ -68,7 +68,7 @@ impl Shard {
         requires low { (q : Quantity) (input : Bool) → in_book q input (live_in self.now.rows) < 2 ^ 64 }
         ensures { result ≡ live_in self.now.rows }
     {
-        self.terms.live()
+        self.body.terms.live()
     }
 
     /// The term at this place, from 0, of those that are there, by their numbers: which it is, its circuit and its address. One that
@@ -77,7 +77,7 @@ impl Shard {
         ensures keys { option_map key_of result ≡ slice_get (row_keys self.now.rows) place }
         ensures says { IfSome result (λ t. AnyOf (SaysOf t.user.items t.class.items t.began (key_of t)) self.now.state.slots.terms) }
     {
-        self.terms.term_at(place)
+        self.body.terms.term_at(place)
     }
 
     /// Hands out the open question of the lowest session number that was not handed out yet; none exactly where there is none. Which
@@ -89,7 +89,7 @@ impl Shard {
         ensures handed { IfSome result (λ a. handed.new ≡ handed_after handed.old a.number) }
         ensures kept { IfNone result (handed.new ≡ handed.old) }
     {
-        let ask = self.served.first_waiting(handed)?;
+        let ask = self.body.served.first_waiting(handed)?;
         handed.note(ask.number);
         Some(ask)
     }
@@ -99,7 +99,7 @@ impl Shard {
         ensures none { result ≡ false → (handed : List ℕ) → waiting self.now.state.slots handed ≡ [] }
         ensures some { result ≡ true → (n : ℕ) × IsSome (open_ask_at self.now.state.slots n) }
     {
-        self.served.has_open()
+        self.body.served.has_open()
     }
 
     /// Whether there is a term of whose beginning no Start was formed yet: `fresh` hands out none exactly where there is none.
@@ -107,7 +107,7 @@ impl Shard {
         ensures none { result ≡ false → self.now.state.slots.news ≡ [] }
         ensures some { result ≡ true → self.now.state.slots.news ≢ [] }
     {
-        self.terms.has_news()
+        self.body.terms.has_news()
     }
 
     /// Whether an Interim may be due at this moment, in milliseconds: `interim` hands out none where none may be. Which were taken is kept
@@ -128,7 +128,7 @@ impl Shard {
     pub fn has_changed(&self) -> bool
         ensures some { result ≡ not (are_none self.now.state.changed) }
     {
-        !self.changed.is_empty()
+        !self.body.changed.is_empty()
     }
 
     /// Whether nothing that ended is still there, no term and no session: `reap` hands out none then, and lets no session leave.
@@ -137,7 +137,8 @@ impl Shard {
         ensures unsettled { result ≡ false → ended_terms self.now.state ≡ [] → reaped self.now.state.slots ≢ self.now.state.slots }
         ensures few { sessions_of self.now.state ≤ 1022 }
     {
-        prove!(self.served.count() <= 1022);
-        !self.terms.has_over() && !self.served.has_leaving()
+        let body = &*self.body;
+        prove!(body.served.count() <= 1022);
+        !body.terms.has_over() && !body.served.has_leaving()
     }
 }

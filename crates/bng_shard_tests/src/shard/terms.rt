@@ -22,6 +22,7 @@ use std::alloc::Global;
 use std::process::Abort;
 use std::test::Fail;
 
+mod handing;
 mod shown;
 
 use shown::{carried, first, leaves, second, shows};

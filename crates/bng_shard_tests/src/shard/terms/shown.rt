@@ -24,7 +24,7 @@ fn is_term(shown: &LiveTerm, term: (TermId, Circuit, Ip4)) -> bool {
 }
 
 // The term that ended is this one, and it carried nothing.
-fn is_end(ended: &EndedTerm, term: (TermId, Circuit, Ip4)) -> bool {
+pub(super) fn is_end(ended: &EndedTerm, term: (TermId, Circuit, Ip4)) -> bool {
     (ended.term, ended.circuit, ended.address) == term
         && ended.user.as_slice() == b"f".as_slice()
         && ended.began == 0

@@ -1,3 +1,5 @@
+use Rattle.bng_shard.specs.declared.body.Body.{Body}
+use Rattle.bng_shard.specs.Fits.{Fits}
 use Rattle.std.proofs.Common.{◌≤◌, sym, ap, subst, ◌∙◌, arith}
 use Rattle.std.specs.List.{All}
 use Rattle.bng_steps.specs.declared.terms.Running.{Running}
@@ -7,16 +9,17 @@ use Rattle.bng_shard.proofs.shard.Shard.charge.Goals as goal
 
 pub invariant_of-self : goal.invariant_of-self
 invariant_of-self c =
-    let was = c.self.invariant in
-    let begun = c.self.inside.served.begun in
-    let t = c.self.inside.terms in
+    let a : Body = c.deref_mut-body.result.now in
+    let was : Fits c.deref_mut-body.result.now = subst Fits (sym c.deref_mut-body.ensures.value) c.self.invariant in
+    let begun = a.served.begun in
+    let t = a.terms in
     let t' = c.settle.new.self in
     let keys = same_keys t.rows t'.rows c.settle.ensures.terms in
     record {
       numbered = same_numbered begun t.rows t'.rows keys was.numbered;
       numbered_news = subst (All (λ (r : Running). r.term.serial ≤ begun)) (sym (ap (λ (v : TermsView). v.news) c.settle.ensures.others)) was.numbered_news;
       apart = same_apart t.rows t'.rows keys was.apart;
-      tied = subst (AreTied c.self.inside.served.sessions) (sym c.settle.ensures.terms) was.tied;
+      tied = subst (AreTied a.served.sessions) (sym c.settle.ensures.terms) was.tied;
       left = was.left;
       numbers = was.numbers;
       placed = was.placed;

@@ -1,9 +1,10 @@
-use Rattle.std.proofs.Common.{ap, arith, length}
+use Rattle.bng_shard.specs.Fits.{Fits}
+use Rattle.std.proofs.Common.{ap, arith, length, subst, sym}
 use Rattle.bng_shard.proofs.shard.Shard.drain.Goals as goal
 
 pub invariant_of-self : goal.invariant_of-self
 invariant_of-self c =
-    let was = c.self.invariant in
+    let was : Fits c.deref_mut-body.result.now = subst Fits (sym c.deref_mut-body.ensures.value) c.self.invariant in
     record {
       numbered = was.numbered;
       numbered_news = was.numbered_news;

@@ -1,4 +1,6 @@
-use Rattle.std.proofs.Common.{◌≤◌, ◌≢◌, false, List, sym, ap, subst, arith}
+use Rattle.bng_shard.specs.declared.body.Body.{Body}
+use Rattle.bng_shard.specs.Fits.{Fits, shown_of}
+use Rattle.std.proofs.Common.{◌≤◌, ◌≢◌, false, List, sym, ap, subst, arith, ◌∙◌}
 use Rattle.std.specs.List.{All, AllPairs}
 use Rattle.bng_steps.specs.declared.terms.Running.{Running}
 use Rattle.bng_steps.specs.Running.{AreTied, TermsView, tenure_in, tenures_in}
@@ -8,8 +10,8 @@ use Rattle.bng_shard.proofs.shard.Shard.fresh.Goals as goal
 
 pub invariant_of-self-2 : goal.invariant_of-self-2
 invariant_of-self-2 c =
-    let was = c.self.invariant in
-    let a = c.self.inside in
+    let a : Body = c.deref_mut-body.result.now in
+    let was : Fits c.deref_mut-body.result.now = subst Fits (sym c.deref_mut-body.ensures.value) c.self.invariant in
     let news = c.take_first_new.new.self.news in
     let one = c.in_ok-row.ensures.one in
     let rows = sym (ap (λ (v : TermsView). v.rows) one.1) in
@@ -35,10 +37,11 @@ invariant_of-self-2 c =
 
 pub returns-clause-some : goal.returns-clause-some
 returns-clause-some c =
-    let a = c.self.inside in
+    let a : Body = c.deref_mut-body.result.now in
+    let seen = ap shown_of c.deref_mut-body.ensures.value ∙ c.self.view_is in
     let t = c.take_first_new.new.self in
     let one = c.in_ok-row.ensures.one in
-    rw (← c.self.view_is) (
+    rw (← seen) (
       tenure_in c.in_ok-row.row,
       c.shown.ensures.says,
       tells_so a.rules a.served a.changed.items a.profiles.books a.allowance a.journal.items a.outs.items a.terms t c.in_ok-row.row one.0 one.1,

@@ -1,3 +1,5 @@
+use Rattle.bng_shard.specs.declared.body.Body.{Body}
+use Rattle.bng_shard.specs.Fits.{shown_of}
 use Rattle.std.proofs.Common.{List, ap, refl, sym, ◌∙◌}
 use Rattle.std.specs.Prelude.{drop, slice_get}
 use Rattle.bng_base.specs.declared.item.Entry.{Entry}
@@ -22,40 +24,44 @@ returns-then-not-may_report-clause-all c = c.if-not-may_report.ensures.awaits re
 
 pub returns-in-Owes-clause-first : goal.returns-in-Owes-clause-first
 returns-in-Owes-clause-first c =
-    let a = c.self.inside in
+    let a : Body = c.deref.result.now in
+    let seen = ap shown_of c.deref.ensures ∙ c.self.view_is in
     let n = c.in-Owes.number in
     let last = c.args.reports.now.last in
     let now = c.args.now in
     let h = c.in-Owes.ensures in
     let r = row_told c.told_of-told.result in
     let noted = ap (λ (t : Reports). reported_at t.last n) (sym c.note.ensures.after) ∙ c.note.ensures.noted in
-    let row = ap (λ (v : ShardView ShardState Entry). row_in v.rows h.session) c.self.view_is
-    ∙ c.told_of-told.ensures.row h.session (ap (λ (v : ShardView ShardState Entry). value_at v.state.slots.sessions n.0) (sym c.self.view_is) ∙ h.found) in
-    rw (← c.self.view_is) (sym (ap (λ (rs : List Row). slice_get rs 0) (first_owing a.served last now n h noted (rows_in a.terms.rows) r row)))
+    let row = ap (λ (v : ShardView ShardState Entry). row_in v.rows h.session) seen
+    ∙ c.told_of-told.ensures.row h.session (ap (λ (v : ShardView ShardState Entry). value_at v.state.slots.sessions n.0) (sym seen) ∙ h.found) in
+    rw (← seen) (sym (ap (λ (rs : List Row). slice_get rs 0) (first_owing a.served last now n h noted (rows_in a.terms.rows) r row)))
 
 pub returns-in-Owes-clause-rest : goal.returns-in-Owes-clause-rest
 returns-in-Owes-clause-rest c =
-    let a = c.self.inside in
+    let a : Body = c.deref.result.now in
+    let seen = ap shown_of c.deref.ensures ∙ c.self.view_is in
     let n = c.in-Owes.number in
     let last = c.args.reports.now.last in
     let now = c.args.now in
     let h = c.in-Owes.ensures in
     let r = row_told c.told_of-told.result in
     let noted = ap (λ (t : Reports). reported_at t.last n) (sym c.note.ensures.after) ∙ c.note.ensures.noted in
-    let row = ap (λ (v : ShardView ShardState Entry). row_in v.rows h.session) c.self.view_is
-    ∙ c.told_of-told.ensures.row h.session (ap (λ (v : ShardView ShardState Entry). value_at v.state.slots.sessions n.0) (sym c.self.view_is) ∙ h.found) in
+    let row = ap (λ (v : ShardView ShardState Entry). row_in v.rows h.session) seen
+    ∙ c.told_of-told.ensures.row h.session (ap (λ (v : ShardView ShardState Entry). value_at v.state.slots.sessions n.0) (sym seen) ∙ h.found) in
     ap (λ (t : Reports). owed c.args.self.now t.last now) c.note.ensures.after
-    ∙ rw (← c.self.view_is) (sym (ap (drop 1) (first_owing a.served last now n h noted (rows_in a.terms.rows) r row)))
+    ∙ rw (← seen) (sym (ap (drop 1) (first_owing a.served last now n h noted (rows_in a.terms.rows) r row)))
 
 pub returns-in-None-clause-first : goal.returns-in-None-clause-first
 returns-in-None-clause-first c =
-    let a = c.self.inside in
+    let a : Body = c.deref.result.now in
+    let seen = ap shown_of c.deref.ensures ∙ c.self.view_is in
     let none = none_owing (rows_in a.terms.rows) a.served.sessions c.args.reports.now.last c.args.now (λ n x is. first_part c.args.now c.in-None.until _ (c.in-None.ensures.later n x is)) in
-    rw (← c.self.view_is) (sym (ap (λ (rs : List Row). slice_get rs 0) none))
+    rw (← seen) (sym (ap (λ (rs : List Row). slice_get rs 0) none))
 
 pub returns-in-None-clause-rest : goal.returns-in-None-clause-rest
 returns-in-None-clause-rest c =
-    let a = c.self.inside in
+    let a : Body = c.deref.result.now in
+    let seen = ap shown_of c.deref.ensures ∙ c.self.view_is in
     let none = none_owing (rows_in a.terms.rows) a.served.sessions c.args.reports.now.last c.args.now (λ n x is. first_part c.args.now c.in-None.until _ (c.in-None.ensures.later n x is)) in
     ap (λ (t : Reports). owed c.args.self.now t.last c.args.now) c.wait_until.ensures
-    ∙ rw (← c.self.view_is) (none ∙ sym (ap (drop 1) none))
+    ∙ rw (← seen) (none ∙ sym (ap (drop 1) none))
