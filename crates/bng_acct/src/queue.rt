@@ -69,7 +69,7 @@ impl Queue {
         ensures waiting { self.new.waiting ≡ self.old.waiting ++ result ∷ [] }
         ensures most { self.new.most ≡ self.old.most }
     {
-        let number = self.sheets.add(sheet);
+        let number = self.sheets.put(sheet);
         self.waiting.push(number);
         number
     }
@@ -102,7 +102,7 @@ impl Queue {
         ensures most { self.new.most ≡ self.old.most }
         ensures kept { IfNone result (self.new ≡ self.old) }
     {
-        let sheet = self.sheets.remove(number)?;
+        let sheet = self.sheets.take(number)?;
         if sheet.handed {
             return Some(sheet);
         }

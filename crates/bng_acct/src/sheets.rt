@@ -121,7 +121,7 @@ impl Sheets {
     }
 
     /// Adds a record, under the lowest number that no open one has.
-    pub(crate) fn add(&mut self, sheet: Sheet) -> u32
+    pub(crate) fn put(&mut self, sheet: Sheet) -> u32
         requires { count self.old.places < self.old.room }
         ensures free { sheet_at self.old.places result ≡ None }
         ensures lowest { AreUsed self.old.places 0 result }
@@ -140,7 +140,7 @@ impl Sheets {
     }
 
     /// Takes a record out. Its number is free again.
-    pub(crate) fn remove(&mut self, number: u32) -> Option<Sheet>
+    pub(crate) fn take(&mut self, number: u32) -> Option<Sheet>
         ensures value { result ≡ sheet_at self.old.places number }
         ensures sets { Sets self.old.places self.new.places number None }
         ensures counts { count self.new.places + (if is_some result then 1 else 0) ≡ count self.old.places }
