@@ -14,7 +14,7 @@ one x = cond (is_some x) 1 0
 counted : (x : Option Sheet) → is_some x ≡ true → one x ≡ 1
 counted x h = ap (λ (b : Bool). cond b 1 0) h
 
-nothing : is_some {A = Sheet} None ≡ true → ⊥
+nothing : is_some (sheet_at [] 0) ≡ true → ⊥
 nothing h = cc
 
 -- there are as many records as numbers below one that are all used, or more

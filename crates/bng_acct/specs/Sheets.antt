@@ -22,3 +22,7 @@ pub record IsTable (places : List (Option Sheet)) (full : List Bool) (room capac
   pub fits : room < 2 ^ 32
   pub has_room : room ≤ capacity
   pub rows : length full ≡ room / 64 + 1
+
+-- a record that is handed out
+abbrev pub handed : Sheet → Sheet
+handed x = record x { handed = true }

@@ -1,9 +1,9 @@
 //! Open records by number. A new one gets the lowest number that no open one has.
-ghost use Rattle.std.specs.Prelude.{◌≡◌, ◌<◌, ◌≤◌, ◌+◌, ◌*◌, ◌^◌, ℕ, [], None, Some, IfOk, IfSome, IfNone, is_some, not, if◌then◌else◌, true, length};
-ghost use Rattle.std.specs.Option.{option_copied};
+ghost use Rattle.std.specs.Prelude.{◌≡◌, ◌<◌, ◌≤◌, ◌+◌, ◌*◌, ◌^◌, ℕ, [], None, Some, IfOk, IfSome, IfNone, is_some, not, if◌then◌else◌, true, length, max, vec_capacity};
+ghost use Rattle.std.specs.Option.{option_copied, option_map};
 ghost use Rattle.bng_acct.specs.declared.sheet.Sheet.{Sheet};
 ghost use Rattle.bng_acct.specs.Queue.{sheet_at, count, Sets};
-ghost use Rattle.bng_acct.specs.Sheets.{AreUsed, AreFull};
+ghost use Rattle.bng_acct.specs.Sheets.{AreUsed, AreFull, handed};
 
 use crate::sheet::Sheet;
 use std::alloc::{AllocError, Global};
@@ -58,24 +58,49 @@ fn free_in(places: &[Option<Sheet>], row: usize) -> Option<usize>
 }
 
 // The lowest number that no record has. Each row that is looked through and has none is marked.
-fn lowest_free(places: &[Option<Sheet>], full: &mut Vec<bool>) -> usize
-    requires marked { AreFull places.now full.old.items }
+fn lowest_free(places: &Vec<Option<Sheet>>, full: &mut Vec<bool>) -> usize
+    requires marked { AreFull places.now.items full.old.items }
     requires few { length full.old.items < 2 ^ 32 }
-    requires room { count places.now < 64 * length full.old.items }
-    ensures free { sheet_at places.now result ≡ None }
-    ensures lowest { AreUsed places.now 0 result }
-    ensures marked { AreFull places.now full.new.items }
+    requires room { count places.now.items < 64 * length full.old.items }
+    ensures free { sheet_at places.now.items result ≡ None }
+    ensures lowest { AreUsed places.now.items 0 result }
+    ensures marked { AreFull places.now.items full.new.items }
     ensures rows { length full.new.items ≡ length full.old.items }
 {
     for row in 0..full.len() {
         if !full[row] {
-            match free_in(places, row) {
+            match free_in(places.as_slice(), row) {
                 Some(number) => return number,
                 None => full[row] = true,
             }
         }
     }
     unreachable!()
+}
+
+// A record in a place that is empty, or in one more behind the others.
+fn fill(places: &mut Vec<Option<Sheet>>, number: usize, sheet: Sheet)
+    requires free { sheet_at places.old.items number ≡ None }
+    requires next { number ≤ length places.old.items }
+    requires room { number < vec_capacity places.old }
+    ensures sets { Sets places.old.items places.new.items number (Some sheet) }
+    ensures counts { count places.new.items ≡ count places.old.items + 1 }
+    ensures length { length places.new.items ≡ max (length places.old.items) (number + 1) }
+    ensures capacity { vec_capacity places.new ≡ vec_capacity places.old }
+{
+    if number == places.len() {
+        places.push_reserved(None);
+    }
+    places[number] = Some(sheet);
+}
+
+// The record in a place, if there is one, is handed out.
+fn hand(place: &mut Option<Sheet>)
+    ensures { place.new ≡ option_map handed place.old }
+{
+    if let Some(sheet) = place {
+        sheet.handed = true;
+    }
 }
 
 impl Sheets {
@@ -115,8 +140,8 @@ impl Sheets {
         ensures counts { count self.new.places ≡ count self.old.places }
         ensures room { self.new.room ≡ self.old.room }
     {
-        if let Some(Some(sheet)) = self.places.get_mut(number as usize) {
-            sheet.handed = true;
+        if (number as usize) < self.places.len() {
+            hand(&mut self.places[number as usize]);
         }
     }
 
@@ -130,12 +155,8 @@ impl Sheets {
         ensures counts { count self.new.places ≡ count self.old.places + 1 }
         ensures room { self.new.room ≡ self.old.room }
     {
-        let number = lowest_free(self.places.as_slice(), &mut self.full);
-        if number < self.places.len() {
-            self.places[number] = Some(sheet);
-        } else {
-            self.places.push_reserved(Some(sheet));
-        }
+        let number = lowest_free(&self.places, &mut self.full);
+        fill(&mut self.places, number, sheet);
         number as u32
     }
 
