@@ -1,7 +1,7 @@
 -- The colours of the packets for which a session's meter is asked, between two entries that begin its term or change its profile.
 use Rattle.std.proofs.Common.{◌≡◌, ◌≢◌, ◌⊎◌, inl, inr, ℕ, zero, suc, ◌+◌, ◌-◌, ◌*◌, ◌%◌, ◌<◌, ◌≤◌, Bool, true, false, not, cond, List, [], ◌∷◌, ◌++◌, length, map, max, Option, Some, None, refl, sym, ap, subst, ◌∙◌, arith}
 use Rattle.std.specs.Prelude.{IsSome, nat_le, if◌then◌else◌, option_map, slice_get, slice_index_or, slice_set}
-use Rattle.std.specs.List.{All, AllPairs}
+use Rattle.std.specs.List.{All, AllPairs, range_with_len}
 use Rattle.std.proofs.lemmas.Bool.{cases_eq, ne_eqb}
 use Rattle.std.proofs.lemmas.List.FromFn.{length-range_with_len}
 use Rattle.std.proofs.lemmas.List.{get_or-set_same, get_or-set_other, length-set, length-append, length-map, length-replicate}
@@ -45,9 +45,9 @@ use Rattle.bng_steps.specs.Datagrams.{HearsTunnelData}
 use Rattle.bng_steps.specs.Deed.{Deed, arrival_in, handled, only}
 use Rattle.bng_steps.specs.Frames.{HearsData, HearsFrame, HearsPacket, found_among, found_down, found_up}
 use Rattle.bng_steps.specs.Metered.{meters_at, meters_of, no_meters, plan_at, plan_in, spent_input, spent_output, view_in, view_of}
-use Rattle.bng_steps.specs.Opening.{opened_meters, opened_slots}
+use Rattle.bng_steps.specs.Opening.{circuit_at, circuit_meters, opened_meters, opened_slots}
 use Rattle.bng_steps.specs.Passing.{place_in, with_passed}
-use Rattle.bng_steps.specs.State.{State, call_of, holder_of, is_kept, session_of, settled}
+use Rattle.bng_steps.specs.State.{State, call_of, holder_of, is_kept, mru_in, passes_in, session_of, settled}
 use Rattle.bng_steps.specs.Step.{Hears, Step}
 use Rattle.bng_steps.specs.Tenures.{Tenure}
 use Rattle.bng_steps.proofs.Changing.{found_is}
@@ -89,8 +89,8 @@ pub opened_stands : (number : ℕ) (profiles : List Profile) (circuits : List St
 unfolding opened_meters
 opened_stands number profiles circuits now low own apart = record {
   sound = opened_sound now number circuits apart profiles low own;
-  passed = length-replicate 1024 0;
-  meters = length-map _ _ ∙ length-range_with_len (number * 1024) 1024;
+  passed = length-replicate {A = ℕ} 1024 0;
+  meters = length-map (range_with_len (number * 1024) 1024) (λ (k : ℕ). circuit_meters profiles now (circuit_at circuits k)) ∙ length-range_with_len (number * 1024) 1024;
 }
 
 -- Places -------------------------------------------------------------------------------------------------------------------
@@ -98,7 +98,7 @@ opened_stands number profiles circuits now low own apart = record {
 -- a session's number is one of the shard's
 number_is : (s : State) (k : ℕ) (x : Session) → Stands s → value_at s.sessions k ≡ Some x → IsNumberOf s.sessions.shard x.number.0
 number_is s k x stands at =
-    subst (IsNumberOf s.sessions.shard) (sym (stands.sound.own k x at)) (stands.sound.of_shard k (subst IsSome (sym at) tt))
+    subst (IsNumberOf s.sessions.shard) (sym (stands.sound.own k x at)) (stands.sound.of_shard k (subst IsSome (sym at) refl))
 
 -- two numbers of a shard have two places
 apart_places : (shard m n : ℕ) → IsNumberOf shard m → IsNumberOf shard n → m ≢ n → m % 1024 ≢ n % 1024
@@ -293,16 +293,19 @@ red_other false e = absurd (e refl)
 
 -- Entries for which a meter is asked ---------------------------------------------------------------------------------------
 
+abbrev made_view : Meters → Session → Lease → TermView
+made_view ms x l = record { lease = l.address; opened = passes_in x.service; mru = mru_in x.service; input = ms.input; output = ms.output }
+
 -- the meters of a session's view are the session's
 its_meters : (ms : Meters) (x : Session) (view : TermView) → view_of ms x ≡ Some view → (view.input ≡ ms.input) × (view.output ≡ ms.output)
 its_meters ms x view e =
-    elim x.lease as (λ (o : Option Lease). option_map _ o ≡ Some view → (view.input ≡ ms.input) × (view.output ≡ ms.output)) [
+    elim x.lease as (λ (o : Option Lease). option_map (made_view ms x) o ≡ Some view → (view.input ≡ ms.input) × (view.output ≡ ms.output)) [
       | None ↦ λ none. absurd (none_some view none)
-      | Some l ↦ λ is. let same = same_some _ view is in (ap (λ (v : TermView). v.input) (sym same), ap (λ (v : TermView). v.output) (sym same))
+      | Some l ↦ λ is. let same = same_some (made_view ms x l) view is in (ap (λ (v : TermView). v.input) (sym same), ap (λ (v : TermView). v.output) (sym same))
     ] e
 
 its_view : (ms : Meters) (x : Session) (l : Lease) → x.lease ≡ Some l → (view : TermView) × (view_of ms x ≡ Some view)
-its_view ms x l leased = (_, ap (option_map _) leased)
+its_view ms x l leased = (made_view ms x l, ap (option_map (made_view ms x)) leased)
 
 -- so the packet went on and took its tokens, or was Red and took none
 abbrev pub Answered : Bool → ℕ → State → State → (now octets : ℕ) → Bool → Type 0
@@ -456,10 +459,10 @@ module _ (r : Rules) (input : Bool) (n : ℕ) where
       → reds ≡ map (λ o. false) offers
   along_none [] s offers reds stands number none course stays (o, b) = b ∙ sym (ap (map (λ (x : Offer). false)) o)
   along_none (Settles ∷ ms) s offers reds stands number none course stays (inl (offer, red, asks, rest)) = absurd asks
-  along_none (Settles ∷ ms) s offers reds stands number none course stays (inr (no, more)) = along_none ms (settled s) offers reds (settled_stands s stands) number none course.1 stays more
-  along_none (Handles limited d ∷ ms) s offers reds stands number none course stays (inr (no, more)) =
+  along_none (Settles ∷ ms) s offers reds stands number none course stays (inr (unasked, more)) = along_none ms (settled s) offers reds (settled_stands s stands) number none course.1 stays more
+  along_none (Handles limited d ∷ ms) s offers reds stands number none course stays (inr (unasked, more)) =
       along_none ms d.next offers reds (step_stands r s limited d course.0 stands) (subst (λ (k : ℕ). IsNumberOf k n) (sym (shard_kept r s limited d course.0)) number)
-      (unasked_noted r s limited d input n stands number no stays.0 (step_noted r s limited d course.0) ∙ none) course.1 stays.1 more
+      (unasked_noted r s limited d input n stands number unasked stays.0 (step_noted r s limited d course.0) ∙ none) course.1 stays.1 more
   along_none (Handles limited d ∷ ms) s offers reds stands number none course stays (inl (offer, red, asks, more, more_reds, rest, o, b)) =
       let (octets, is, answered) = asked_answered r s limited d n stands input offer red course.0 asks in
       let next = step_stands r s limited d course.0 stands in
@@ -475,11 +478,11 @@ module _ (r : Rules) (input : Bool) (n : ℕ) where
       → NoneRenews r n s ms → Offers input n r s ms offers reds → (reds ≡ map is_red (colours_kept b offers)) × Rise floor offers
   along_some [] s floor b offers reds stands number has low course rises stays (o, c) = (c ∙ sym (ap (λ (os : List Offer). map is_red (colours_kept b os)) o), subst (Rise floor) (sym o) tt)
   along_some (Settles ∷ ms) s floor b offers reds stands number has low course rises stays (inl (offer, red, asks, rest)) = absurd asks
-  along_some (Settles ∷ ms) s floor b offers reds stands number has low course rises stays (inr (no, more)) =
+  along_some (Settles ∷ ms) s floor b offers reds stands number has low course rises stays (inr (unasked, more)) =
       along_some ms (settled s) floor b offers reds (settled_stands s stands) number has low course.1 rises stays more
-  along_some (Handles limited d ∷ ms) s floor b offers reds stands number has low course rises stays (inr (no, more)) =
+  along_some (Handles limited d ∷ ms) s floor b offers reds stands number has low course rises stays (inr (unasked, more)) =
       let later = along_some ms d.next d.entry.moment b offers reds (step_stands r s limited d course.0 stands) (subst (λ (k : ℕ). IsNumberOf k n) (sym (shard_kept r s limited d course.0)) number)
-      (unasked_noted r s limited d input n stands number no stays.0 (step_noted r s limited d course.0) ∙ has) (omega (arith, low, rises.0)) course.1 rises.1 stays.1 more in
+      (unasked_noted r s limited d input n stands number unasked stays.0 (step_noted r s limited d course.0) ∙ has) (omega (arith, low, rises.0)) course.1 rises.1 stays.1 more in
       (later.0, rise_from floor d.entry.moment offers rises.0 later.1)
   along_some (Handles limited d ∷ ms) s floor b offers reds stands number has low course rises stays (inl (offer, red, asks, more, more_reds, rest, o, c)) =
       let (octets, is, answered) = asked_answered r s limited d n stands input offer red course.0 asks in
