@@ -7,6 +7,7 @@ pub mod Sides
 pub mod Heights
 pub mod Forks
 pub mod StopPlaces
+pub mod Tables
 pub mod Queues
 pub mod Rows
 pub mod Marks

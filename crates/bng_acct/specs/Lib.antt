@@ -5,6 +5,7 @@ pub mod Roster
 pub mod Branch
 pub mod Tree
 pub mod Queue
+pub mod Sheets
 pub mod Row
 pub mod Spool
 pub mod Consistent

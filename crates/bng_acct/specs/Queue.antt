@@ -43,13 +43,12 @@ abbrev pub AllBelow : List (Option Sheet) → ℕ → Type 0
 AllBelow sheets most = (n : ℕ) (x : Sheet) → sheet_at sheets n ≡ Some x → n < most
 
 -- the open records and the numbers of those that wait, where numbers are below a bound
-pub record IsQueue (sheets : List (Option Sheet)) (numbers : List ℕ) (most bound room : ℕ) : Type 0 where
-  pub most_fit : most ≤ bound
-  pub bound_fits : bound < 2 ^ 32
-  pub room_is : room ≡ bound
+pub record IsQueue (sheets : List (Option Sheet)) (numbers : List ℕ) (most room : ℕ) : Type 0 where
+  pub most_fits : most < 2 ^ 32
+  pub room_is : room ≡ most
   pub wait : AreWaiting sheets numbers
   pub all_wait : AllWait sheets numbers
-  pub below : AllBelow sheets bound
+  pub below : AllBelow sheets most
 
 -- the number has this, and each other number has what it had
 pub record Sets (old new : List (Option Sheet)) (n : ℕ) (x : Option Sheet) : Type 0 where

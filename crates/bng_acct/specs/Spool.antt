@@ -15,6 +15,7 @@ use Rattle.bng_acct.specs.declared.held.Held.{Held}
 use Rattle.bng_acct.specs.Request.{AreClasses, HoldsRequest}
 use Rattle.bng_acct.specs.Roster.{of_term, Rises, Puts, Removes}
 use Rattle.bng_acct.specs.Queue.{sheet_at, Sets}
+use Rattle.bng_acct.specs.Sheets.{AreUsed}
 
 -- The open records are those that were formed and are neither acknowledged nor forgotten. The spool knows each by its
 -- number, the numbers of those that were not handed out in the order in which the records were formed, and by session and
@@ -123,9 +124,11 @@ pub record IsReady (r : Record) : Type 0 where
 abbrev pub IsAdmitted : State → TermId → Type 0
 IsAdmitted s t = IsSome (of_term t s.held) ⊎ (length s.held < s.rules.terms)
 
--- a record of this kind, these facts and this moment is open from then on, and waits behind those that wait
+-- a record of this kind, these facts and this moment is open from then on, under the lowest number that no open record has,
+-- and waits behind those that wait
 pub record Forms (old new : State) (status : StatusType) (facts : TermFacts) (moment : Moment) (n : ℕ) : Type 0 where
   pub fresh : sheet_at old.sheets n ≡ None
+  pub lowest : AreUsed old.sheets 0 n
   pub sheet : Sheet
   pub sets : Sets old.sheets new.sheets n (Some sheet)
   pub status_is : sheet.record.status ≡ status

@@ -31,7 +31,8 @@ pub struct Moment {
     pub cause: u8,
 }
 
-/// The number of a record. It is no other record's as long as the spool knows it.
+/// The number of a record: the lowest, from 0, that no record had that the spool knew when it was formed. It is no other
+/// record's as long as the spool knows it.
 #[derive(Clone, Copy, PartialEq, Eq)]
 pub struct RecordNo(pub u32);
 

@@ -17,6 +17,7 @@ mod record;
 mod roster;
 mod rules;
 mod sheet;
+mod sheets;
 mod spares;
 mod spool;
 pub mod texts;

@@ -1,23 +1,22 @@
 //! The records that are open, by their numbers, and those of them that were not handed out, in their order.
 ghost use Rattle.std.specs.Prelude.{◌≡◌, ◌<◌, ◌≤◌, ◌+◌, ◌*◌, ◌^◌, ◌++◌, ◌∷◌, ◌↔◌, [], None, Some, IfOk, IfSome, IfNone, is_some, if◌then◌else◌, false, true, length};
 ghost use Rattle.std.specs.Option.{option_copied};
-ghost use Rattle.slab.specs.Slab.{get, slab_len};
 ghost use Rattle.bng_acct.specs.declared.sheet.Sheet.{Sheet};
 ghost use Rattle.bng_acct.specs.Queue.{sheet_at, count, without, Sets, HandsOut, AreWaiting, AllBelow};
+ghost use Rattle.bng_acct.specs.Sheets.{AreUsed};
 
 use crate::line::Line;
 use crate::rules::SpoolError;
 use crate::sheet::Sheet;
-use slab::Slab;
+use crate::sheets::Sheets;
 use std::alloc::Global;
 use std::marker::Model;
 
 /// The open records. All their memory is taken by `open`.
 #[derive(Drop)]
 pub(crate) struct Queue {
-    sheets: Slab<Sheet>,
+    sheets: Sheets,
     waiting: Line,
-    most: usize,
 }
 
 impl Model for Queue {
@@ -25,49 +24,30 @@ impl Model for Queue {
 
     ghost Value = { Open };
 
-    ghost view = { λ q. record { sheets = q.sheets.slots; waiting = q.waiting.numbers; most = q.most } };
+    ghost view = { λ q. record { sheets = q.sheets.places; waiting = q.waiting.numbers; most = q.sheets.room } };
 
-    ghost invariant = { λ q. IsQueue q.sheets.slots q.waiting.numbers q.most q.sheets.capacity q.waiting.room };
-}
-
-// Marks a record as handed out.
-fn mark_handed(sheets: &mut Slab<Sheet>, number: u32)
-    ensures sets { (x : Sheet) → get sheets.old number ≡ Some x → Sets sheets.old.slots sheets.new.slots number (Some (record x { handed = true })) }
-    ensures counts { slab_len sheets.new ≡ slab_len sheets.old }
-    ensures capacity { sheets.new.capacity ≡ sheets.old.capacity }
-{
-    if let Some(sheet) = sheets.get_mut(number as usize) {
-        sheet.handed = true;
-    }
+    ghost invariant = { λ q. IsQueue q.sheets.places q.waiting.numbers q.sheets.room q.waiting.room };
 }
 
 impl Queue {
     pub(crate) fn open(alloc: Global, most: usize) -> Result<Queue, SpoolError>
+        requires { most < 2 ^ 32 }
         ensures { IfOk result (λ q. q ≡ record { sheets = []; waiting = []; most = most }) }
     {
-        let Ok(sheets) = Slab::with_capacity(alloc, most) else {
+        let Ok(sheets) = Sheets::open(alloc, most) else {
             return Err(SpoolError::OutOfMemory);
         };
-        // A number has 32 bits.
-        let bound = sheets.capacity();
-        if bound > 0xffff_ffff {
-            return Err(SpoolError::OutOfMemory);
-        }
-        let Ok(waiting) = Line::open(alloc, bound as u32) else {
+        let Ok(waiting) = Line::open(alloc, most as u32) else {
             return Err(SpoolError::OutOfMemory);
         };
-        Ok(Queue {
-            sheets,
-            waiting,
-            most,
-        })
+        Ok(Queue { sheets, waiting })
     }
 
     /// The record with this number, if it is open.
     pub(crate) fn get(&self, number: u32) -> Option<&Sheet>
         ensures { option_copied result ≡ sheet_at self.now.sheets number }
     {
-        self.sheets.get(number as usize)
+        self.sheets.get(number)
     }
 
     /// A number above those of all records.
@@ -75,20 +55,21 @@ impl Queue {
         ensures below { AllBelow self.now.sheets result }
         ensures waiting { AreWaiting self.now.sheets self.now.waiting }
     {
-        self.sheets.capacity() as u32
+        self.sheets.room() as u32
     }
 
-    /// Adds a record, which waits from then on, and answers its number.
+    /// Adds a record, which waits from then on, and answers its number, the lowest that no open one has.
     pub(crate) fn add(&mut self, sheet: Sheet) -> u32
         requires room { count self.old.sheets < self.old.most }
         requires fresh { sheet.handed ≡ false }
         ensures fresh { sheet_at self.old.sheets result ≡ None }
+        ensures lowest { AreUsed self.old.sheets 0 result }
         ensures sets { Sets self.old.sheets self.new.sheets result (Some sheet) }
         ensures counts { count self.new.sheets ≡ count self.old.sheets + 1 }
         ensures waiting { self.new.waiting ≡ self.old.waiting ++ result ∷ [] }
         ensures most { self.new.most ≡ self.old.most }
     {
-        let number = self.sheets.insert_reserved(sheet) as u32;
+        let number = self.sheets.put(sheet);
         self.waiting.push(number);
         number
     }
@@ -108,7 +89,7 @@ impl Queue {
     {
         let number = self.waiting.first()?;
         self.waiting.remove(number);
-        mark_handed(&mut self.sheets, number);
+        self.sheets.mark_handed(number);
         Some(number)
     }
 
@@ -121,7 +102,7 @@ impl Queue {
         ensures most { self.new.most ≡ self.old.most }
         ensures kept { IfNone result (self.new ≡ self.old) }
     {
-        let sheet = self.sheets.try_remove(number as usize)?;
+        let sheet = self.sheets.take(number)?;
         if sheet.handed {
             return Some(sheet);
         }

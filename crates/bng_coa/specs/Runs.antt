@@ -7,12 +7,13 @@ use Rattle.bng_coa.specs.declared.request.Stage.{Stage}
 use Rattle.bng_coa.specs.declared.request.Stage.TheVariants.{InHand, Answered}
 use Rattle.bng_coa.specs.Requests.{is_same, is_in_hand, is_numbered, is_numbered_at, standing, admitted}
 
--- A request is admitted at a moment: no equal one stood, and it is in hand from then on, under a number that no other in
--- hand has. Fewer than 256 were in hand.
+-- A request is admitted at a moment: no equal one stood, and it is in hand from then on, under the lowest number that no
+-- other in hand has. Fewer than 256 were in hand.
 pub record IsTakenIn (old new : List Request) (key : Key) (packet : List ℕ) (now number : ℕ) : Type 0 where
   pub few : count_by is_in_hand old < 256
   pub anew : standing now key old ≡ None
   pub free : IsFalse (list_any (is_numbered number) old)
+  pub lowest : (n : ℕ) → n < number → IsTrue (list_any (is_numbered n) old)
   pub list : new ≡ admitted now (record { key = key; admitted_at = now; stage = InHand number packet }) old
 
 -- the request that was in hand under the number is answered by this reply

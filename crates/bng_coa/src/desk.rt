@@ -137,8 +137,8 @@ impl CoaDesk {
     }
 
     /// What a datagram of this sender is, at this moment in milliseconds and this second since 1970: a new request, which is
-    /// in hand under a number from now on; a request whose reply is kept, with the reply; a request in hand; or nothing,
-    /// for the first cause that holds. Requests are equal where the sender, the code, the Identifier and the authenticator
+    /// in hand from now on under the lowest number that no request in hand has; a request whose reply is kept, with the
+    /// reply; a request in hand; or nothing, for the first cause that holds. Requests are equal where the sender, the code, the Identifier and the authenticator
     /// are. A reply is kept for 30 s from the moment of the request's `admit`, and where 256 requests are in hand or have a
     /// kept reply, the first of the replies is forgotten for a new one. Condition: fewer than 256 are in hand.
     pub fn admit(&mut self, from: Peer, bytes: &[u8], now: u64, wall: u64) -> Admitted

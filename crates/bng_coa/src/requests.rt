@@ -1,4 +1,4 @@
-ghost use Rattle.std.specs.Prelude.{◌≡◌, ◌<◌, ◌≤◌, ◌++◌, ◌∷◌, IsTrue, IsFalse, IfOk, IfSome, [], length, filter, find, position, slice_get, slice_set, Some, count_by};
+ghost use Rattle.std.specs.Prelude.{ℕ, ◌≡◌, ◌<◌, ◌≤◌, ◌++◌, ◌∷◌, IsTrue, IsFalse, IfOk, IfSome, [], length, filter, find, position, slice_get, slice_set, Some, count_by};
 ghost use Rattle.std.specs.List.{list_any};
 ghost use Rattle.std.specs.Option.{option_copied, option_map};
 ghost use Rattle.bng_coa.specs.declared.request.Request.{Request};
@@ -85,7 +85,8 @@ impl Requests {
     /// The lowest number that no request in hand has.
     pub fn free_number(&self) -> u32
         requires { count_by is_in_hand self.now < 256 }
-        ensures { IsFalse (list_any (is_numbered result) self.now) }
+        ensures free { IsFalse (list_any (is_numbered result) self.now) }
+        ensures lowest { (n : ℕ) → n < result → IsTrue (list_any (is_numbered n) self.now) }
     {
         for number in 0..256 {
             if !self.has(number) {
