@@ -1,6 +1,5 @@
 //! Octets outside each grammar, and floods. Replies and requests of RADIUS that are passed over stand with the logins and with the refusals,
 //! and a flood of SCCRQs with the tunnels.
-use super::assert_status;
 use super::authentication::stop;
 use super::concentrator::{PLAIN, SCCRP, SCCRQ, STOPS_EARLY, TUNNELS, tells};
 use super::discovery::NOTHING;
@@ -11,7 +10,7 @@ use super::logins::run_in;
 use super::reports::{Counted, assert_report};
 use super::running::{SERVE, run_by, run_over};
 use super::sent::{OVER, STOPPING, Sent, sends_list};
-use super::{Ended, loopback};
+use super::{Ended, assert_status, loopback};
 use crate::asserts::{assert_count, assert_same};
 use bng_base::{Datagram, Peer, Role};
 use bng_plant::{Arrival, MemoryPlant};
