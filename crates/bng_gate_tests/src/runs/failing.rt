@@ -172,10 +172,10 @@ impl Ends {
     fn hear(&mut self, bytes: &[u8]) -> Result<(), AllocError>
         ensures kept { self.new.faults ≡ self.old.faults }
     {
-        match response_to(bytes) {
-            Some(response) => self.answers.push(response),
-            None => Ok(()),
+        if let Some(response) = response_to(bytes) {
+            self.answers.push(response)?;
         }
+        Ok(())
     }
 }
 
