@@ -1,4 +1,4 @@
-"""Hostile datagrams at every end of the gateway, COUNT of them (200000) by the seed SEED (one of the clock) and for SECONDS (420) at most, while
+"""Hostile datagrams at every end of the gateway, COUNT of them (200000) by the seed SEED (one of the clock) and for SECONDS (360) at most, while
 honest subscribers log in, send and get packets and hang up over PPPoE and L2TP.
 
 Mutated, cut, repeated, late and spliced copies of all that subscribers, access concentrators, a RADIUS server, a client for changes, an
@@ -24,7 +24,7 @@ from peers.segment import Segment
 from peers.storm import ASKING, FAULTS, SHARDS, Storm
 
 # Datagrams, and seconds for them: the sessions that are there then take a while to end, so that it is all within ten minutes.
-COUNT, SECONDS = 200_000, 420
+COUNT, SECONDS = 200_000, 360
 
 TABLES = """\
 [[access]]
