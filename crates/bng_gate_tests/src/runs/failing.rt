@@ -393,7 +393,7 @@ fn tries_each(rt: &impl Abort, row: &Row, input: &[u8], stops: usize) {
     assert_count(rt, tries(row, Role::Acct, START), 1);
     assert_count(rt, tries(row, Role::Control, b"stopping\n"), 1);
     assert_count(rt, tries(row, Role::Acct, STOP), stops);
-    assert_count(rt, row.ends.tried.len(), 3 + stops);
+    assert_count(rt, row.ends.tried.len(), stops.saturating_add(3));
     let stop = first_try(row, Role::Acct, STOP).expect(rt, "a Stop");
     assert_holds(
         rt,
