@@ -209,10 +209,11 @@ impl Plant for Ends {
     }
 
     fn send(&mut self, role: Role, to: Peer, bytes: &[u8]) -> Sending {
-        self.lost = self.tried.len();
+        let place = self.tried.len();
         let kept = self.keep(role, to, bytes);
         self.tried_core = self.tried_core || role == Role::Core;
         if !self.goes_on(Call::Send(role)) {
+            self.lost = place;
             return Sending::Failed;
         }
         if kept.is_err() || role == Role::Acct && self.hear(bytes).is_err() {
@@ -268,7 +269,7 @@ struct Fails {
     out: u64,
 }
 
-const NONE: Fails = Fails {
+const NO_CALL: Fails = Fails {
     plant: 0,
     read: 0,
     seed: 0,
@@ -287,7 +288,7 @@ struct Row {
 }
 
 /// The ends with their clock at the moment 0.
-fn ends(alloc: Global, fails: u64) -> Result<(Ends, Moments), AllocError> {
+fn make_ends(alloc: Global, fails: u64) -> Result<(Ends, Moments), AllocError> {
     let moment = Rc::new(alloc, Cell::new(0))?;
     let clock = Moments {
         moment: moment.clone()?,
@@ -297,7 +298,7 @@ fn ends(alloc: Global, fails: u64) -> Result<(Ends, Moments), AllocError> {
 }
 
 /// A trace with room for all rounds, of which the note of this number fails.
-fn trace(alloc: Global, fails: u64) -> Result<MemoryTrace, AllocError> {
+fn make_trace(alloc: Global, fails: u64) -> Result<MemoryTrace, AllocError> {
     let mut list = Vec::new(alloc);
     list.push(fails)?;
     MemoryTrace::new(alloc, list, 8, 256)
@@ -309,7 +310,7 @@ fn run_row<R: Threads + Wait + Sync>(
     alloc: Global,
     fails: Fails,
 ) -> Result<Row, AllocError> {
-    let (mut plant, mut clock) = ends(alloc, fails.plant)?;
+    let (mut plant, mut clock) = make_ends(alloc, fails.plant)?;
     let failures = Failures {
         reads: &[fails.read],
         outs: &[fails.out],
@@ -317,7 +318,7 @@ fn run_row<R: Threads + Wait + Sync>(
     };
     let mut beside = around_failing(alloc, &SERVE, CONFIGURATION, failures)?;
     let mut entropy = seed(alloc, &[fails.seed])?;
-    let mut trace = trace(alloc, fails.note)?;
+    let mut trace = make_trace(alloc, fails.note)?;
     let status = run_with(
         rt,
         alloc,
@@ -500,7 +501,7 @@ fn each_call_of_the_plant_fails_in_turn(rt: HostRuntime) -> Result<(), Fail> {
             alloc,
             Fails {
                 plant: call,
-                ..NONE
+                ..NO_CALL
             },
         )?;
         let Some(failed) = row.ends.failed else {
@@ -518,13 +519,21 @@ fn each_call_of_the_plant_fails_in_turn(rt: HostRuntime) -> Result<(), Fail> {
 #[test]
 fn without_its_file_or_a_seed_nothing_is_opened(rt: HostRuntime) -> Result<(), Fail> {
     let alloc = rt.alloc();
-    let unread = run_row(&rt, alloc, Fails { read: 1, ..NONE })?;
+    let unread = run_row(&rt, alloc, Fails { read: 1, ..NO_CALL })?;
     is_unopened(&rt, &unread, b"bng: cannot open configuration\n");
-    let unseeded = run_row(&rt, alloc, Fails { seed: 1, ..NONE })?;
+    let unseeded = run_row(&rt, alloc, Fails { seed: 1, ..NO_CALL })?;
     is_unopened(&rt, &unseeded, b"bng: cannot open seed\n");
     // neither is asked for twice
-    is_whole(&rt, alloc, &run_row(&rt, alloc, Fails { read: 2, ..NONE })?)?;
-    is_whole(&rt, alloc, &run_row(&rt, alloc, Fails { seed: 2, ..NONE })?)?;
+    is_whole(
+        &rt,
+        alloc,
+        &run_row(&rt, alloc, Fails { read: 2, ..NO_CALL })?,
+    )?;
+    is_whole(
+        &rt,
+        alloc,
+        &run_row(&rt, alloc, Fails { seed: 2, ..NO_CALL })?,
+    )?;
     Ok(())
 }
 
@@ -543,7 +552,7 @@ fn untold<R: Threads + Wait + Sync + Abort>(
         alloc,
         Fails {
             note: round,
-            ..NONE
+            ..NO_CALL
         },
     )?;
     ends_with(rt, &row, 5, b"", b"bng: trace failed\n");
@@ -561,7 +570,7 @@ fn each_note_fails_in_turn(rt: HostRuntime) -> Result<(), Fail> {
         untold(&rt, alloc, *round, *tried)?;
     }
     // the grace is not told
-    let row = run_row(&rt, alloc, Fails { note: 4, ..NONE })?;
+    let row = run_row(&rt, alloc, Fails { note: 4, ..NO_CALL })?;
     assert_count(&rt, row.trace.heads().len(), 3);
     is_whole(&rt, alloc, &row)?;
     Ok(())
@@ -573,7 +582,7 @@ fn unheard<R: Threads + Wait + Sync + Abort>(
     alloc: Global,
     words: &[&str],
 ) -> Result<(), AllocError> {
-    let (mut plant, mut clock) = ends(alloc, 0)?;
+    let (mut plant, mut clock) = make_ends(alloc, 0)?;
     let failures = Failures {
         reads: &[],
         outs: &[],
@@ -599,12 +608,16 @@ fn unheard<R: Threads + Wait + Sync + Abort>(
 #[test]
 fn a_text_that_is_not_written_is_told_by_the_status(rt: HostRuntime) -> Result<(), Fail> {
     let alloc = rt.alloc();
-    let row = run_row(&rt, alloc, Fails { out: 1, ..NONE })?;
+    let row = run_row(&rt, alloc, Fails { out: 1, ..NO_CALL })?;
     assert_same(&rt, &row.status, &5);
     assert_octets(&rt, row.beside.err(), b"bng: output failed\n");
     tries_each(&rt, &row, IN_84, 1);
     // the report is one write, and the whole run writes nothing to the output of errors
-    is_whole(&rt, alloc, &run_row(&rt, alloc, Fails { out: 2, ..NONE })?)?;
+    is_whole(
+        &rt,
+        alloc,
+        &run_row(&rt, alloc, Fails { out: 2, ..NO_CALL })?,
+    )?;
     unheard(&rt, alloc, &[])?;
     unheard(&rt, alloc, &["serve", "missing.toml"])?;
     Ok(())
