@@ -1,5 +1,5 @@
-"""Hostile datagrams at every end of the gateway, COUNT of them (200000) by the seed SEED (one of the clock), while honest subscribers log in,
-send and get packets and hang up over PPPoE and L2TP.
+"""Hostile datagrams at every end of the gateway, COUNT of them (200000) by the seed SEED (one of the clock) and for SECONDS (360) at most, while
+honest subscribers log in, send and get packets and hang up over PPPoE and L2TP.
 
 Mutated, cut, repeated, late and spliced copies of all that subscribers, access concentrators, a RADIUS server, a client for changes, an
 operator and the core send come from those ends and from strangers. It fails where an honest subscriber is not let in, loses a packet or gets
@@ -23,7 +23,8 @@ from peers.pppoe import BROADCAST, DISCOVERY, HOST_UNIQ, PADI, SERVICE_NAME, Fra
 from peers.segment import Segment
 from peers.storm import ASKING, FAULTS, SHARDS, Storm
 
-COUNT = 200_000
+# Datagrams, and seconds for them: the sessions that are there then take a while to end, so that it is all within ten minutes.
+COUNT, SECONDS = 200_000, 360
 
 TABLES = """\
 [[access]]
@@ -189,8 +190,8 @@ def lost_in_sockets(ports):
     return sum(int(row[12]) for row in rows if int(row[1].split(":")[1], 16) in ports)
 
 
-def play(count, seed, program=PROGRAM):
-    """Runs the gateway in the storm, and gives the world that is left."""
+def play(count, seed, program=PROGRAM, seconds=SECONDS):
+    """Runs the gateway in the storm, for so many seconds at most, and gives the world that is left."""
     access2 = Segment()
     held = udp()
     port2 = held.getsockname()[1]
@@ -202,7 +203,7 @@ def play(count, seed, program=PROGRAM):
         world = World(lab, seed, access2)
         began = time.monotonic()
         world.make_probes(40)
-        while world.hurled < count and not World.is_interrupted and world.step() and len(world.faults) < FAULTS:
+        while world.hurled < count and time.monotonic() - began < seconds and not World.is_interrupted and world.step() and len(world.faults) < FAULTS:
             pass
         world.seconds = time.monotonic() - began
         calm(world)
@@ -295,16 +296,17 @@ def tell(world):
 
 
 def main():
-    words = usage.heed("hostile", __doc__, "COUNT", "SEED")
+    words = usage.heed("hostile", __doc__, "COUNT", "SEED", "SECONDS")
     count = int(words[0]) if words else COUNT
     seed = int(words[1]) if len(words) > 1 else int(time.time())
+    seconds = int(words[2]) if len(words) > 2 else SECONDS
     program = os.environ.get("BNG_PROGRAM", PROGRAM)
     if not os.access(program, os.X_OK):
         print("hostile: skipped, since the program is not built: ./bng does it")
         return 0
-    print(f"hostile: runs {program}, {count} datagrams by the seed {seed}", flush=True)
+    print(f"hostile: runs {program}, {count} datagrams by the seed {seed}, for {seconds} s at most", flush=True)
     signal.signal(signal.SIGINT, lambda *_: setattr(World, "is_interrupted", True))
-    world = play(count, seed, program)
+    world = play(count, seed, program, seconds)
     tell(world)
     return 1 if world.faults else 0
 

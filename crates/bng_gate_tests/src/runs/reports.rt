@@ -48,7 +48,7 @@ fn push_rest(text: &mut String, counted: &Counted<'_>) -> Result<(), AllocError>
 }
 
 /// The report, where each term has its Stop.
-fn report(alloc: Global, counted: &Counted<'_>) -> Result<String, AllocError> {
+pub(super) fn report(alloc: Global, counted: &Counted<'_>) -> Result<String, AllocError> {
     let octets = counted.octets;
     let mut text = String::new(alloc);
     write!(

@@ -2,8 +2,8 @@
 use super::Ended;
 use bng_gate::run;
 use bng_plant::{
-    Arrival, MemoryClock, MemoryEntropy, MemoryFile, MemoryFiles, MemoryPlant, MemorySink, NoTrace,
-    OpenGate, Plant, Trace,
+    Arrival, Clock, MemoryClock, MemoryEntropy, MemoryFile, MemoryFiles, MemoryPlant, MemorySink,
+    NoTrace, OpenGate, Plant, Trace,
 };
 use std::alloc::{AllocError, Global};
 use std::sync::Wait;
@@ -17,6 +17,14 @@ const SEED: [u8; 32] = [
 
 /// The words of the service.
 pub(super) const SERVE: [&str; 2] = ["serve", "bng.toml"];
+
+/// Which reads of files, and which writes to the output and to the output of errors fail, by their numbers from 1 on.
+#[derive(Clone, Copy)]
+pub(super) struct Failures<'a> {
+    pub(super) reads: &'a [u64],
+    pub(super) outs: &'a [u64],
+    pub(super) errs: &'a [u64],
+}
 
 /// A source of one seed. The calls with these numbers fail.
 pub(super) fn seed(alloc: Global, fails: &[u64]) -> Result<MemoryEntropy, AllocError> {
@@ -34,6 +42,17 @@ pub(super) struct Beside {
     err: MemorySink,
 }
 
+impl Beside {
+    /// What was written to the output, and to the output of errors.
+    pub(super) fn out(&self) -> &[u8] {
+        self.out.text()
+    }
+
+    pub(super) fn err(&self) -> &[u8] {
+        self.err.text()
+    }
+}
+
 /// These words, each in memory of its own.
 fn words_of(alloc: Global, words: &[&str]) -> Result<Vec<String>, AllocError> {
     let mut list = Vec::new(alloc);
@@ -43,11 +62,11 @@ fn words_of(alloc: Global, words: &[&str]) -> Result<Vec<String>, AllocError> {
     Ok(list)
 }
 
-/// One file, `bng.toml`.
-fn files_of(alloc: Global, configuration: &str) -> Result<MemoryFiles, AllocError> {
+/// One file, `bng.toml`, of which the reads with these numbers fail.
+fn files_of(alloc: Global, configuration: &str, fails: &[u64]) -> Result<MemoryFiles, AllocError> {
     let mut files = Vec::new(alloc);
     files.push(MemoryFile::new(alloc, "bng.toml", configuration.as_bytes())?)?;
-    MemoryFiles::new(alloc, files, Vec::new(alloc), 8)
+    MemoryFiles::new(alloc, files, fails.to_vec(alloc)?, 8)
 }
 
 /// An output whose calls with these numbers fail.
@@ -62,21 +81,36 @@ pub(super) fn around(
     configuration: &str,
     out_fails: &[u64],
 ) -> Result<Beside, AllocError> {
+    let failures = Failures {
+        reads: &[],
+        outs: out_fails,
+        errs: &[],
+    };
+    around_failing(alloc, words, configuration, failures)
+}
+
+/// These words, one file, and outputs, of which these calls fail.
+pub(super) fn around_failing(
+    alloc: Global,
+    words: &[&str],
+    configuration: &str,
+    failures: Failures<'_>,
+) -> Result<Beside, AllocError> {
     Ok(Beside {
         words: words_of(alloc, words)?,
-        files: files_of(alloc, configuration)?,
-        out: sink(alloc, out_fails)?,
-        err: sink(alloc, &[])?,
+        files: files_of(alloc, configuration, failures.reads)?,
+        out: sink(alloc, failures.outs)?,
+        err: sink(alloc, failures.errs)?,
     })
 }
 
 /// The status of a run over these.
-pub(super) fn run_with<R: Threads + Wait + Sync, P: Plant, T: Trace>(
+pub(super) fn run_with<R: Threads + Wait + Sync, P: Plant, C: Clock, T: Trace>(
     rt: &R,
     alloc: Global,
     around: &mut Beside,
     plant: &mut P,
-    clock: &mut MemoryClock,
+    clock: &mut C,
     entropy: &mut MemoryEntropy,
     trace: &mut T,
 ) -> u8 {
