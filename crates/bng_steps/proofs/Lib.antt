@@ -82,5 +82,3 @@ pub mod ClaimedTerms
 pub mod Numbered
 pub mod TermYeses
 pub mod NoFrames
-pub mod Noting
-pub mod Colours
