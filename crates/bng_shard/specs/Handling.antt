@@ -27,7 +27,7 @@ HasPools pools ranges = (k : ℕ) (p : NamedRange) → slice_get pools k ≡ Som
 
 -- each term of the shard with this number holds its address
 abbrev pub AreHeld : ℕ → List Term → Table → Type 0
-AreHeld shard terms table = All (λ (t : Term). entry table t.key.lease.0 ≡ Some shard) terms
+AreHeld shard terms table = All (λ (t : Term). entry table t.key.address.0 ≡ Some shard) terms
 
 -- the table answered so: it gave the shard an address that was free, or it held what was asked for already, and is as it was
 abbrev pub AnswersClaim : ℕ → Claim → PlainView → PlainView → Type 0

@@ -20,7 +20,7 @@ ghost use Rattle.bng_steps.specs.State.{reaped};
 ghost use Rattle.bng_steps.specs.Tenures.{LeavesTerms, Tenure};
 ghost use Rattle.bng_steps.specs.Sums.{charged_as, AreCovered, AreLow, IsLow, RowsAreLow};
 
-use crate::claim::{ask, left_after};
+use crate::claim::{claim_wish, left_after};
 use crate::indexed::Indexed;
 use crate::rooms::{handed_out, is_lent, reserve_amply};
 use bng_base::{At, Batch, Book, Entry, Fate, Item, LONGEST, OutRecord, SessionNo, Static};
@@ -28,7 +28,7 @@ use bng_coa::ChangeVerdict;
 use bng_pool::PlainPool;
 use bng_profile::Profiles;
 use bng_steps::{
-    Answer, Charged, EndedTerm, Incoming, LiveTerm, ReportedTerm, Reports, Rules, Served,
+    ChangeAnswer, Charged, EndedTerm, Incoming, LiveTerm, ReportedTerm, Reports, Rules, Served,
     ShardError, Survey, Terms, book, charged_as, hear, stop_from, tally, wish_for,
 };
 use std::alloc::{AllocError, Global};
@@ -49,7 +49,7 @@ pub struct Shard {
     left: u32,
     journal: Batch<Entry>,
     outs: Batch<OutRecord>,
-    pub(crate) changed: Vec<Answer>,
+    pub(crate) changed: Vec<ChangeAnswer>,
     room: usize,
     // whether a journal was handed out with its memory, and no list was given for the next ones since
     lent: bool,
@@ -85,7 +85,7 @@ impl Model for Shard {
 
     ghost coded = { Prim.hlevel (codes, state_code) };
 
-    ghost use Rattle.bng_steps.specs.Running.{rows_in, whole};
+    ghost use Rattle.bng_steps.specs.TermRows.{rows_in, whole};
     ghost use Rattle.bng_shard.specs.Fits.{Fits};
 
     ghost view = { λ a. record { number = a.served.sessions.shard; state = record { rules = a.rules; slots = whole a.served a.terms; changed = a.changed.items }; rows = rows_in a.terms.rows; books = a.profiles.books; allowance = a.allowance; journal = a.journal.items; outs = a.outs.items; sends = []; stops = []; starts = []; room = a.room } };
@@ -232,7 +232,7 @@ impl Shard {
         let before = self.outs.as_slice().len();
         let limited = self.left == 0;
         let wish = wish_for(&self.served, &self.rules, item, limited);
-        let claim = ask(pool, &self.rules, at.shard, wish);
+        let claim = claim_wish(pool, &self.rules, at.shard, wish);
         self.terms.are_rising();
         let incoming = Incoming {
             rules: &self.rules,
@@ -293,7 +293,7 @@ impl Shard {
             return None;
         };
         prove!(self.served.count() <= 1022);
-        pool.give_back(row.lease);
+        pool.give_back(row.address);
         stop_from(row)
     }
 
@@ -310,7 +310,7 @@ impl Shard {
     /// Hands out what the first of the requests for changes was answered that were not told yet, in the order of the journal: the number of
     /// its item, and the verdict. None exactly where all were told.
     pub fn changed(&mut self) -> Option<(u64, ChangeVerdict)>
-        ensures first { result ≡ option_map (λ a. (a.ask, a.verdict)) (slice_get self.old.state.changed 0) }
+        ensures first { result ≡ option_map (λ a. (a.number, a.verdict)) (slice_get self.old.state.changed 0) }
         ensures after { self.new ≡ record self.old { state = record self.old.state { changed = drop 1 self.old.state.changed }; room = 0 } }
     {
         self.room = 0;
@@ -318,7 +318,7 @@ impl Shard {
             return None;
         }
         let answer = self.changed.remove(0);
-        Some((answer.ask, answer.verdict))
+        Some((answer.number, answer.verdict))
     }
 
     /// Keeps an empty list for the journals of the rounds to come, as one that `drain` handed out: its places serve again. No round
