@@ -19,7 +19,12 @@ pub(crate) fn is_request(code: u8) -> bool
 /// What the request at the front of the octets is known by, where it is signed and not stale, or the first cause for which
 /// it is passed over. The Request Authenticator and a Message-Authenticator are digests over zeros in the place of the
 /// former (RFC 5176 sections 2.3 and 3.4).
-pub(crate) fn admissible(from: Peer, bytes: &[u8], secret: &[u8], wall: u64) -> Result<RequestKey, IgnoredRequest>
+pub(crate) fn admissible(
+    from: Peer,
+    bytes: &[u8],
+    secret: &[u8],
+    wall: u64,
+) -> Result<RequestKey, IgnoredRequest>
     requires { length secret.now ≤ 64 }
     ensures ok { IfOk result (λ key. (p : Packet) × IsAdmissible p secret.now bytes.now wall × (key ≡ key_of from p)) }
     ensures err { IfErr result (λ cause. WhyIgnored secret.now bytes.now wall cause) }

@@ -7,7 +7,7 @@ ghost use Rattle.bng_coa.specs.Admission.{is_peer, Stands, TakesIn, Admits, Keep
 ghost use Rattle.bng_coa.specs.Replies.{IsAnswered};
 
 use crate::admission::admissible;
-use crate::request::{RequestKey, ChangeRequest, RequestStage};
+use crate::request::{ChangeRequest, RequestKey, RequestStage};
 use crate::requests::ChangeRequests;
 use crate::rules::{Admitted, ChangeVerdict, CoaError, CoaRules, IgnoredRequest};
 use arrayvec::ArrayVec;

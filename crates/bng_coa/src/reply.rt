@@ -230,7 +230,12 @@ pub(crate) fn reply(
     ensures octets { result ≡ into.new.payload }
 {
     match &request.stage {
-        RequestStage::InHand { packet, .. } => write_reply(packet.as_slice(), verdict, secret, into),
+        RequestStage::InHand { packet, .. } => write_reply(
+            packet.as_slice(),
+            verdict,
+            secret,
+            into,
+        ),
         RequestStage::Answered { .. } => unreachable!(),
     }
 }

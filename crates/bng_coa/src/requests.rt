@@ -6,7 +6,7 @@ ghost use Rattle.bng_coa.specs.Requests.{is_in_hand, is_numbered, is_held, stand
 ghost use Rattle.bng_coa.specs.Replies.{IsReplied};
 
 use crate::reply::reply;
-use crate::request::{RequestKey, ChangeRequest, RequestStage};
+use crate::request::{ChangeRequest, RequestKey, RequestStage};
 use crate::rules::ChangeVerdict;
 use bng_base::{Frame, Peer};
 use std::alloc::{AllocError, Global};

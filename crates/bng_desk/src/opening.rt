@@ -32,7 +32,7 @@ use bng_billing::{Billing, BillingRules};
 use bng_coa::{CoaDesk, CoaRules};
 use bng_config::Config;
 use bng_discovery::PortRules;
-use bng_lane::{Questions, LaneRules};
+use bng_lane::{LaneRules, Questions};
 use bng_pool::PlainPool;
 use bng_ppp::LinkRules;
 use bng_shard::Shard;

@@ -41,7 +41,13 @@ fn send_again<P: Plant>(plant: &mut P, lane: &mut Questions, now: u64)
 }
 
 // Asks a question. Its request stands in this call's frame alone: a call without a question keeps no memory for one.
-fn ask_one<P: Plant>(plant: &mut P, lane: &mut Questions, ask: &AuthAsk, draws: &mut Draws, now: u64)
+fn ask_one<P: Plant>(
+    plant: &mut P,
+    lane: &mut Questions,
+    ask: &AuthAsk,
+    draws: &mut Draws,
+    now: u64,
+)
     requires room { taken lane.old.client.auth.places < 256 }
     requires drawn { draws.old.drawn < 2 ^ 62 }
     ensures { AsksOne now ask.now (P.told plant.old) (P.told plant.new) lane.old lane.new draws.old draws.new }

@@ -148,7 +148,13 @@ impl Desk {
         );
         let radius_deadline = earlier(self.works.lane.deadline(), self.works.accounts.deadline());
         let idle = took_nothing(heeding.idle, unacknowledged, front.quiet, quiet, noted);
-        wait_for_work(plant, idle, self.works.shards.as_slice(), radius_deadline, now);
+        wait_for_work(
+            plant,
+            idle,
+            self.works.shards.as_slice(),
+            radius_deadline,
+            now,
+        );
         self.told = told_after(noted, self.told);
         self.turns += 1;
         self.stopped = either(self.stopped, heeding.stop);

@@ -7,7 +7,7 @@ ghost use Rattle.bng_failover.specs.Replies.{IsStranger, IsSender};
 
 use crate::server::Server;
 use bng_base::Peer;
-use bng_rad_client::{LastSend, Lane, Sought};
+use bng_rad_client::{Lane, LastSend, Sought};
 
 /// A request that is due, and the place of the server that holds it.
 #[derive(Clone, Copy)]

@@ -8,7 +8,7 @@ ghost use Rattle.bng_gate.specs.Serving.{MakesTurns, FailsTurning};
 
 use crate::saying::say;
 use crate::serving::{TraceFault, finish, has_starved, serve};
-use crate::texts::{self, Unopened, Refusal};
+use crate::texts::{self, Refusal, Unopened};
 use bng_base::{AccessPort, Peer, Role};
 use bng_config::{Config, ConfigError};
 use bng_desk::{Desk, DeskError};

@@ -1,7 +1,7 @@
 use crate::asserts::{assert_octets, assert_same};
 use bng_base::Listed;
 use bng_config::Fault;
-use bng_gate::{Unopened, Refusal, line_of, status};
+use bng_gate::{Refusal, Unopened, line_of, status};
 use bng_schema::{Field, Key, Rule};
 use std::process::Abort;
 use std::test::Fail;

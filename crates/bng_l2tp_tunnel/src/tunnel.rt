@@ -157,7 +157,11 @@ impl Tunnel {
     {
         match self.phase {
             TunnelPhase::Idle | TunnelPhase::Cleared => nothing(),
-            TunnelPhase::Replied | TunnelPhase::Established => self.queue(message, now, Acknowledging::Never),
+            TunnelPhase::Replied | TunnelPhase::Established => self.queue(
+                message,
+                now,
+                Acknowledging::Never,
+            ),
         }
     }
 

@@ -9,15 +9,17 @@ ghost use Rattle.bng_lac.specs.Steps.{asks_each, connecting, answered, clears, c
 
 use crate::call::LacCall;
 use crate::judge::{fails_challenge, has_wrong_avp, is_for_call, is_of_call, is_taken};
+use crate::outcome::tell;
 use crate::phase::LacPhase;
 use crate::sending::{SentCalls, ask_each};
 use crate::spelling::scccn;
-use crate::outcome::tell;
 use crate::tunnel::LacTunnel;
 use arrayvec::ArrayVec;
 use bng_base::TunnelStep;
 use bng_l2tp_reliable::{Channel, Heard, Queued};
-use bng_l2tp_tunnel::{Acknowledging, TunnelRefusal, code_of, has_other_version, is_zlb, stop_ccn, zlb};
+use bng_l2tp_tunnel::{
+    Acknowledging, TunnelRefusal, code_of, has_other_version, is_zlb, stop_ccn, zlb,
+};
 use bng_l2tp_wire::judge::has_unknown;
 use bng_l2tp_wire::kind::{ASSIGNED_TUNNEL_ID, CHALLENGE};
 use bng_l2tp_wire::message::{SCCRP, STOP_CCN};

@@ -107,7 +107,10 @@ pub(crate) fn fails_challenge(
 
 /// Why a call that takes a message refuses it, where it does.
 #[tactic(auto, unfolding(crate::specs::Refusals::call_refusal_of))]
-pub(crate) fn call_refusal(avps: &[Avp<'_>], secret: &Option<ArrayVec<u8, 64>>) -> Option<CallRefusal>
+pub(crate) fn call_refusal(
+    avps: &[Avp<'_>],
+    secret: &Option<ArrayVec<u8, 64>>,
+) -> Option<CallRefusal>
     ensures { result ≡ call_refusal_of (octets_of secret.now) (avps_of avps.now) }
 {
     if has_unknown(avps) {

@@ -115,7 +115,11 @@ fn taken(call: LacCall, avps: &[Avp<'_>], secret: &Option<ArrayVec<u8, 64>>) -> 
 
 /// What a message does to a call.
 #[tactic(auto, unfolding(crate::specs::CallSteps::call_step))]
-pub(crate) fn tell(call: LacCall, avps: &[Avp<'_>], secret: &Option<ArrayVec<u8, 64>>) -> CallOutcome
+pub(crate) fn tell(
+    call: LacCall,
+    avps: &[Avp<'_>],
+    secret: &Option<ArrayVec<u8, 64>>,
+) -> CallOutcome
     ensures step { call_step_of result ≡ step_of_call (octets_of secret.now) call (avps_of avps.now) }
     ensures short { IfSome result.answer (λ f. length f.payload ≤ 512) }
 {

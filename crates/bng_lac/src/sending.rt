@@ -58,7 +58,12 @@ fn ask_one(channel: &mut Channel, call: LacCall, before: SentCalls, now: u64) ->
 }
 
 /// Hands an ICRQ for each of these calls to the channel, in their order.
-pub(crate) fn ask_each(channel: &mut Channel, calls: &[LacCall], before: SentCalls, now: u64) -> SentCalls
+pub(crate) fn ask_each(
+    channel: &mut Channel,
+    calls: &[LacCall],
+    before: SentCalls,
+    now: u64,
+) -> SentCalls
     ensures { asking_of channel.new result ≡ asks_each (asking_of channel.old before) calls.now now }
 {
     let mut asked = before;

@@ -5,10 +5,10 @@
 //! memory that it needs.
 #![tactic(auto)]
 
-mod questions;
 mod laws;
+mod questions;
 mod rules;
 
-pub use crate::questions::Questions;
 pub use crate::laws::{pending_stays, replies_answer_requests, requests_say_their_questions};
+pub use crate::questions::Questions;
 pub use crate::rules::{LaneError, LaneRules};

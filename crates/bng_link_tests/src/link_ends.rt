@@ -6,7 +6,7 @@ use crate::link_fixtures::{
     assert_sent_at, hear, opened, rules, sent, served, tell, verdict,
 };
 use bng_base::AuthKind;
-use bng_ppp::{LinkRules, Input, Link};
+use bng_ppp::{Input, Link, LinkRules};
 use std::process::Abort;
 
 // A packet of IPCP with the code 9, and its Code-Reject.

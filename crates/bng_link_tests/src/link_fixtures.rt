@@ -4,7 +4,7 @@ ghost use Rattle.std.specs.Prelude.{◌<◌, ◌^◌, length};
 use crate::asserts::{assert_holds, assert_octets};
 use arrayvec::ArrayVec;
 use bng_base::{AuthKind, Ip4};
-use bng_ppp::{LinkKind, LinkRules, Input, Link, Steps};
+use bng_ppp::{Input, Link, LinkKind, LinkRules, Steps};
 use std::process::Abort;
 
 // The gateway's magic number is a1b2c3d4, and these octets are its Challenge.
@@ -77,12 +77,7 @@ pub(crate) fn sent(steps: &Steps, place: usize) -> &[u8] {
     }
 }
 
-pub(crate) fn tell(
-    link: &mut Link,
-    rules: &LinkRules,
-    input: Input<'_>,
-    now: u64,
-) -> Steps
+pub(crate) fn tell(link: &mut Link, rules: &LinkRules, input: Input<'_>, now: u64) -> Steps
     requires moment { now < 2 ^ 60 }
     requires some { 0 < length rules.now.auth.items }
 {

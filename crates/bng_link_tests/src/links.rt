@@ -7,7 +7,7 @@ use crate::link_fixtures::{
     verdict_with,
 };
 use bng_base::AuthKind;
-use bng_ppp::{LinkKind, LinkRules, Input, Link, Steps};
+use bng_ppp::{Input, Link, LinkKind, LinkRules, Steps};
 use std::process::Abort;
 
 // The name about which a step asks, no octets where it asks nothing.
@@ -49,13 +49,7 @@ fn accept(rt: &impl Abort, link: &mut Link, rules: &LinkRules, now: u64, reply: 
 }
 
 // The peer's request is acked by this frame, and data may pass.
-fn assert_served(
-    rt: &impl Abort,
-    link: &mut Link,
-    rules: &LinkRules,
-    request: &[u8],
-    ack: &[u8],
-)
+fn assert_served(rt: &impl Abort, link: &mut Link, rules: &LinkRules, request: &[u8], ack: &[u8])
     requires { 0 < length rules.now.auth.items }
 {
     let done = hear(link, rules, request);

@@ -3,7 +3,7 @@ ghost use Rattle.std.specs.Prelude.{◌<◌, ◌^◌, length};
 use crate::asserts::{assert_holds, assert_octets, assert_same};
 use arrayvec::ArrayVec;
 use bng_base::{AuthKind, Ip4};
-use bng_ppp::{LcpInput, LcpLink, LinkKind, LinkRules, LcpOutcome};
+use bng_ppp::{LcpInput, LcpLink, LcpOutcome, LinkKind, LinkRules};
 use std::process::Abort;
 
 // The gateway's magic number is a1b2c3d4.
@@ -92,7 +92,13 @@ fn opened(rules: &LinkRules) -> LcpLink
 }
 
 // Hears a frame, at which one frame is sent, this one.
-fn assert_answer(rt: &impl Abort, link: &mut LcpLink, rules: &LinkRules, octets: &[u8], answer: &[u8])
+fn assert_answer(
+    rt: &impl Abort,
+    link: &mut LcpLink,
+    rules: &LinkRules,
+    octets: &[u8],
+    answer: &[u8],
+)
     requires { 0 < length rules.now.auth.items }
 {
     let steps = hear(link, rules, octets);

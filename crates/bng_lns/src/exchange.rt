@@ -128,7 +128,12 @@ fn part_by(tunnel: &mut Tunnel, step: &mut TunnelStep, told: &TunnelStep, now: u
 /// What a call told goes out over its tunnel, after what the tunnel lets out anyway. Where the call tells nothing, or nothing goes
 /// out, a ZLB does.
 #[inline(never)]
-pub(crate) fn answer_in(place: &mut TunnelPlace, heard: &mut TunnelStep, told: &TunnelStep, now: u64)
+pub(crate) fn answer_in(
+    place: &mut TunnelPlace,
+    heard: &mut TunnelStep,
+    told: &TunnelStep,
+    now: u64,
+)
     requires tunnel { IsTunnel place.old.tunnel }
     requires few { array_vec_len heard.old.outs ≤ 8 }
     requires texts { AllByRecursion IsCallText (payloads told.now.outs.items) }

@@ -17,11 +17,11 @@ ghost use Rattle.bng_lns.specs.Exchange.{exchanged, parted};
 
 use crate::exchange::{answer_in, part_in};
 use crate::lac::{assigned_by, begun, lac_of};
+use crate::outcome::{Came, MessageOutcome, TunnelOutcome};
 use crate::place::{TunnelPlace, hear_in, is_due, remind_in, stop_in};
 use crate::places::{
     TUNNELS_MOST, again_place, earliest, free_place, named_place, number_of, numbered_place,
 };
-use crate::outcome::{Came, MessageOutcome, TunnelOutcome};
 use arrayvec::ArrayVec;
 use bng_base::{Lac, TunnelNo, TunnelStep};
 use bng_l2tp_call::Call;
@@ -316,7 +316,13 @@ impl Tunnels {
 
     // A tunnel that has taken no message takes an SCCRQ, and where it is made by that, the place of its number.
     #[inline(never)]
-    fn make(&mut self, at: usize, mut tunnel: Tunnel, came: &Came, message: &Control<'_>) -> MessageOutcome
+    fn make(
+        &mut self,
+        at: usize,
+        mut tunnel: Tunnel,
+        came: &Came,
+        message: &Control<'_>,
+    ) -> MessageOutcome
         requires at { at ≡ free_place_of came.now.moment self.old }
         requires number { tunnel.number ≡ vacant came.now.moment self.old }
         requires sound { IsTunnel tunnel }

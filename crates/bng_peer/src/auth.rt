@@ -4,7 +4,7 @@ ghost use Rattle.std.specs.Prelude.{◌≤◌, length};
 use crate::asking::Asking;
 use crate::packet::{Body, body_of, control_frame, put_all};
 use crate::script::{is_pap, name};
-use crate::subscriber::{SubscriberStage, Subscriber};
+use crate::subscriber::{Subscriber, SubscriberStage};
 use bng_base::Frame;
 use bng_digest::chap_value;
 use bng_ppp_wire::code::{AUTHENTICATE_ACK, AUTHENTICATE_REQUEST, CHALLENGE, RESPONSE, SUCCESS};

@@ -4,7 +4,7 @@ ghost use Rattle.bng_pppoe_wire.specs.View.{frame_of as view_of};
 
 use crate::asking::Asking;
 use crate::script::mac_of;
-use crate::subscriber::{SubscriberStage, Subscriber};
+use crate::subscriber::{Subscriber, SubscriberStage};
 use bng_base::{Frame, Mac, Written};
 use bng_ppp_wire::Ppp;
 use bng_pppoe_wire::code::{PADI, PADO, PADR, PADS, PADT, SESSION_DATA};

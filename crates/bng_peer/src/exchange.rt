@@ -7,7 +7,7 @@ ghost use Rattle.bng_peer.specs.Script.{packet_up, packet_down};
 use crate::asking::Asking;
 use crate::packet::{ipv4_packet, number_in, ppp_frame};
 use crate::script::{HOST, octets_down, octets_up, packets_down, packets_up};
-use crate::subscriber::{SubscriberStage, Subscriber};
+use crate::subscriber::{Subscriber, SubscriberStage};
 use bng_base::Frame;
 use bng_ppp_wire::protocol;
 

@@ -1,10 +1,10 @@
 //! The subscriber's side of IPCP (RFC 1332 section 3).
 use crate::asking::Asking;
 use crate::packet::control_frame;
-use crate::subscriber::{SubscriberStage, Subscriber};
+use crate::subscriber::{Subscriber, SubscriberStage};
 use bng_base::{Frame, Ip4};
 use bng_ppp_wire::code::{CONFIGURE_ACK, CONFIGURE_REQUEST};
-use bng_ppp_wire::{MadeOpt, Opt, Packet, ConfigureReply, made, protocol, put_made, read_reply};
+use bng_ppp_wire::{ConfigureReply, MadeOpt, Opt, Packet, made, protocol, put_made, read_reply};
 
 const IP_ADDRESS: u8 = 3;
 

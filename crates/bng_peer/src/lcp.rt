@@ -4,13 +4,15 @@ ghost use Rattle.std.specs.Prelude.{◌≤◌, length};
 use crate::asking::Asking;
 use crate::packet::{body_of, control_frame, put_all};
 use crate::script::is_pap;
-use crate::subscriber::{SubscriberStage, Subscriber};
+use crate::subscriber::{Subscriber, SubscriberStage};
 use bng_base::{Frame, Written};
 use bng_ppp_wire::code::{
     CONFIGURE_ACK, CONFIGURE_NAK, CONFIGURE_REQUEST, ECHO_REPLY, ECHO_REQUEST, TERMINATE_ACK,
     TERMINATE_REQUEST,
 };
-use bng_ppp_wire::{MadeOpt, Opt, Packet, ConfigureReply, made, options, protocol, put_made, read_reply};
+use bng_ppp_wire::{
+    ConfigureReply, MadeOpt, Opt, Packet, made, options, protocol, put_made, read_reply,
+};
 
 const MRU: u8 = 1;
 

@@ -2,12 +2,12 @@
 ghost use Rattle.std.specs.Prelude.{◌≤◌};
 
 use crate::asking::Asking;
-use crate::lac::{PeerLac, News};
+use crate::lac::{News, PeerLac};
 use crate::operator::Operator;
 use crate::queue::Queue;
 use crate::script::{LACS, ends, is_called, lac_of, subscriber_at};
 use crate::server::{Acknowledged, PeerServer, Status};
-use crate::subscriber::{SubscriberStage, Subscriber};
+use crate::subscriber::{Subscriber, SubscriberStage};
 use crate::timers::Timers;
 use bng_base::{Frame, Ip4, Peer};
 use bng_l2tp_wire::{Control, Data};

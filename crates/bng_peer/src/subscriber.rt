@@ -149,8 +149,11 @@ impl Subscriber {
             SubscriberStage::Addressing => Some(self.ipcp_request()),
             SubscriberStage::Exchanging => Some(self.packet()),
             SubscriberStage::Terminating => Some(self.terminate_request()),
-            SubscriberStage::Initiating | SubscriberStage::Requesting | SubscriberStage::Calling | SubscriberStage::Resting | SubscriberStage::Over =>
-                None,
+            SubscriberStage::Initiating
+            | SubscriberStage::Requesting
+            | SubscriberStage::Calling
+            | SubscriberStage::Resting
+            | SubscriberStage::Over => None,
         }
     }
 

@@ -13,7 +13,7 @@ mod rules;
 mod sends;
 
 pub use crate::client::Client;
-pub use crate::due::{LastSend, DueRequest, INTERVAL, Longest, Sought};
+pub use crate::due::{DueRequest, INTERVAL, LastSend, Longest, Sought};
 pub use crate::pending::Pending;
 pub use crate::replies::{IgnoredReply, Replied};
 pub use crate::requests::Requests;

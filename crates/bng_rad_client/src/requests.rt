@@ -75,7 +75,11 @@ fn first_without(first: Option<LastSend>, id: u8, places: &[Option<Pending>]) ->
 }
 
 // The request that was sent first, once this one came.
-fn first_with(first: Option<LastSend>, came: LastSend, places: &[Option<Pending>]) -> Option<LastSend>
+fn first_with(
+    first: Option<LastSend>,
+    came: LastSend,
+    places: &[Option<Pending>],
+) -> Option<LastSend>
     requires size { length places.now ≡ 256 }
     requires come { HasCome first came places.now }
     ensures { IsOldestOrNone (is_sought Any 0) places.now 256 result }

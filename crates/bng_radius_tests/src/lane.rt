@@ -3,7 +3,7 @@ use arrayvec::ArrayVec;
 use bng_access::NasRules;
 use bng_auth::{Credentials, Proof};
 use bng_base::{Circuit, Frame, Ip4, Mac, Peer, SessionNo};
-use bng_lane::{Questions, LaneRules};
+use bng_lane::{LaneRules, Questions};
 use bng_verdict::{AuthAsk, QuestionNo};
 use std::alloc::Global;
 use std::process::Abort;

@@ -127,7 +127,13 @@ fn hear_others(rt: &impl Abort, alloc: Global, client: &mut Client) -> Result<()
     let stranger = Replied::Ignored(IgnoredReply::Stranger);
     hear(rt, alloc, client, STRANGER, RIGHT, stranger)?;
     hear_ignored(rt, alloc, client, "0200", IgnoredReply::Malformed)?;
-    hear_ignored(rt, alloc, client, WITH_IDENTIFIER_1, IgnoredReply::NotPending)?;
+    hear_ignored(
+        rt,
+        alloc,
+        client,
+        WITH_IDENTIFIER_1,
+        IgnoredReply::NotPending,
+    )?;
     hear_ignored(rt, alloc, client, WITH_CODE_5, IgnoredReply::Malformed)?;
     hear_ignored(rt, alloc, client, WRONG, IgnoredReply::WrongDigest)
 }

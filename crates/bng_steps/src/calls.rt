@@ -147,7 +147,14 @@ fn connect<S: Store>(
     terms.close(session.lease(), Some(LOST_CARRIER));
     session.link_anew(&incoming.item.random, incoming.moment);
     let question_count = served.question_count();
-    let (question_count, _none) = drive(served, session, question_count, incoming, Input::Start, outs);
+    let (question_count, _none) = drive(
+        served,
+        session,
+        question_count,
+        incoming,
+        Input::Start,
+        outs,
+    );
     question_count
 }
 

@@ -26,7 +26,7 @@ use crate::store::Store;
 use crate::way::Way;
 use arrayvec::ArrayVec;
 use bng_base::{Batch, Fate, Mac, OutRecord, SessionNo};
-use bng_ppp::{LinkKind, Input, Link};
+use bng_ppp::{Input, Link, LinkKind};
 use bng_pppoe_wire::Pppoe;
 
 // A list of these octets.
@@ -100,7 +100,14 @@ fn make<S: Store>(
     let random = &incoming.item.random;
     let mut made = new_session(session, number, frame.src, wanted, random, incoming.moment);
     let question_count = served.question_count();
-    let (question_count, _cause) = drive(served, &mut made, question_count, incoming, Input::Start, outs);
+    let (question_count, _cause) = drive(
+        served,
+        &mut made,
+        question_count,
+        incoming,
+        Input::Start,
+        outs,
+    );
     served.put(made);
     served.count_questions(question_count);
 }

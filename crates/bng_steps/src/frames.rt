@@ -63,7 +63,14 @@ pub fn drive_at<S: Store>(
     let mut session = served.take(number);
     let lease = session.lease();
     let question_count = served.question_count();
-    let (question_count, cause) = drive(served, &mut session, question_count, incoming, input, outs);
+    let (question_count, cause) = drive(
+        served,
+        &mut session,
+        question_count,
+        incoming,
+        input,
+        outs,
+    );
     terms.close(lease, cause);
     served.put(session);
     served.count_questions(question_count);

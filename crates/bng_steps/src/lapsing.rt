@@ -39,7 +39,14 @@ fn close_link<S: Store>(
     match &session.service {
         Service::Provisioned { .. } => question_count,
         Service::Linked(_) => {
-            let (question_count, _) = drive(served, session, question_count, incoming, Input::Close, outs);
+            let (question_count, _) = drive(
+                served,
+                session,
+                question_count,
+                incoming,
+                Input::Close,
+                outs,
+            );
             question_count
         }
     }

@@ -25,7 +25,7 @@ use arrayvec::ArrayVec;
 use bng_auth::Credentials;
 use bng_base::{Circuit, Ip4, Mac, SessionNo, TermId};
 use bng_forward::TermView;
-use bng_ppp::{LinkKind, LinkRules, Input, Link, Steps};
+use bng_ppp::{Input, Link, LinkKind, LinkRules, Steps};
 use bng_sessions::Slotted;
 use bng_term::Lifetime;
 use std::marker::Model;
@@ -316,7 +316,10 @@ impl Session {
         match mem::replace(&mut steps.asked, None) {
             Some(credentials) => {
                 let next_question = question_count.saturating_add(1);
-                made.question = Some(Question { number: next_question, credentials });
+                made.question = Some(Question {
+                    number: next_question,
+                    credentials,
+                });
                 next_question
             }
             None => {

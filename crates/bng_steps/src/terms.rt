@@ -25,8 +25,7 @@ use crate::session::Lease;
 use crate::sums::{Traffic, take_off};
 use crate::term::{LiveTerm, ReportedTerm};
 use crate::term_rows::{
-    named_by, carried_by, carry, close, copied, copy_of, keep, recast, take_first, term_at,
-    told_of,
+    carried_by, carry, close, copied, copy_of, keep, named_by, recast, take_first, term_at, told_of,
 };
 use arrayvec::ArrayVec;
 use bng_base::{Book, Circuit, Ip4, OutRecord, SessionNo, Static, TermId};

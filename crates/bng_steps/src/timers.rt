@@ -58,7 +58,14 @@ fn remind<S: Store>(
     ensures fewer { IsSome session.new.lease → length outs.new.items ≤ length outs.old.items + 2 }
 {
     let lease = session.lease();
-    let (question_count, cause) = drive(served, session, question_count, incoming, Input::Timer, outs);
+    let (question_count, cause) = drive(
+        served,
+        session,
+        question_count,
+        incoming,
+        Input::Timer,
+        outs,
+    );
     terms.close(lease, cause);
     question_count
 }
@@ -120,7 +127,15 @@ fn look_at<S: Store>(
     let Some(cause) = session.look(passed, incoming.moment) else {
         return question_count;
     };
-    end_term(served, session, terms, question_count, cause, incoming, outs)
+    end_term(
+        served,
+        session,
+        terms,
+        question_count,
+        cause,
+        incoming,
+        outs,
+    )
 }
 
 // Handles the due deadline that comes first, and says whether one is due.
@@ -148,7 +163,15 @@ fn tick_once<S: Store>(
     let mut session = served.take(number);
     let question_count = served.question_count();
     let question_count = remind_link(served, &mut session, terms, question_count, incoming, outs);
-    let question_count = look_at(served, &mut session, terms, question_count, passed, incoming, outs);
+    let question_count = look_at(
+        served,
+        &mut session,
+        terms,
+        question_count,
+        passed,
+        incoming,
+        outs,
+    );
     served.put(session);
     served.count_questions(question_count);
     true

@@ -27,7 +27,12 @@ use bng_lns::{Came, MessageOutcome, TunnelOutcome};
 impl<S: Store> Served<S> {
     /// A control message came: the tunnel that it is for takes it, or it asks for a tunnel.
     #[inline(never)]
-    pub fn take_message(&mut self, rules: &Rules, came: &Came, message: &Control<'_>) -> MessageOutcome
+    pub fn take_message(
+        &mut self,
+        rules: &Rules,
+        came: &Came,
+        message: &Control<'_>,
+    ) -> MessageOutcome
         ensures answer { answer_of result ≡ (heard_of rules.now.link.name.items rules.now.lacs self.old.tunnels came.now (control_of message.now)).answer }
         ensures after { self.new ≡ with_tunnels self.old (heard_of rules.now.link.name.items rules.now.lacs self.old.tunnels came.now (control_of message.now)).after }
         ensures taken { IsTaken (answer_of result) self.new.tunnels }

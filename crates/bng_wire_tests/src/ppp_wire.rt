@@ -4,8 +4,8 @@ use bng_base::Frame;
 use bng_ppp_wire::code::{CODE_REJECT, CONFIGURE_REJECT, CONFIGURE_REQUEST};
 use bng_ppp_wire::protocol::{IPCP, LCP};
 use bng_ppp_wire::{
-    Good, Judged, MadeOpt, Opt, Packet, Ppp, ReadError, ConfigureReply, OptionRow, Width, Written, judge, made,
-    options, read_reply, write_options,
+    ConfigureReply, Good, Judged, MadeOpt, Opt, OptionRow, Packet, Ppp, ReadError, Width, Written,
+    judge, made, options, read_reply, write_options,
 };
 use std::alloc::{AllocError, Global};
 use std::process::Abort;
