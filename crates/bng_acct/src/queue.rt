@@ -5,7 +5,7 @@ ghost use Rattle.bng_acct.specs.declared.sheet.Sheet.{Sheet};
 ghost use Rattle.bng_acct.specs.Queue.{sheet_at, count, without, Sets, HandsOut, AreWaiting, AllBelow};
 ghost use Rattle.bng_acct.specs.Sheets.{AreUsed};
 
-use crate::line::Line;
+use crate::line::NumberList;
 use crate::rules::SpoolError;
 use crate::sheet::Sheet;
 use crate::sheets::Sheets;
@@ -14,12 +14,12 @@ use std::marker::Model;
 
 /// The open records. All their memory is taken by `open`.
 #[derive(Drop)]
-pub(crate) struct Queue {
+pub(crate) struct RecordQueue {
     sheets: Sheets,
-    waiting: Line,
+    waiting: NumberList,
 }
 
-impl Model for Queue {
+impl Model for RecordQueue {
     ghost use Rattle.bng_acct.specs.Queue.{Open, IsQueue};
 
     ghost Value = { Open };
@@ -29,18 +29,18 @@ impl Model for Queue {
     ghost invariant = { λ q. IsQueue q.sheets.places q.waiting.numbers q.sheets.room q.waiting.room };
 }
 
-impl Queue {
-    pub(crate) fn open(alloc: Global, most: usize) -> Result<Queue, SpoolError>
+impl RecordQueue {
+    pub(crate) fn open(alloc: Global, most: usize) -> Result<RecordQueue, SpoolError>
         requires { most < 2 ^ 32 }
         ensures { IfOk result (λ q. q ≡ record { sheets = []; waiting = []; most = most }) }
     {
         let Ok(sheets) = Sheets::open(alloc, most) else {
             return Err(SpoolError::OutOfMemory);
         };
-        let Ok(waiting) = Line::open(alloc, most as u32) else {
+        let Ok(waiting) = NumberList::open(alloc, most as u32) else {
             return Err(SpoolError::OutOfMemory);
         };
-        Ok(Queue { sheets, waiting })
+        Ok(RecordQueue { sheets, waiting })
     }
 
     /// The record with this number, if it is open.

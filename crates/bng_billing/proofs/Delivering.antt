@@ -423,9 +423,11 @@ module _ (rules : BillingRules) (calls : List BillingCall) (opening last : Billi
       let there : FormedAt calls a.formed n a.report = subst (λ (x : ℕ). FormedAt calls a.formed x a.report) ack.number a.is_formed in
       let same : a.formed ≡ j =
       formed_here j k n f.sheet.record a.report a.formed here there acked.after (omega (arith, a.formed_first, a.sent_after, a.sent_before)) acked.none
-      (λ h p after before g. a.only h p after before (subst (λ (x : ℕ). FormedAt calls h x p) (sym ack.number) g)) in
-      (a.request, answer_sent k ack.from ack.octets ack.found.0 a,
-        record { number = n; report = a.report; formed = subst (λ (x : ℕ). FormedAt calls x n a.report) same there; id = a.id; says = a.says })
+      (λ h p after before g. a.only h p after before (subst (λ (x : ℕ). FormedAt calls h x p) (sym ack.number) g)) in (
+        a.request,
+        answer_sent k ack.from ack.octets ack.found.0 a,
+        record { number = n; report = a.report; formed = subst (λ (x : ℕ). FormedAt calls x n a.report) same there; id = a.id; says = a.says },
+      )
 
 pub stops_sent : (rules : BillingRules) (opening last : BillingState) (calls : List BillingCall) → IsNewBilling rules opening → Chain Does opening calls last → ArePaired None calls → StopsAreAcknowledged calls → StopsAreSent rules calls
 stops_sent rules opening last calls new run paired acks = stop_sent rules calls opening last new run paired acks

@@ -60,7 +60,7 @@ grows shard (Exhausted k) pool pool' h = grown_same pool pool' h.1
 
 -- a shard holds what it held
 pub held_on : (t t' : Table) → HasAll t t' → (v : ShardView ShardState Entry) → HoldsOwn t v → HoldsOwn t' v
-held_on t t' keeps v held k d lt = keeps (get_or (terms_of v.state) k d).key.lease.0 v.number (held k d lt)
+held_on t t' keeps v held k d lt = keeps (get_or (terms_of v.state) k d).key.address.0 v.number (held k d lt)
 
 -- One address -------------------------------------------------------------------------------------------------------------
 

@@ -116,7 +116,7 @@ all_flat P f all (n ∷ ns) = all_append P (f n) (flat_map f ns) (all n) (all_fl
 all_in_order : (P : Static → Type 0) (shard : ℕ) (cs : List Static) → All P cs → AllByRecursion P (in_order shard cs)
 all_in_order P shard cs all = all_flat P (circuit_at cs) (λ n. recursion_from_All P (circuit_at cs n) (All-filter (λ (c : Static). c.session.0 == n) P cs all)) (range_with_len (shard * 1024 + 1) 1022)
 
-terms_held : (table : Table) (n now m : ℕ) (cs : List Static) → AllByRecursion (HeldBy table n) cs → AllByRecursion (λ (t : Term). entry table t.key.lease.0 ≡ Some n) (map term_in (tenures_after now m cs))
+terms_held : (table : Table) (n now m : ℕ) (cs : List Static) → AllByRecursion (HeldBy table n) cs → AllByRecursion (λ (t : Term). entry table t.key.address.0 ≡ Some n) (map term_in (tenures_after now m cs))
 terms_held table n now m [] all = tt
 terms_held table n now m (c ∷ cs) all = (all.0, terms_held table n now (m + 1) cs all.1)
 
@@ -133,4 +133,4 @@ module _ (circuits : List Static) (table : Table) (apart : AllPairs (λ a b. a.a
   pub opened_holds : (rules : Rules) (now n : ℕ) → HoldsOwn table (opened n rules (of_shard circuits n) now)
   opened_holds rules now n =
       let cs = of_shard circuits n in
-      All-from_recursion (λ (t : Term). entry table t.key.lease.0 ≡ Some n) (map term_in (tenures_after now 0 (in_order n cs))) (terms_held table n now 0 (in_order n cs) (all_in_order (HeldBy table n) n cs (shard_held n)))
+      All-from_recursion (λ (t : Term). entry table t.key.address.0 ≡ Some n) (map term_in (tenures_after now 0 (in_order n cs))) (terms_held table n now 0 (in_order n cs) (all_in_order (HeldBy table n) n cs (shard_held n)))

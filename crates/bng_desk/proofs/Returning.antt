@@ -28,7 +28,7 @@ use Rattle.bng_desk.proofs.Readying.{Shards, all_onward}
 -- The Stops -------------------------------------------------------------------------------------------------------------
 
 abbrev has : List Stop → ℕ → Bool
-has stops a = list_any (λ (s : Stop). eqb s.key.lease.0 a) stops
+has stops a = list_any (λ (s : Stop). eqb s.key.address.0 a) stops
 
 either : (a b : Bool) (e : Option ℕ) → cond b None (cond a None e) ≡ cond (a || b) None e
 either true true e = refl
@@ -44,7 +44,7 @@ returned_more a b p p' p'' first next = record {
   table = λ x. next.table x
       ∙ ap (cond (has b x) None) (first.table x)
       ∙ either (has a x) (has b x) (entry p.table x)
-      ∙ ap (λ (y : Bool). cond y None (entry p.table x)) (sym (list_any-append (λ (s : Stop). eqb s.key.lease.0 x) a b));
+      ∙ ap (λ (y : Bool). cond y None (entry p.table x)) (sym (list_any-append (λ (s : Stop). eqb s.key.address.0 x) a b));
   ranges = next.ranges ∙ first.ranges;
   shards = next.shards ∙ first.shards;
 }
@@ -60,8 +60,8 @@ freed_at table table' k x a true frees e = ap (entry table') (here x a e) ∙ fr
 freed_at table table' k x a false frees e = frees.elsewhere a (elsewhere x a e)
 
 -- one is given back
-pub returned_one : (s : Stop) (k : ℕ) (p p' : PlainView) → TableFrees p.table k s.key.lease.0 p'.table → (p'.ranges ≡ p.ranges) × (p'.shards ≡ p.shards) → IsReturned (s ∷ []) p p'
-returned_one s k p p' frees rest = record { table = λ a. freed_at p.table p'.table k s.key.lease.0 a (eqb s.key.lease.0 a) frees refl; ranges = rest.0; shards = rest.1 }
+pub returned_one : (s : Stop) (k : ℕ) (p p' : PlainView) → TableFrees p.table k s.key.address.0 p'.table → (p'.ranges ≡ p.ranges) × (p'.shards ≡ p.shards) → IsReturned (s ∷ []) p p'
+returned_one s k p p' frees rest = record { table = λ a. freed_at p.table p'.table k s.key.address.0 a (eqb s.key.address.0 a) frees refl; ranges = rest.0; shards = rest.1 }
 
 -- As the engine sees it -------------------------------------------------------------------------------------------------
 
@@ -81,7 +81,7 @@ kept_some false None = refl
 kept_some false (Some n) = refl
 
 abbrev leases : List Stop → List ℕ
-leases stops = map (λ (s : Stop). s.key.lease.0) stops
+leases stops = map (λ (s : Stop). s.key.address.0) stops
 
 same_test : (x y a : ℕ) → eqb y a ≡ true → not (eqb y x) ≡ not (eqb x a)
 same_test x y a e = grind (arith, nat_tests)
@@ -113,7 +113,7 @@ and_none false = refl
 all_given : (stops : List Stop) (held held' : List Ip4) → ((a : ℕ) → is_held a held' ≡ (is_held a held && not (has stops a))) → GivesAllBack (leases stops) held held'
 all_given [] held held' less = λ a. less a ∙ and_none (is_held a held)
 all_given (s ∷ stops) held held' less =
-    let x = s.key.lease.0 in (
+    let x = s.key.address.0 in (
       without x held,
       one_given x held,
       all_given stops (without x held) held' (λ a. less a ∙ and_both (is_held a held) (eqb x a) (has stops a) ∙ ap (λ (b : Bool). b && not (has stops a)) (sym (one_given x held a))),
@@ -122,7 +122,7 @@ all_given (s ∷ stops) held held' less =
 leases_of : (xs : Seens) → leases (flat_map (λ v. v.stops) xs) ≡ given_back xs
 leases_of [] = refl
 leases_of (x ∷ xs) =
-    map-append (λ (s : Stop). s.key.lease.0) x.stops (flat_map (λ v. v.stops) xs) ∙ ap (λ (ns : List ℕ). leases x.stops ++ ns) (leases_of xs)
+    map-append (λ (s : Stop). s.key.address.0) x.stops (flat_map (λ v. v.stops) xs) ∙ ap (λ (ns : List ℕ). leases x.stops ++ ns) (leases_of xs)
 
 pub gives_back : (xs : Seens) (p p' : PlainView) → IsReturned (flat_map (λ v. v.stops) xs) p p' → GivesAllBack (given_back xs) (held_by p) (held_by p')
 gives_back xs p p' back =
@@ -149,11 +149,11 @@ pub held_kept : (table : Table) (vs ws : Shards) → AllZip Kept vs ws → All (
 held_kept table vs ws kept held = all_onward Kept (HoldsOwn table) (λ x y k here. holds_still table x y k.number k.state here) vs ws kept held
 
 -- the term that is spoken of holds its address
-pub held_key : (n : ℕ) (table : Table) (user class : List ℕ) (began : ℕ) (k : Key) (ts : List Tenure) → AnyOf (SaysOf user class began k) ts → AreHeld n (map term_in ts) table → entry table k.lease.0 ≡ Some n
+pub held_key : (n : ℕ) (table : Table) (user class : List ℕ) (began : ℕ) (k : Key) (ts : List Tenure) → AnyOf (SaysOf user class began k) ts → AreHeld n (map term_in ts) table → entry table k.address.0 ≡ Some n
 held_key n table user class began k [] any held = absurd any
 held_key n table user class began k (t ∷ ts) any held =
-    ⊎_elim (λ (says : SaysOf user class began k t). ap (λ (j : Key). entry table j.lease.0) (sym says.key) ∙ All-head (λ (u : Term). entry table u.key.lease.0 ≡ Some n) (term_in t) (map term_in ts) held)
-    (λ (later : AnyOf (SaysOf user class began k) ts). held_key n table user class began k ts later (All-tail (λ (u : Term). entry table u.key.lease.0 ≡ Some n) (term_in t) (map term_in ts) held)) any
+    ⊎_elim (λ (says : SaysOf user class began k t). ap (λ (j : Key). entry table j.address.0) (sym says.key) ∙ All-head (λ (u : Term). entry table u.key.address.0 ≡ Some n) (term_in t) (map term_in ts) held)
+    (λ (later : AnyOf (SaysOf user class began k) ts). held_key n table user class began k ts later (All-tail (λ (u : Term). entry table u.key.address.0 ≡ Some n) (term_in t) (map term_in ts) held)) any
 
 same_holder : (m n : ℕ) → Some m ≡ Some n → m ≡ n
 same_holder m n e = cc
@@ -161,7 +161,7 @@ same_holder m n e = cc
 -- a term that another shard has keeps its address
 pub others_hold : (table table' : Table) (k x m n : ℕ) (ts : List Term) → TableFrees table k x table' → entry table x ≡ Some m → n ≢ m → AreHeld n ts table → AreHeld n ts table'
 others_hold table table' k x m n ts frees mine other held j d lt =
-    let a = (get_or ts j d).key.lease.0 in
+    let a = (get_or ts j d).key.address.0 in
     let away : a ≢ x = λ same. other (same_holder n m (sym (held j d lt) ∙ ap (entry table) same ∙ mine)) in
     frees.elsewhere a away ∙ held j d lt
 

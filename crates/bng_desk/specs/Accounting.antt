@@ -30,7 +30,7 @@ use Rattle.bng_engine.specs.Views.{ShardView}
 use Rattle.bng_lane.specs.Sends.{LaneSend}
 use Rattle.bng_steps.specs.Protocol.{SaysOf, ShardState}
 use Rattle.bng_steps.specs.Tenures.{Tenure}
-use Rattle.bng_desk.specs.declared.reading.Ended.{Ended}
+use Rattle.bng_desk.specs.declared.reading.ReadEnd.{ReadEnd}
 use Rattle.bng_desk.specs.Items.{DataReading}
 
 -- What was taken from Acct ---------------------------------------------------------------------------------------------------
@@ -49,7 +49,7 @@ abbrev pub acknowledged_most : ℕ
 acknowledged_most = 128
 
 -- what was taken from Acct, as a reading
-abbrev pub acct_reading : List Acknowledged → Ended → DataReading
+abbrev pub acct_reading : List Acknowledged → ReadEnd → DataReading
 acct_reading heard ended = record { role = Acct; arrivals = map (λ a. a.arrival) heard; ended = ended }
 
 -- Records that are formed ----------------------------------------------------------------------------------------------------
@@ -70,7 +70,7 @@ Forms = Chain (λ b (f : FormedRecord) b'. IsFormedBy b f.status f.facts f.momen
 pub record AreFactsOf (terms : List Tenure) (k : Key) (book : Book) (f : TermFacts) : Type 0 where
   pub term : f.term ≡ k.term
   pub circuit : f.circuit ≡ k.circuit
-  pub address : f.address ≡ k.lease
+  pub address : f.address ≡ k.address
   pub says : AnyOf (SaysOf f.user.items f.class.items f.began k) terms
   pub carried : f.carried ≡ book
 

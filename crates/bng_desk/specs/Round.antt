@@ -95,7 +95,7 @@ pub record AreClaimed (pool pool' : PlainView) (shards : List (ShardView ShardSt
 
 -- whose an address is once the terms of these Stops have left
 abbrev pub holder_after : List Stop → Table → ℕ → Option ℕ
-holder_after stops table a = if list_any (λ (s : Stop). s.key.lease.0 == a) stops then None else entry table a
+holder_after stops table a = if list_any (λ (s : Stop). s.key.address.0 == a) stops then None else entry table a
 
 -- the addresses of these Stops were given back, and no other changed
 pub record IsReturned (stops : List Stop) (pool pool' : PlainView) : Type 0 where

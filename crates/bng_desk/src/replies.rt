@@ -47,7 +47,7 @@ fn answer_one<P: Plant>(
     ask: u64,
     verdict: ChangeVerdict,
 )
-    ensures { GivesOne (record { ask = ask; verdict = verdict }) (P.told plant.old) (P.told plant.new) coa.old coa.new }
+    ensures { GivesOne (record { number = ask; verdict = verdict }) (P.told plant.old) (P.told plant.new) coa.old coa.new }
 {
     let Some(number) = number_of(ask) else {
         return;
@@ -76,7 +76,7 @@ fn refused(rules: &Rules, request: &Radius<'_>) -> ChangeVerdict
 
 // What a request that stands in no shard is answered.
 fn refusal(rules: &Rules, item: &Item) -> Option<ChangeVerdict>
-    ensures { AnswersLoose rules.now item.now (option_map (λ verdict. record { ask = item.now.ask; verdict = verdict }) result) }
+    ensures { AnswersLoose rules.now item.now (option_map (λ verdict. record { number = item.now.ask; verdict = verdict }) result) }
 {
     match request_in(item.frame.payload()) {
         Some(request) => Some(refused(rules, &request)),
@@ -86,7 +86,7 @@ fn refusal(rules: &Rules, item: &Item) -> Option<ChangeVerdict>
 
 // What a loose item is answered.
 fn verdict_of(rules: &Rules, item: &Item) -> Option<ChangeVerdict>
-    ensures { AnswersLooseKind item.now.kind rules.now item.now (option_map (λ verdict. record { ask = item.now.ask; verdict = verdict }) result) }
+    ensures { AnswersLooseKind item.now.kind rules.now item.now (option_map (λ verdict. record { number = item.now.ask; verdict = verdict }) result) }
 {
     match item.kind {
         ItemKind::Change => refusal(rules, item),

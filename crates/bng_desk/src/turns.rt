@@ -5,7 +5,7 @@ ghost use Rattle.bng_base.specs.Told.{TraceTold};
 ghost use Rattle.bng_desk.specs.Model.{state_of, left_of};
 ghost use Rattle.bng_desk.specs.Turn.{MakesTurn, MakesEnd, MakesGrace, DoesNothing, answer_if, deadline_in, wait_for, waiting_stretch};
 ghost use Rattle.bng_desk.specs.Turn.{told_after as number_after};
-ghost use Rattle.bng_ppp.specs.LinkRelation.{earliest as first_of};
+ghost use Rattle.bng_ppp.specs.LcpRelation.{earliest as first_of};
 
 use crate::control::heed;
 use crate::desk::{Desk, DeskState, GRACE_MOST, Turned};
@@ -56,13 +56,13 @@ fn wait_for_work<P: Plant>(
     plant: &mut P,
     idle: bool,
     shards: &[Shard],
-    asked: Option<u64>,
+    radius_deadline: Option<u64>,
     now: u64,
 )
-    ensures { ExtendsPlant (P.told plant.old) (P.told plant.new) (waiting_stretch idle (wait_for (first_of (deadline_in shards.now) asked) now)) }
+    ensures { ExtendsPlant (P.told plant.old) (P.told plant.new) (waiting_stretch idle (wait_for (first_of (deadline_in shards.now) radius_deadline) now)) }
 {
     if idle {
-        let due = earlier(deadline_of(shards), asked);
+        let due = earlier(deadline_of(shards), radius_deadline);
         plant.wait(wait_until(due, now));
     }
 }
@@ -146,9 +146,15 @@ impl Desk {
             named,
             lists,
         );
-        let asked = earlier(self.works.lane.deadline(), self.works.accounts.deadline());
+        let radius_deadline = earlier(self.works.lane.deadline(), self.works.accounts.deadline());
         let idle = took_nothing(heeding.idle, unacknowledged, front.quiet, quiet, noted);
-        wait_for_work(plant, idle, self.works.shards.as_slice(), asked, now);
+        wait_for_work(
+            plant,
+            idle,
+            self.works.shards.as_slice(),
+            radius_deadline,
+            now,
+        );
         self.told = told_after(noted, self.told);
         self.turns += 1;
         self.stopped = either(self.stopped, heeding.stop);

@@ -10,7 +10,7 @@ use Rattle.bng_base.specs.Ipv4Grammar.{IsIpv4}
 use Rattle.bng_base.specs.PppoeGrammar.{PppoeFrame, IsPppoe}
 use Rattle.bng_pppoe_wire.proofs.Judging.{one_layout}
 use Rattle.bng_forward.specs.Fates.{IsFrame, Carries}
-use Rattle.bng_forward.specs.Framed.{IsFrameWith}
+use Rattle.bng_forward.specs.Framing.{IsFrameWith}
 
 pub one_frame : (ports : List AccessPort) (number : ℕ) (a : Arrival) (p q : PppoeFrame) → IsFrame ports number a p → IsFrame ports number a q → p ≡ q
 one_frame ports number a p q x y = one_layout p q a.octets x.2.frame.laid y.2.frame.laid

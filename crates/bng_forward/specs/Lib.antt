@@ -3,4 +3,4 @@ pub mod Meters
 pub mod Packets
 pub mod Fates
 pub mod Arrived
-pub mod Framed
+pub mod Framing

@@ -8,11 +8,11 @@
 
 mod arrived;
 mod forward;
-mod framed;
+mod framing;
 mod packet;
 mod view;
 
 pub use crate::arrived::{Arrived, carried, frame_at, names_session, packet_from};
 pub use crate::forward::{down, up};
-pub use crate::framed::{put_in_frame, take_from_frame};
+pub use crate::framing::{put_in_frame, take_from_frame};
 pub use crate::view::TermView;

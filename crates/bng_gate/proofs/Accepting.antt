@@ -10,15 +10,15 @@ use Rattle.bng_base.specs.declared.circuit.Circuit.TheVariants.{Pppoe, L2tp}
 use Rattle.bng_base.specs.declared.item.Entry.{Entry}
 use Rattle.bng_base.specs.declared.item.OutRecord.{OutRecord}
 use Rattle.bng_engine.specs.Views.{ShardView}
-use Rattle.bng_ppp.specs.PppState.{is_accepted}
+use Rattle.bng_ppp.specs.LinkState.{is_accepted}
 use Rattle.bng_sessions.specs.Sessions.{value_at}
-use Rattle.bng_steps.specs.Made.{Question}
+use Rattle.bng_steps.specs.LinkService.{Question}
 use Rattle.bng_steps.specs.declared.rules.Rules.{Rules}
 use Rattle.bng_steps.specs.declared.session.Service.{Service}
-use Rattle.bng_steps.specs.declared.session.Service.TheVariants.{Provisioned, Discovered}
+use Rattle.bng_steps.specs.declared.session.Service.TheVariants.{Provisioned, Linked}
 use Rattle.bng_steps.specs.declared.session.Session.{Session}
 use Rattle.bng_steps.specs.Deed.{Deed}
-use Rattle.bng_steps.specs.Granting.{GivesYes, IsGrantedOn, IsGrantedOver, IsSound, IsYesOn, IsYesOver, accepted_ask_at, accepted_in}
+use Rattle.bng_steps.specs.Granting.{GivesYes, IsGrantedOn, IsGrantedOver, IsSound, IsYesOn, IsYesOver, accepted_number_at, accepted_in}
 use Rattle.bng_steps.specs.Protocol.{ShardState, Handled, pppoe}
 use Rattle.bng_steps.specs.Questions.{Asking, asking_of, last_asking, last_asking_at, last_in}
 use Rattle.bng_steps.specs.Serving.{AreOwn}
@@ -50,16 +50,16 @@ pub record YesCause (held : List Held) (k : ℕ) (s : ShardState) (h : Handled) 
   pub number : asking.number.session.0 ≡ session
   pub circuit_is : asking.circuit ≡ circuit
   pub told : IsTold held k session asking.number.ask
-  pub how : (accepted_ask_at s.slots session ≡ Some asking.number.ask) ⊎ (told.handled ≡ h)
+  pub how : (accepted_number_at s.slots session ≡ Some asking.number.ask) ⊎ (told.handled ≡ h)
 
 -- What each state of a run has, in its turn and at its shard's place: it is sound, its questions have numbers that were counted, and
 -- those that count as answered by a yes were answered so.
 pub record IsSure (held : List Held) (k p : ℕ) (s : ShardState) : Type 0 where
   pub sound : IsSound s.slots
   pub shard : s.slots.sessions.shard ≡ p
-  pub small : s.slots.asked < 2 ^ 64
-  pub counted : (n : ℕ) (b : Asking) → last_asking_at s.slots n ≡ Some b → b.number.ask ≤ s.slots.asked
-  pub told : (n ask : ℕ) → accepted_ask_at s.slots n ≡ Some ask → IsTold held k n ask
+  pub small : s.slots.question_count < 2 ^ 64
+  pub counted : (n : ℕ) (b : Asking) → last_asking_at s.slots n ≡ Some b → b.number.ask ≤ s.slots.question_count
+  pub told : (n ask : ℕ) → accepted_number_at s.slots n ≡ Some ask → IsTold held k n ask
 
 -- Sessions ----------------------------------------------------------------------------------------------------------------
 
@@ -81,12 +81,12 @@ abbrev ask_in : Session → Option Question
 ask_in x = accepted_in x.service
 
 abbrev ask_of : Question → ℕ
-ask_of q = q.ask
+ask_of q = q.number
 
 pub last_stayed : (s : State) (n : ℕ) (b : Asking) → last_asking_at (settled s) n ≡ Some b → last_asking_at s n ≡ Some b
 last_stayed s n b e = stayed last_asking s n b e
 
-accepted_stayed : (s : State) (n ask : ℕ) → accepted_ask_at (settled s) n ≡ Some ask → accepted_ask_at s n ≡ Some ask
+accepted_stayed : (s : State) (n ask : ℕ) → accepted_number_at (settled s) n ≡ Some ask → accepted_number_at s n ≡ Some ask
 accepted_stayed s n ask e =
     let q = mapped ask_of (option_and_then ask_in (value_at (settled s).sessions n)) ask e in
     ap (option_map ask_of) (stayed ask_in s n q.0 q.1) ∙ ap (λ (i : ℕ). Some i) q.2
@@ -101,9 +101,9 @@ own_number s n b own e =
 -- where no session has asked, none is accepted
 accepted_last : (v : Service) (q : Question) → accepted_in v ≡ Some q → last_in v ≡ Some q
 accepted_last (Provisioned l) q e = absurd (none-some q e)
-accepted_last (Discovered m) q e = if_some (is_accepted m.link.auth) m.question q e
+accepted_last (Linked m) q e = if_some (is_accepted m.link.auth) m.question q e
 
-none_accepted : (s : State) (n ask : ℕ) → last_asking_at s n ≡ None → accepted_ask_at s n ≡ Some ask → ⊥
+none_accepted : (s : State) (n ask : ℕ) → last_asking_at s n ≡ None → accepted_number_at s n ≡ Some ask → ⊥
 none_accepted s n ask silent e =
     let q = mapped ask_of (option_and_then ask_in (value_at s.sessions n)) ask e in
     let x = found ask_in (value_at s.sessions n) q.0 q.1 in
@@ -140,11 +140,11 @@ module _ (held : List Held) where
     told = λ n ask is. told_later k n ask (h.told n ask (accepted_stayed s.slots n ask is));
   }
 
-  module _ (k : ℕ) (s : ShardState) (h : Handled) (i : HandledIn held k s h) (step : Step s.rules s.slots h.limited h.deed) (low : h.deed.next.asked < 2 ^ 64 - 1) (sure : IsSure held k i.place s) where
-    pub counted_on : s.slots.asked ≤ h.deed.next.asked
+  module _ (k : ℕ) (s : ShardState) (h : Handled) (i : HandledIn held k s h) (step : Step s.rules s.slots h.limited h.deed) (low : h.deed.next.question_count < 2 ^ 64 - 1) (sure : IsSure held k i.place s) where
+    pub counted_on : s.slots.question_count ≤ h.deed.next.question_count
     counted_on = ((step_asks s.rules s.slots h.limited h.deed step).count sure.small).0
 
-    counted_after : (n : ℕ) (b : Asking) → last_asking_at h.deed.next n ≡ Some b → b.number.ask ≤ h.deed.next.asked
+    counted_after : (n : ℕ) (b : Asking) → last_asking_at h.deed.next n ≡ Some b → b.number.ask ≤ h.deed.next.question_count
     counted_after n b is =
         let on = counted_on in
         elim (step_last s.rules s.slots h.limited h.deed step low n b is) [
@@ -152,7 +152,7 @@ module _ (held : List Held) where
           | inr new ↦ new.1
         ]
 
-    told_after : (n ask : ℕ) → accepted_ask_at h.deed.next n ≡ Some ask → IsTold held k n ask
+    told_after : (n ask : ℕ) → accepted_number_at h.deed.next n ≡ Some ask → IsTold held k n ask
     told_after n ask is = elim (step_accepted s.rules s.slots h.limited h.deed step n ask is) [
       | inl before ↦ sure.told n ask before
       | inr now ↦ let same : k ≤ k = omega arith in record { turn = k; before = same; state = s; handled = h; at = i; yes = now.0 }

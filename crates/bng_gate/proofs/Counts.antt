@@ -32,7 +32,7 @@ use Rattle.bng_steps.specs.declared.whose.Whose.{Whose}
 use Rattle.bng_steps.specs.Protocol.{ShardState, Handled, pppoe, entry_of}
 use Rattle.bng_shard.specs.Room.{is_end}
 use Rattle.bng_steps.proofs.GrantLaws.{step_few}
-use Rattle.bng_desk.specs.declared.reading.Ended.{Ended}
+use Rattle.bng_desk.specs.declared.reading.ReadEnd.{ReadEnd}
 use Rattle.bng_desk.specs.Coa.{Requested, change_in, change_item, change_items, has_places, requests_most}
 use Rattle.bng_desk.specs.Items.{DataReading, arrived, drawn_from, ends_of, entries_in, is_change_item, is_change_kind, is_verdict_item, is_verdict_kind, kept_of, stands_in, stays, taken_items, ticks_of, without_claim}
 use Rattle.bng_desk.specs.Kept.{AreFewAsked, IsAsked}
@@ -56,12 +56,12 @@ use Rattle.bng_gate.proofs.OpeningFacts.{OpeningFacts}
 -- What the steps of a journal ask --------------------------------------------------------------------------------------
 
 -- a step asks one question at most
-steps_ask : (s : ShardState) (es : List Handled) → AreSteps pppoe s es → (after_all pppoe s es).slots.asked ≤ s.slots.asked + length es
+steps_ask : (s : ShardState) (es : List Handled) → AreSteps pppoe s es → (after_all pppoe s es).slots.question_count ≤ s.slots.question_count + length es
 steps_ask s [] steps = omega arith
 steps_ask s (e ∷ es) steps = omega (arith, step_few s.rules s.slots e.limited e.deed steps.0.step, steps_ask (pppoe.next s e) es steps.1)
 
 -- and so does each in it
-one_asks : (s : ShardState) (earlier : List Handled) (h : Handled) (later : List Handled) → AreSteps pppoe s (earlier ++ h ∷ later) → h.deed.next.asked ≤ s.slots.asked + length (earlier ++ h ∷ later)
+one_asks : (s : ShardState) (earlier : List Handled) (h : Handled) (later : List Handled) → AreSteps pppoe s (earlier ++ h ∷ later) → h.deed.next.question_count ≤ s.slots.question_count + length (earlier ++ h ∷ later)
 one_asks s [] h later steps = omega (arith, step_few s.rules s.slots h.limited h.deed steps.0.step)
 one_asks s (e ∷ earlier) h later steps = omega (arith, step_few s.rules s.slots e.limited e.deed steps.0.step, one_asks (pppoe.next s e) earlier h later steps.1)
 
@@ -129,7 +129,7 @@ record Counts (d : Desk) (h : Held) (d' : Desk) : Type 0 where
 
 -- no shard has given a number above this one
 abbrev IsLow : ℕ → ShardView ShardState Entry → Type 0
-IsLow n v = v.state.slots.asked ≤ n
+IsLow n v = v.state.slots.question_count ≤ n
 
 low_later : (n m : ℕ) (vs : List (ShardView ShardState Entry)) → n ≤ m → AllByRecursion (IsLow n) vs → AllByRecursion (IsLow m) vs
 low_later n m [] le low = tt
@@ -140,7 +140,7 @@ low_after n [] [] low moves short = tt
 low_after n [] (w ∷ ws) low moves short = absurd moves
 low_after n (v ∷ vs) [] low moves short = absurd moves
 low_after n (v ∷ vs) (w ∷ ws) low moves short =
-    let count : w.state.slots.asked ≡ (after_all pppoe v.state w.journal).slots.asked = ap (λ (s : ShardState). s.slots.asked) moves.0.state in
+    let count : w.state.slots.question_count ≡ (after_all pppoe v.state w.journal).slots.question_count = ap (λ (s : ShardState). s.slots.question_count) moves.0.state in
     (omega (arith, count, low.0, short.0, steps_ask v.state w.journal moves.0.steps), low_after n vs ws low.1 moves.1 short.1)
 
 low_left : (n : ℕ) (vs : List (ShardView ShardState Entry)) (round : Option Round) → AllByRecursion (IsLow n) vs → AreFew vs round → AllByRecursion (IsLow (n + entries_most)) (left_after vs round)
@@ -149,7 +149,7 @@ low_left n vs (Some round) low few = low_after n vs round.shards low few.0 few.1
 
 -- each entry of a round asks no more
 entry_low : (n : ℕ) (vs : List (ShardView ShardState Entry)) (ws : List (ShardView ShardState Handled)) → AllByRecursion (IsLow n) vs → AllZip (Moves pppoe) (views_of vs) ws → AllByRecursion IsShort ws
-    → (place : ℕ) (earlier : List Handled) (h : Handled) (later : List Handled) → option_map (λ v. v.journal) (slice_get ws place) ≡ Some (earlier ++ h ∷ later) → h.deed.next.asked ≤ n + entries_most
+    → (place : ℕ) (earlier : List Handled) (h : Handled) (later : List Handled) → option_map (λ v. v.journal) (slice_get ws place) ≡ Some (earlier ++ h ∷ later) → h.deed.next.question_count ≤ n + entries_most
 entry_low n vs [] low moves short place earlier h later at = absurd (none-some _ at)
 entry_low n [] (w ∷ ws) low moves short place earlier h later at = absurd moves
 entry_low n (v ∷ vs) (w ∷ ws) low moves short zero earlier h later at =
@@ -159,14 +159,14 @@ entry_low n (v ∷ vs) (w ∷ ws) low moves short zero earlier h later at =
 entry_low n (v ∷ vs) (w ∷ ws) low moves short (suc place) earlier h later at = entry_low n vs ws low.1 moves.1 short.1 place earlier h later at
 
 in_round : (n : ℕ) (vs : List (ShardView ShardState Entry)) (round : Option Round) (r : Round) → AllByRecursion (IsLow n) vs → AreFew vs round → round ≡ Some r
-    → (place : ℕ) (earlier : List Handled) (h : Handled) (later : List Handled) → option_map (λ v. v.journal) (slice_get r.shards place) ≡ Some (earlier ++ h ∷ later) → h.deed.next.asked ≤ n + entries_most
+    → (place : ℕ) (earlier : List Handled) (h : Handled) (later : List Handled) → option_map (λ v. v.journal) (slice_get r.shards place) ≡ Some (earlier ++ h ∷ later) → h.deed.next.question_count ≤ n + entries_most
 in_round n vs None r low few is place earlier h later at = absurd (none-some r is)
 in_round n vs (Some round) r low few is place earlier h later at =
     let same : round ≡ r = same_Some round r is in
     let here : option_map (λ v. v.journal) (slice_get round.shards place) ≡ Some (earlier ++ h ∷ later) = subst (λ (x : Round). option_map (λ v. v.journal) (slice_get x.shards place) ≡ Some (earlier ++ h ∷ later)) (sym same) at in
     entry_low n vs round.shards low few.0 few.1 place earlier h later here
 
-counted : (n : ℕ) (d last : Desk) (held : List Held) → Chain Counts d held last → AllByRecursion (IsLow n) d.shards → (k : ℕ) (s : ShardState) (h : Handled) → HandledIn held k s h → h.deed.next.asked ≤ n + entries_most * (k + 1)
+counted : (n : ℕ) (d last : Desk) (held : List Held) → Chain Counts d held last → AllByRecursion (IsLow n) d.shards → (k : ℕ) (s : ShardState) (h : Handled) → HandledIn held k s h → h.deed.next.question_count ≤ n + entries_most * (k + 1)
 counted n d last [] run low k s h x = absurd (none-some x.turn x.at)
 counted n d last (t ∷ held) run low zero s h x =
     let same : t ≡ x.turn = same_Some t x.turn x.at in
@@ -262,7 +262,7 @@ no_requests : (qs : List Requested) → qs ≡ [] → length (change_items qs) �
 no_requests qs e = ap (λ (xs : List Requested). length (change_items xs)) e
 
 -- where Coa is read, no request stays
-changes_within : (serves empty places : Bool) (is : List Item) (qs : List Requested) (last : Option Ended) → (empty ≡ true → is ≡ []) → ReadsWhere requests_most (serves && (empty && places)) qs last
+changes_within : (serves empty places : Bool) (is : List Item) (qs : List Requested) (last : Option ReadEnd) → (empty ≡ true → is ≡ []) → ReadsWhere requests_most (serves && (empty && places)) qs last
     → count_by is_change_item is ≤ 32 → count_by is_change_item is + length (change_items qs) ≤ 32
 changes_within true true true is qs last none (ended, e, ends) few = omega (arith, ap (λ (xs : List Item). count_by is_change_item xs) (none refl), changes_few qs, taken_within 32 (length qs) ended ends)
 changes_within true true false is qs last none (e, empty) few = omega (arith, few, no_requests qs empty)

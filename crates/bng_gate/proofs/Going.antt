@@ -58,7 +58,7 @@ round_turns v d round stands is =
         shards = all_moved us ws went;
         mid = t.mid;
         claims = subst (λ (js : List (List Handled)). ClaimsSoFar pppoe v.held js t.mid) (sym (map_gone (λ (x : Sight). x.journal) (λ u w. refl) us ws went)) claims;
-        given = λ a. t.given a ∙ ap (λ (n : ℕ). is_held a t.mid && (0 == n)) (sym (sum_gone (λ (x : Sight). count_by (λ (s : Stop). s.key.lease.0 == a) x.stops) (λ u w. refl) us ws went));
+        given = λ a. t.given a ∙ ap (λ (n : ℕ). is_held a t.mid && (0 == n)) (sym (sum_gone (λ (x : Sight). count_by (λ (s : Stop). s.key.address.0 == a) x.stops) (λ u w. refl) us ws went));
         seats = each_gone (HasSeats (length v.tallies)) (λ u w h. h) us ws went seats;
         tallies = record {
           count = tallies.count;

@@ -24,7 +24,7 @@ HeldRun = Chain Holds
 
 -- no count of questions comes to its end in these turns
 abbrev pub HasCount : List Held → Type 0
-HasCount held = (k : ℕ) (s : ShardState) (h : Handled) → HandledIn held k s h → h.deed.next.asked < 2 ^ 64 - 1
+HasCount held = (k : ℕ) (s : ShardState) (h : Handled) → HandledIn held k s h → h.deed.next.question_count < 2 ^ 64 - 1
 
 -- the question is open in a shard before the turn with this number
 pub record OpenBefore (held : List Held) (k : ℕ) (a : Asking) : Type 0 where

@@ -17,8 +17,8 @@ use Rattle.bng_engine.specs.Views.{ShardView}
 use Rattle.bng_lane.specs.State.{IsNewLane}
 use Rattle.bng_steps.specs.declared.rules.Rules.{Rules}
 use Rattle.bng_steps.specs.declared.session.Session.{Session}
-use Rattle.bng_steps.specs.Granting.{IsSound, accepted_ask_at, accepted_in}
-use Rattle.bng_steps.specs.Made.{Question}
+use Rattle.bng_steps.specs.Granting.{IsSound, accepted_number_at, accepted_in}
+use Rattle.bng_steps.specs.LinkService.{Question}
 use Rattle.bng_steps.specs.Opening.{in_order, numbered_after, opened_slots}
 use Rattle.bng_steps.specs.Protocol.{ShardState, opened}
 use Rattle.bng_steps.specs.Questions.{Asking, asked_in, last_asking, last_asking_at, none_handed, open_of, questions_of}
@@ -40,9 +40,9 @@ pub record IsNewShard (r : Rules) (place : ℕ) (v : ShardView ShardState Entry)
   pub rules : v.state.rules ≡ r
   pub shard : v.state.slots.sessions.shard ≡ place
   pub sound : IsSound v.state.slots
-  pub unasked : v.state.slots.asked ≡ 0
+  pub unasked : v.state.slots.question_count ≡ 0
   pub none_last : (n : ℕ) → last_asking_at v.state.slots n ≡ None
-  pub none_accepted : (n : ℕ) → accepted_ask_at v.state.slots n ≡ None
+  pub none_accepted : (n : ℕ) → accepted_number_at v.state.slots n ≡ None
   pub none_open : questions_of v.state.slots ≡ []
 
 -- What a run begins from: shards in their order, at most 64, and at most 16 ports; each shard is fresh. No item stays, the lane is new,
@@ -59,9 +59,9 @@ pub record OpeningFacts (config : Config) (d : Desk) : Type 0 where
   pub fresh : (p : ℕ) (v : ShardView ShardState Entry) → slice_get d.shards p ≡ Some v → IsNewShard d.rules p v
   pub rules : HasOneRule d
   pub sound : All (λ v. IsSound v.state.slots) d.shards
-  pub unasked : All (λ v. v.state.slots.asked ≡ 0) d.shards
+  pub unasked : All (λ v. v.state.slots.question_count ≡ 0) d.shards
   pub none_last : All (λ v. (n : ℕ) → last_asking_at v.state.slots n ≡ None) d.shards
-  pub none_accepted : All (λ v. (n : ℕ) → accepted_ask_at v.state.slots n ≡ None) d.shards
+  pub none_accepted : All (λ v. (n : ℕ) → accepted_number_at v.state.slots n ≡ None) d.shards
   pub none_open : All (λ v. questions_of v.state.slots ≡ []) d.shards
   pub kept : d.kept ≡ []
   pub lane : IsNewLane (lane_rules config) d.lane
@@ -102,8 +102,8 @@ module _ (number : ℕ) (cs : List Static) (now : ℕ) (apart : ordered.Apart cs
   no_last : (n : ℕ) → last_asking_at slots n ≡ None
   no_last n = none_read last_asking (value_at slots.sessions n) (λ x at. (none_at n x at).last)
 
-  no_accepted : (n : ℕ) → accepted_ask_at slots n ≡ None
-  no_accepted n = ap (option_map (λ (q : Question). q.ask)) (none_read (λ (x : Session). accepted_in x.service) (value_at slots.sessions n) (λ x at. (none_at n x at).accepted))
+  no_accepted : (n : ℕ) → accepted_number_at slots n ≡ None
+  no_accepted n = ap (option_map (λ (q : Question). q.number)) (none_read (λ (x : Session). accepted_in x.service) (value_at slots.sessions n) (λ x at. (none_at n x at).accepted))
 
   no_open : questions_of slots ≡ []
   no_open = none_asked (values slots.sessions) all_none

@@ -169,7 +169,7 @@ module _ (r : Rules) (now : ℕ) where
   leases_are a n (c ∷ cs) =
       omega (
         arith,
-        sum_by-cons (λ (k : Key). one_if (eqb k.lease.0 a)) (key_in (tenure_from now c (n + 1))) (keys (terms_from now (n + 1) cs)),
+        sum_by-cons (λ (k : Key). one_if (eqb k.address.0 a)) (key_in (tenure_from now c (n + 1))) (keys (terms_from now (n + 1) cs)),
         sum_by-cons (λ (x : Static). one_if (eqb (address_in x) a)) c cs,
         leases_are a (n + 1) cs,
       )

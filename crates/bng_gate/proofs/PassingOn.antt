@@ -141,9 +141,9 @@ module _ (a : Ip4) (test : WirePacket → Bool) (its : (w : WirePacket) → test
   has_lease : (c : Charge) (ks : List Key) → c.address ≡ a → AnyOf (HasKey c) ks → 1 ≤ leases_at a.0 ks
   has_lease c [] e h = absurd h
   has_lease c (k ∷ ks) e (inl h) =
-      let same : k.lease.0 ≡ a.0 = ap (λ (x : Key). x.lease.0) h ∙ ap (λ (x : Ip4). x.0) e in
-      omega (arith, sum_by-cons (λ (x : Key). one_if (eqb x.lease.0 a.0)) k ks, ap one_if (eq-eqb k.lease.0 a.0 same))
-  has_lease c (k ∷ ks) e (inr h) = omega (arith, sum_by-cons (λ (x : Key). one_if (eqb x.lease.0 a.0)) k ks, has_lease c ks e h)
+      let same : k.address.0 ≡ a.0 = ap (λ (x : Key). x.address.0) h ∙ ap (λ (x : Ip4). x.0) e in
+      omega (arith, sum_by-cons (λ (x : Key). one_if (eqb x.address.0 a.0)) k ks, ap one_if (eq-eqb k.address.0 a.0 same))
+  has_lease c (k ∷ ks) e (inr h) = omega (arith, sum_by-cons (λ (x : Key). one_if (eqb x.address.0 a.0)) k ks, has_lease c ks e h)
 
   -- so where none has it, there is none
   not_charged : (ks : List Key) → leases_at a.0 ks ≡ 0 → (charge : Option Charge) → IfSome charge (λ c. AnyOf (HasKey c) ks) → option_map_or test (option_map (as_told tells_pppoe) charge) false ≡ false
@@ -166,12 +166,12 @@ module _ (a : Ip4) (test : WirePacket → Bool) (its : (w : WirePacket) → test
   leases_after : (s : ShardState) (es : List Handled) → AreSteps pppoe s es → leases_at a.0 (keys (terms_of (after pppoe s es))) ≡ leases_at a.0 (keys (terms_of s)) + times_in a.0 (claims_of pppoe es)
   leases_after s es steps =
       let begins = run_begins pppoe pppoe_laws s es steps in
-      let g = λ (k : Key). one_if (eqb k.lease.0 a.0) in
+      let g = λ (k : Key). one_if (eqb k.address.0 a.0) in
       omega (
         arith,
         begins.keys g,
         sum_by-append g (keys (terms_of s)) begins.began,
-        sum_map (λ (k : Key). k.lease.0) (λ (x : ℕ). one_if (eqb x a.0)) begins.began,
+        sum_map (λ (k : Key). k.address.0) (λ (x : ℕ). one_if (eqb x a.0)) begins.began,
         ap (times_in a.0) begins.leases,
       )
 

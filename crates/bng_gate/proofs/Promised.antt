@@ -106,7 +106,7 @@ round_passes hs ts hs' next f = absurd next
 -- a term that began has the address that its entry claimed
 shard_begins : (a : ℕ) (h : ShardHistory ShardState) (t : ShardTurn Handled) (h' : ShardHistory ShardState) → NextInShard pppoe h t h' → leases_at a t.settlement.starts ≡ times_in a (claims_of pppoe t.round.journal)
 shard_begins a h t h' n =
-    let g = λ (k : Key). one_if (eqb k.lease.0 a) in
+    let g = λ (k : Key). one_if (eqb k.address.0 a) in
     let here = keys (terms_of h.state) in
     let begins = run_begins pppoe pppoe_laws h.state t.round.journal n.round.steps in
     omega (
@@ -116,7 +116,7 @@ shard_begins a h t h' n =
       ap (λ (s : ShardState). sum_by g (keys (terms_of s))) n.round.state,
       begins.keys g,
       sum_by-append g here begins.began,
-      sum_map (λ (k : Key). k.lease.0) (λ (x : ℕ). one_if (eqb x a)) begins.began,
+      sum_map (λ (k : Key). k.address.0) (λ (x : ℕ). one_if (eqb x a)) begins.began,
       ap (times_in a) begins.leases,
     )
 
@@ -124,7 +124,7 @@ round_leases : (a : ℕ) (hs : List (ShardHistory ShardState)) (ts : List (Shard
     → leases_at a (there hs ++ begun ts) ≡ holders pppoe a hs + claimed_at pppoe a (journals_of (rounds_in_turns ts))
 round_leases a [] [] [] next = refl
 round_leases a (h ∷ hs) (t ∷ ts) (h' ∷ hs') next =
-    let g = λ (k : Key). one_if (eqb k.lease.0 a) in
+    let g = λ (k : Key). one_if (eqb k.address.0 a) in
     let here = keys (terms_of h.state) in
     let starts = t.settlement.starts in
     omega (
@@ -146,7 +146,7 @@ there_leases a (h ∷ hs) =
     omega (
       arith,
       there_leases a hs,
-      sum_by-append (λ (k : Key). one_if (eqb k.lease.0 a)) (keys (terms_of h.state)) (there hs),
+      sum_by-append (λ (k : Key). one_if (eqb k.address.0 a)) (keys (terms_of h.state)) (there hs),
       sum_by-cons (λ (x : ShardHistory ShardState). leases_at a (keys (terms_of x.state))) h hs,
     )
 

@@ -26,7 +26,7 @@ use Rattle.bng_gate.proofs.HeldRuns.{HeldRun}
 pub record IsFresh (p : ℕ) (s : ShardState) : Type 0 where
   pub sound : IsSound s.slots
   pub shard : s.slots.sessions.shard ≡ p
-  pub asked : s.slots.asked ≡ 0
+  pub asked : s.slots.question_count ≡ 0
   pub silent : (n : ℕ) → last_asking_at s.slots n ≡ None
 
 abbrev pub AreFresh : List (ShardView ShardState Entry) → Type 0

@@ -103,7 +103,7 @@ pub record SaysRow (f : FormedRecord) (r : Row) : Type 0 where
   pub status : f.status ≡ Interim
   pub term : f.facts.term ≡ r.key.term
   pub circuit : f.facts.circuit ≡ r.key.circuit
-  pub address : f.facts.address ≡ r.key.lease
+  pub address : f.facts.address ≡ r.key.address
   pub carried : f.facts.carried ≡ r.carried
 
 -- it is that of a row of this shard

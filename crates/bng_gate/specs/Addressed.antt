@@ -29,7 +29,7 @@ pub record IsWhole (Holds : Ipv4 → Type 0) (octets : List ℕ) : Type 0 where
 pub record IsFromTerm (terms : List Key) (octets : List ℕ) : Type 0 where
   pub term : Key
   pub among : Contains terms term
-  pub packet : IsWhole (λ v. v.src ≡ term.lease) octets
+  pub packet : IsWhole (λ v. v.src ≡ term.address) octets
 
 -- they went out on the port of the circuit of one of these terms, to its MAC (octets 0 to 5) and in its session (octets 16 and 17), and
 -- after 22 octets they are a packet whose destination is the term's address
@@ -43,7 +43,7 @@ pub record IsToTerm (terms : List Key) (role : Role) (octets : List ℕ) : Type 
   pub role_is : role ≡ Access port
   pub mac_is : take 6 octets ≡ mac.0
   pub session_is : big_from 16 2 octets ≡ session.0
-  pub packet : IsWhole (λ v. v.dst ≡ term.lease) (drop 22 octets)
+  pub packet : IsWhole (λ v. v.dst ≡ term.address) (drop 22 octets)
 
 -- They went to the peer of the tunnel of the circuit of one of these terms, which is a call, and after 10 octets they are a packet whose
 -- destination is the term's address. Octets 2 to 5 are the numbers that the peer gave the tunnel and the call: those of the circuit are the
@@ -56,7 +56,7 @@ pub record IsToCall (terms : List Key) (to : Peer) (octets : List ℕ) : Type 0 
   pub session : SessionNo
   pub circuit : term.circuit ≡ L2tp peer tunnel session
   pub to_is : to ≡ peer
-  pub packet : IsWhole (λ v. v.dst ≡ term.lease) (drop 10 octets)
+  pub packet : IsWhole (λ v. v.dst ≡ term.address) (drop 10 octets)
 
 -- What went to the core is a packet from the address of one of these terms. What went out on an access port as session data of IPv4
 -- (ETHER_TYPE 8864, PPP protocol 0021) is a packet on the circuit of one of them, to its address. What went to the peer of a tunnel as data

@@ -19,7 +19,7 @@ pub record IsStopRequest (rules : BillingRules) (octets : List ℕ) (s : Stop) :
   pub status : report.status ≡ OfStop
   pub term : report.facts.term ≡ s.key.term
   pub circuit : report.facts.circuit ≡ s.key.circuit
-  pub address : report.facts.address ≡ s.key.lease
+  pub address : report.facts.address ≡ s.key.address
   pub carried : report.facts.carried ≡ s.carried
   pub cause : report.moment.cause ≡ s.cause
   pub id : ℕ

@@ -36,13 +36,13 @@ use Rattle.bng_radius_wire.specs.Digests.{IsSigned}
 use Rattle.bng_radius_wire.specs.Grammar.{Packet, IsRadius}
 use Rattle.bng_steps.specs.Claiming.{IsAskedBy}
 use Rattle.bng_steps.specs.Deed.{arrival_in}
-use Rattle.bng_steps.specs.Granting.{GivesYes, IsYesOn, IsYesOver, accepted_ask_at}
+use Rattle.bng_steps.specs.Granting.{GivesYes, IsYesOn, IsYesOver, accepted_number_at}
 use Rattle.bng_steps.specs.Link.{call_octets}
 use Rattle.bng_steps.specs.Protocol.{ShardState, Handled, key_in, pppoe}
 use Rattle.bng_steps.specs.Questions.{Asking, asking_from, last_asking_at}
 use Rattle.bng_steps.specs.Tenures.{Tenure}
 use Rattle.bng_steps.specs.declared.session.Session.{Session}
-use Rattle.bng_steps.specs.declared.way.Called.{Called}
+use Rattle.bng_steps.specs.declared.way.TunnelCall.{TunnelCall}
 use Rattle.bng_steps.specs.declared.way.Way.TheVariants.{Call}
 use Rattle.bng_sessions.specs.Sessions.{value_at}
 use Rattle.bng_verdict.specs.declared.question.AuthAsk.{AuthAsk}
@@ -201,7 +201,7 @@ pub record IsItsReply (h : Handled) (session : ℕ) (g : Login) : Type 0 where
 pub record LetsInOwn (s : ShardState) (h : Handled) (circuit : Circuit) (session k : ℕ) (g : Login) : Type 0 where
   pub lets_in : LetsIn circuit k g
   pub own : last_asking_at s.slots session ≡ Some (asking_from g.ask)
-  pub by : (accepted_ask_at s.slots session ≡ Some g.ask.number.ask) ⊎ IsItsReply h session g
+  pub by : (accepted_number_at s.slots session ≡ Some g.ask.number.ask) ⊎ IsItsReply h session g
 
 -- the rounds of the turns, with the desks that they were made from, and the items that the turns had for them
 pub record Held : Type 0 where
@@ -329,7 +329,7 @@ pub record IsOverCall (s : ShardState) (to : Peer) (octets : List ℕ) : Type 0 
   pub session : SessionNo
   pub x : Session
   pub found : value_at s.slots.sessions session.0 ≡ Some x
-  pub called : Called
+  pub called : TunnelCall
   pub way_is : x.way ≡ Call called
   pub peer : called.peer ≡ to
   pub ppp : List ℕ

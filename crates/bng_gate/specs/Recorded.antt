@@ -42,7 +42,7 @@ pub record SaysStop (s : Stop) (f : FormedRecord) : Type 0 where
   pub status : f.status ≡ OfStop
   pub term : f.facts.term ≡ s.key.term
   pub circuit : f.facts.circuit ≡ s.key.circuit
-  pub address : f.facts.address ≡ s.key.lease
+  pub address : f.facts.address ≡ s.key.address
   pub carried : f.facts.carried ≡ s.carried
   pub cause : f.moment.cause ≡ s.cause
 
@@ -51,7 +51,7 @@ pub record SaysStart (k : Key) (f : FormedRecord) : Type 0 where
   pub status : f.status ≡ Start
   pub term : f.facts.term ≡ k.term
   pub circuit : f.facts.circuit ≡ k.circuit
-  pub address : f.facts.address ≡ k.lease
+  pub address : f.facts.address ≡ k.address
   pub carried : f.facts.carried ≡ empty_book
 
 -- what is formed of a round: a Stop of each of its Stops, in their order, and then a Start of each of its Starts, and then these Interims

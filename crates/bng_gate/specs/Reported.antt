@@ -16,7 +16,7 @@ pub record SaysInterim (f : FormedRecord) (h : ShardHistory ShardState) : Type 0
   pub status : f.status ≡ Interim
   pub term : f.facts.term ≡ key.term
   pub circuit : f.facts.circuit ≡ key.circuit
-  pub address : f.facts.address ≡ key.lease
+  pub address : f.facts.address ≡ key.address
   pub carried : SaysCarried h.sends key.term.serial f.facts.carried
 
 -- it is that of a term of one of these shards

@@ -22,11 +22,11 @@ use Rattle.bng_engine.specs.Terms.{Key, is_live, keys}
 use Rattle.bng_engine.specs.Views.{ShardView}
 use Rattle.bng_engine.specs.Wire.{is_from, is_to}
 use Rattle.bng_forward.specs.Fates.{Carries, IsCorePacket, IsFrame, IsPort}
-use Rattle.bng_forward.specs.Framed.{IsFrameTo}
+use Rattle.bng_forward.specs.Framing.{IsFrameTo}
 use Rattle.bng_forward.specs.Packets.{IsPassedOn}
 use Rattle.bng_l2tp_wire.specs.Messages.{DataMessage}
 use Rattle.bng_lns.specs.Datagrams.{CarriesOver, IsDataIn}
-use Rattle.bng_lns.specs.Framed.{IsCallFrameTo}
+use Rattle.bng_lns.specs.Framing.{IsCallFrameTo}
 use Rattle.bng_steps.specs.Protocol.{ShardState, terms_of}
 use Rattle.bng_steps.specs.Reader.{pppoe_reader}
 use Rattle.bng_desk.specs.Round.{Round, starts_of}
@@ -46,7 +46,7 @@ arrival_from d = record { from = d.peer; cut = false; octets = d.octets }
 pub record IsTermOn (terms : List Key) (address : Ip4) (circuit : Circuit) : Type 0 where
   pub term : Key
   pub among : Contains terms term
-  pub lease : term.lease ≡ address
+  pub lease : term.address ≡ address
   pub circuit_is : term.circuit ≡ circuit
 
 -- The datagram that was taken is a frame of the session stage for one of these access ports, with these octets as its packet (RFC 2516

@@ -16,10 +16,10 @@ mod judged;
 #[cfg(test)]
 mod lcp;
 #[cfg(test)]
+mod link_ends;
+#[cfg(test)]
+mod link_fixtures;
+#[cfg(test)]
+mod links;
+#[cfg(test)]
 mod ppp;
-#[cfg(test)]
-mod whole_ends;
-#[cfg(test)]
-mod whole_fixtures;
-#[cfg(test)]
-mod whole_links;

@@ -1,5 +1,5 @@
 pub mod Datagrams
-pub mod Framed
+pub mod Framing
 pub mod Places
 pub mod Tunnels
 pub mod Timed

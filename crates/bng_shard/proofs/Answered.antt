@@ -18,7 +18,7 @@ use Rattle.bng_steps.specs.declared.rules.Rules.{Rules}
 use Rattle.bng_steps.specs.declared.wish.Wish.{Wish}
 use Rattle.bng_steps.specs.Deed.{Deed}
 use Rattle.bng_steps.specs.Protocol.{ShardState, Handled, claimed_by, key_in, terms_of}
-use Rattle.bng_steps.specs.Running.{TermsView, whole}
+use Rattle.bng_steps.specs.TermRows.{TermsView, whole}
 use Rattle.bng_steps.specs.State.{State}
 use Rattle.bng_steps.specs.Step.{Step}
 use Rattle.bng_steps.specs.Wished.{IsAnswered, IsWished, WishesFor}
@@ -91,7 +91,7 @@ module _ (shard : ℕ) (claim : Claim) (s : State) (pool pool' : PlainView) (ans
   puts : (a : Ip4) → claim ≡ Claimed a → Puts pool.table a.0 shard pool'.table
   puts a is = (subst (λ (c : Claim). AnswersClaim shard c pool pool') is answers).0
 
-  claimed_free : (a : Ip4) → claim ≡ Claimed a → AllByRecursion (λ (k : Key). k.lease ≢ a) ks
+  claimed_free : (a : Ip4) → claim ≡ Claimed a → AllByRecursion (λ (k : Key). k.address ≢ a) ks
   claimed_free a is = free_of pool.table shard a ks (puts a is).free theirs
 
   -- an address that was claimed is that of no term
@@ -115,10 +115,10 @@ module _ (shard : ℕ) (claim : Claim) (s : State) (pool pool' : PlainView) (ans
         let begins = m.2 in
         let k = key_in begins.one in
         let stay : HoldTheirs pool'.table shard ks =
-        all_both (λ (j : Key). entry pool.table j.lease.0 ≡ Some shard) (λ (j : Key). j.lease ≢ a) (λ (j : Key). entry pool'.table j.lease.0 ≡ Some shard) ks
-        (λ j holds other. put.elsewhere j.lease.0 (λ same. other (same_address j.lease a same)) ∙ holds) theirs (claimed_free a m.1) in
+        all_both (λ (j : Key). entry pool.table j.address.0 ≡ Some shard) (λ (j : Key). j.address ≢ a) (λ (j : Key). entry pool'.table j.address.0 ≡ Some shard) ks
+        (λ j holds other. put.elsewhere j.address.0 (λ same. other (same_address j.address a same)) ∙ holds) theirs (claimed_free a m.1) in
         subst (HoldTheirs pool'.table shard) (sym (ap keys_there begins.terms ∙ keys_more s.terms begins.one))
-        (all_last (λ (j : Key). entry pool'.table j.lease.0 ≡ Some shard) ks k stay (ap (λ (b : Ip4). entry pool'.table b.0) begins.address ∙ put.put))
+        (all_last (λ (j : Key). entry pool'.table j.address.0 ≡ Some shard) ks k stay (ap (λ (b : Ip4). entry pool'.table b.0) begins.address ∙ put.put))
   ])
 
 -- some effects of these entries

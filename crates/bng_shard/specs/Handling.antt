@@ -27,11 +27,11 @@ HasPools pools ranges = (k : ℕ) (p : NamedRange) → slice_get pools k ≡ Som
 
 -- each term of the shard with this number holds its address
 abbrev pub AreHeld : ℕ → List Term → Table → Type 0
-AreHeld shard terms table = All (λ (t : Term). entry table t.key.lease.0 ≡ Some shard) terms
+AreHeld shard terms table = All (λ (t : Term). entry table t.key.address.0 ≡ Some shard) terms
 
 -- no term has this address
 abbrev pub IsUnused : ℕ → List Term → Type 0
-IsUnused a terms = All (λ (t : Term). t.key.lease.0 ≢ a) terms
+IsUnused a terms = All (λ (t : Term). t.key.address.0 ≢ a) terms
 
 -- the shard's allowance of new terms is used up by the entries of its journal
 abbrev pub is_limited : ShardView ShardState Entry → Bool

@@ -6,7 +6,7 @@ ghost use Rattle.bng_profile.specs.Books.{AreDifferent, names_of};
 use crate::indexed::Indexed;
 use bng_base::{Batch, Entry, OutRecord};
 use bng_profile::Profiles;
-use bng_steps::{Answer, Rules, Served, ShardError, Terms};
+use bng_steps::{ChangeAnswer, Rules, Served, ShardError, Terms};
 use std::alloc::Global;
 
 /// The fields of a shard. They stand in memory of their own, so that a shard is moved by one word.
@@ -20,7 +20,7 @@ pub(crate) struct Body {
     pub(crate) left: u32,
     pub(crate) journal: Batch<Entry>,
     pub(crate) outs: Batch<OutRecord>,
-    pub(crate) changed: Vec<Answer>,
+    pub(crate) changed: Vec<ChangeAnswer>,
     pub(crate) room: usize,
     // whether a journal was handed out with its memory, and no list was given for the next ones since
     pub(crate) lent: bool,

@@ -11,7 +11,7 @@ use bng_pool::PlainPool;
 use bng_steps::{Rules, Wish};
 
 /// What the pool answers to a wish of the shard with this number. Its ranges are those of the rules' pools, at the same places.
-pub(crate) fn ask(pool: &mut PlainPool, _rules: &Rules, shard: u16, wish: Wish) -> Claim
+pub(crate) fn claim_wish(pool: &mut PlainPool, _rules: &Rules, shard: u16, wish: Wish) -> Claim
     requires shard { shard < pool.old.shards }
     requires pools { HasPools _rules.now.pools pool.old.ranges }
     requires may { MayWish _rules.now.pools wish }

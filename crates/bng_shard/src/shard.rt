@@ -20,7 +20,7 @@ ghost use Rattle.bng_steps.specs.Wished.{IsAnswered, IsWished, MayWish};
 ghost use Rattle.bng_steps.specs.Sums.{charged_as, AreCovered, AreLow, IsLow, RowsAreLow};
 
 use crate::body::{Body, books_of};
-use crate::claim::{ask, left_after};
+use crate::claim::{claim_wish, left_after};
 use crate::indexed::Indexed;
 use crate::rooms::{handed_out, is_lent, reserve_amply};
 use bng_base::{At, Batch, Book, Claim, Entry, Fate, Item, LONGEST, OutRecord, Static};
@@ -273,7 +273,7 @@ impl Shard {
         ensures { Handles self.old self.new pool.old pool.new (entry_of seat place now item.now) result ledger.old ledger.new }
     {
         let wish = self.wish(item);
-        let claim = ask(pool, self.rules(), self.number(), wish);
+        let claim = claim_wish(pool, self.rules(), self.number(), wish);
         self.step_with(seat, place, now, item, claim, ledger)
     }
 
@@ -354,7 +354,7 @@ impl Shard {
     /// Hands out what the first of the requests for changes was answered that were not told yet, in the order of the journal: the number of
     /// its item, and the verdict. None exactly where all were told.
     pub fn changed(&mut self) -> Option<(u64, ChangeVerdict)>
-        ensures first { result ≡ option_map (λ a. (a.ask, a.verdict)) (slice_get self.old.state.changed 0) }
+        ensures first { result ≡ option_map (λ a. (a.number, a.verdict)) (slice_get self.old.state.changed 0) }
         ensures after { self.new ≡ record self.old { state = record self.old.state { changed = drop 1 self.old.state.changed }; room = 0 } }
     {
         let body = &mut *self.body;
@@ -363,7 +363,7 @@ impl Shard {
             return None;
         }
         let answer = body.changed.remove(0);
-        Some((answer.ask, answer.verdict))
+        Some((answer.number, answer.verdict))
     }
 
     /// Keeps an empty list for the journals of the rounds to come, as one that `drain` handed out: its places serve again. No round

@@ -7,7 +7,7 @@ ghost use Rattle.bng_engine.specs.Views.{row_keys};
 ghost use Rattle.bng_steps.specs.Interims.{AwaitsInterims, are_none, owed};
 ghost use Rattle.bng_steps.specs.Live.{live_in};
 ghost use Rattle.bng_steps.specs.Protocol.{SaysOf, deadline_of, ended_terms, key_of, row_at, sessions_of};
-ghost use Rattle.bng_steps.specs.Questions.{asking_from, handed_after, open_ask_at, waiting};
+ghost use Rattle.bng_steps.specs.Questions.{asking_from, handed_after, open_number_at, waiting};
 ghost use Rattle.bng_steps.specs.State.{reaped};
 ghost use Rattle.bng_steps.specs.Sums.{traffic_in};
 ghost use Rattle.bng_sessions.specs.Sessions.{IsNumberOf};
@@ -97,7 +97,7 @@ impl Shard {
     /// Whether a session has an open question: `asked` hands out none where none has.
     pub fn has_open(&self) -> bool
         ensures none { result ≡ false → (handed : List ℕ) → waiting self.now.state.slots handed ≡ [] }
-        ensures some { result ≡ true → (n : ℕ) × IsSome (open_ask_at self.now.state.slots n) }
+        ensures some { result ≡ true → (n : ℕ) × IsSome (open_number_at self.now.state.slots n) }
     {
         self.body.served.has_open()
     }

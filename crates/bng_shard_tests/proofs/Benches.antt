@@ -77,7 +77,7 @@ module _ (shard now : ℕ) (table : Table) where
   abbrev HasIt : Static → Type 0
   HasIt c = entry table c.address.0 ≡ Some shard
 
-  held_after : (n : ℕ) (cs : List Static) → AllByRecursion HasIt cs → AllByRecursion (λ (t : Term). entry table t.key.lease.0 ≡ Some shard) (map term_in (tenures_after now n cs))
+  held_after : (n : ℕ) (cs : List Static) → AllByRecursion HasIt cs → AllByRecursion (λ (t : Term). entry table t.key.address.0 ≡ Some shard) (map term_in (tenures_after now n cs))
   held_after n [] all = tt
   held_after n (c ∷ cs) all = (all.0, held_after (n + 1) cs all.1)
 

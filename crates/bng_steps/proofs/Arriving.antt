@@ -8,7 +8,7 @@ use Rattle.bng_base.specs.declared.settings.AccessPort.{AccessPort}
 use Rattle.bng_base.specs.FateOf.{arrival_of}
 use Rattle.bng_base.specs.PppoeGrammar.{PppoeFrame}
 use Rattle.bng_forward.specs.Fates.{NamesSession, Carries, IsFrame}
-use Rattle.bng_forward.specs.Framed.{IsFrameWith}
+use Rattle.bng_forward.specs.Framing.{IsFrameWith}
 use Rattle.bng_steps.specs.declared.rules.Rules.{Rules}
 use Rattle.bng_base.specs.declared.item.At.{At}
 use Rattle.bng_steps.specs.State.{State, session_of}

@@ -391,10 +391,10 @@ module _ (now number : ℕ) (circuits : List Static) (sessions : Sessions Sessio
       subst (λ (y : Session). KeepsLease y.service y.lease) (sym there.is) tt
 
   pub opened_is : (profiles : List Profile) → All (λ c. IsNumberOf number c.session.0) circuits
-      → ◌≡◌ {A = State} (record { sessions = sessions; begun = begun; asked = 0; terms = tenures_after now 0 (in_order number circuits); news = []; passed = none_passed; meters = opened_meters number profiles circuits now; tunnels = no_tunnels number }) (opened_slots number profiles circuits now)
+      → ◌≡◌ {A = State} (record { sessions = sessions; begun = begun; question_count = 0; terms = tenures_after now 0 (in_order number circuits); news = []; passed = none_passed; meters = opened_meters number profiles circuits now; tunnels = no_tunnels number }) (opened_slots number profiles circuits now)
   opened_is profiles own =
       let map = from_entries_of sessions.by_number (numbered_after now 0 (in_order number circuits)) h.stand in
       let one : Static → ℕ = λ _. 1 in
       let count : begun ≡ length circuits =
       h.counted ∙ sym (ones (in_order number circuits)) ∙ sum_in_order one number circuits (recursion_from_All (λ (c : Static). IsNumberOf number c.session.0) circuits own) ∙ ones circuits in
-      λ i. record { sessions = record { shard = h.shard i; by_number = map i }; begun = count i; asked = 0; terms = tenures_after now 0 (in_order number circuits); news = []; passed = none_passed; meters = opened_meters number profiles circuits now; tunnels = no_tunnels number }
+      λ i. record { sessions = record { shard = h.shard i; by_number = map i }; begun = count i; question_count = 0; terms = tenures_after now 0 (in_order number circuits); news = []; passed = none_passed; meters = opened_meters number profiles circuits now; tunnels = no_tunnels number }

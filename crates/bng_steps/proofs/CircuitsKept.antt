@@ -9,7 +9,7 @@ use Rattle.bng_base.specs.declared.item.Entry.{Entry}
 use Rattle.bng_base.specs.declared.item.OutRecord.{OutRecord}
 use Rattle.bng_base.specs.declared.book.Profile.{Profile}
 use Rattle.bng_base.specs.declared.settings.Static.{Static}
-use Rattle.bng_ppp.specs.declared.whole_input.WholeInput.TheVariants.{Close, Start, Timer}
+use Rattle.bng_ppp.specs.declared.input.Input.TheVariants.{Close, Start, Timer}
 use Rattle.bng_coa.specs.Wants.{wanted}
 use Rattle.bng_radius_wire.specs.Grammar.{Packet}
 use Rattle.bng_sessions.specs.Listed.{values}
@@ -142,7 +142,7 @@ module _ (circuits : ℕ) where
   }
 
   keeps_ended : (s : State) (n : ℕ) (x : Session) (cause : ℕ) → IsCause cause → (CircuitsLast circuits s → Spares x.lease (Some cause)) → Keeps s (with_ended s n x.lease cause (ended x))
-  keeps_ended s n x cause known spares = keeps_with s n x.lease (Some cause) (ended x) (beside_at 0 s.asked s.tunnels) known (λ h. none_later (ended x) refl) spares
+  keeps_ended s n x cause known spares = keeps_with s n x.lease (Some cause) (ended x) (beside_at 0 s.question_count s.tunnels) known (λ h. none_later (ended x) refl) spares
 
   -- what a session that discovery made ends is no circuit's
   made_spares : (s : State) (n : ℕ) (x : Session) (cause : Option ℕ) → value_at s.sessions n ≡ Some x → made_one x.service ≡ 1 → CircuitsLast circuits s → Spares x.lease cause
@@ -156,10 +156,10 @@ module _ (circuits : ℕ) where
 
   -- a step of a link that ends its term by one of the causes that there are
   keeps_driven : (r : Rules) (a : At) (moment : ℕ) (s : State) (n : ℕ) (x x' : Session) (outs : List OutRecord) (cause : Option ℕ) (beside' : Beside) (Steps : LinkStep) → IfSome cause IsCause → value_at s.sessions n ≡ Some x
-      → Drives r a (beside_at moment s.asked s.tunnels) x Steps outs cause x' beside' → Keeps s (with_driven s n x.lease cause x' beside')
+      → Drives r a (beside_at moment s.question_count s.tunnels) x Steps outs cause x' beside' → Keeps s (with_driven s n x.lease cause x' beside')
   keeps_driven r a moment s n x x' outs cause beside' Steps known at drives =
       let made : made_one x.service ≡ 1 = ap made_one drives.is_made in
-      keeps_with s n x.lease cause x' beside' known (λ h l is leased. h.later n x l at made (drives_was r a (beside_at moment s.asked s.tunnels) x x' outs cause beside' Steps drives l leased)) (made_spares s n x cause at made)
+      keeps_with s n x.lease cause x' beside' known (λ h l is leased. h.later n x l at made (drives_was r a (beside_at moment s.question_count s.tunnels) x x' outs cause beside' Steps drives l leased)) (made_spares s n x cause at made)
 
   keeps_walk : (r : Rules) → WalksBy r Keeps
   keeps_walk r = record {
@@ -189,7 +189,7 @@ module _ (circuits : ℕ) where
     turns = λ s n x c call at way h. record { few = h.few; later = later_with s n (turned x c call) (λ l made leased. h.later n x l at made leased) h.later; causes = h.causes; known = h.known };
     over = λ s n x m c call at is way.
         let y = ended (turned x c call) in
-        keeps_with s n x.lease (Some lost_carrier) y (beside_at 0 s.asked s.tunnels) (inr (inl refl)) (λ h. none_later y refl) (made_spares s n x (Some lost_carrier) at (ap made_one is));
+        keeps_with s n x.lease (Some lost_carrier) y (beside_at 0 s.question_count s.tunnels) (inr (inl refl)) (λ h. none_later y refl) (made_spares s n x (Some lost_carrier) at (ap made_one is));
     connects = λ e s n x x' m c call link outs none beside' at is way new drives.
         keeps_with s n x.lease (Some lost_carrier) x' beside' (inr (inl refl))
         (λ h l made leased. absurd (none_some l (drives_was r (at_of s e) (beside_of s e) (linked_anew (turned x c call) link) x' outs none beside' (told r e Start) drives l leased)))

@@ -6,16 +6,16 @@ use Rattle.bng_base.specs.declared.address.SessionNo.{SessionNo}
 use Rattle.bng_base.specs.declared.item.OutRecord.{OutRecord}
 use Rattle.bng_base.specs.declared.settings.AccessPort.{AccessPort}
 use Rattle.bng_discovery.specs.declared.port.PortRules.{PortRules}
-use Rattle.bng_ppp.specs.PppRelation.{PppSaid}
-use Rattle.bng_ppp.specs.PppState.{PppState}
+use Rattle.bng_ppp.specs.LinkRelation.{LinkSaid}
+use Rattle.bng_ppp.specs.LinkState.{LinkState}
 use Rattle.bng_lns.specs.Tunnels.{TunnelsState}
-use Rattle.bng_steps.specs.Made.{Made}
+use Rattle.bng_steps.specs.LinkService.{LinkService}
 use Rattle.bng_steps.specs.declared.rules.Rules.{Rules}
 use Rattle.bng_base.specs.declared.item.At.{At}
-use Rattle.bng_steps.specs.declared.session.Service.TheVariants.{Discovered}
+use Rattle.bng_steps.specs.declared.session.Service.TheVariants.{Linked}
 use Rattle.bng_steps.specs.declared.session.Session.{Session}
 use Rattle.bng_steps.specs.State.{port_at, offers_at, Beside, beside_at}
-use Rattle.bng_steps.specs.Link.{LinkStep, asked_after, with_link, IsParted, PartsOn, SaysOn, after_link, parted_way, way_after}
+use Rattle.bng_steps.specs.Link.{LinkStep, count_after, with_link, IsParted, PartsOn, SaysOn, after_link, parted_way, way_after}
 use Rattle.bng_steps.specs.Driven.{Driven}
 use Rattle.bng_steps.proofs.Values.{none_some}
 
@@ -36,18 +36,18 @@ beside false ports offers i port same is = there offers i (omega (arith, slice_g
 pub offered : (r : Rules) (n : ℕ) (port : AccessPort) → length r.offers ≡ length r.access → port_at r.access n ≡ Some port → (o : PortRules) × (offers_at r.offers n ≡ Some o)
 offered r n port same is = beside (n == 0) r.access r.offers (n - 1) port same is
 
-module _ (r : Rules) (a : At) (Steps : LinkStep) (beside : Beside) (x : Session) (made : Made) (is_made : x.service ≡ Discovered made) (says : PppSaid) (l : PppState) (steps : Steps made.link says l)
+module _ (r : Rules) (a : At) (Steps : LinkStep) (beside : Beside) (x : Session) (made : LinkService) (is_made : x.service ≡ Linked made) (says : LinkSaid) (l : LinkState) (steps : Steps made.link says l)
     (outs sent first : List OutRecord) (tells : SaysOn x.way r a x.number says.outs first) (sent_are : sent ≡ outs ++ first) where
   -- the session once it has ended on its way, and where it has not
-  pub finished_link : says.finished ≡ true → (let y : Session = record (with_link x made beside.asked says l) { way = parted_way x.way } in y) ≡ after_link x made beside.asked says l
-  finished_link e = ap (λ (b : Bool). let y : Session = record (with_link x made beside.asked says l) { way = way_after b x.way } in y) (sym e)
+  pub finished_link : says.finished ≡ true → (let y : Session = record (with_link x made beside.question_count says l) { way = parted_way x.way } in y) ≡ after_link x made beside.question_count says l
+  finished_link e = ap (λ (b : Bool). let y : Session = record (with_link x made beside.question_count says l) { way = way_after b x.way } in y) (sym e)
 
-  pub going_link : says.finished ≡ false → with_link x made beside.asked says l ≡ after_link x made beside.asked says l
-  going_link e = ap (λ (b : Bool). let y : Session = record (with_link x made beside.asked says l) { way = way_after b x.way } in y) (sym e)
+  pub going_link : says.finished ≡ false → with_link x made beside.question_count says l ≡ after_link x made beside.question_count says l
+  going_link e = ap (λ (b : Bool). let y : Session = record (with_link x made beside.question_count says l) { way = way_after b x.way } in y) (sym e)
 
   -- LCP finished, and last its way is told so
   pub driven_finished : (all last : List OutRecord) (t : TunnelsState) → says.finished ≡ true → PartsOn x.way r a beside.moment x.number beside.tunnels last t → length last ≤ 1 → all ≡ sent ++ last
-      → Driven r a Steps beside x says.term_ended (after_link x made beside.asked says l) (beside_at beside.moment (asked_after beside.asked says.asked) t) outs all
+      → Driven r a Steps beside x says.term_ended (after_link x made beside.question_count says l) (beside_at beside.moment (count_after beside.question_count says.asked) t) outs all
   driven_finished all last t finished parts few are = record {
     more = first ++ last;
     drives = record {
@@ -70,7 +70,7 @@ module _ (r : Rules) (a : At) (Steps : LinkStep) (beside : Beside) (x : Session)
     few_last = few;
   }
 
-  pub driven_on : says.finished ≡ false → Driven r a Steps beside x says.term_ended (after_link x made beside.asked says l) (beside_at beside.moment (asked_after beside.asked says.asked) beside.tunnels) outs sent
+  pub driven_on : says.finished ≡ false → Driven r a Steps beside x says.term_ended (after_link x made beside.question_count says l) (beside_at beside.moment (count_after beside.question_count says.asked) beside.tunnels) outs sent
   driven_on going = record {
     more = first ++ [];
     drives = record {

@@ -31,33 +31,33 @@ use Rattle.bng_l2tp_call.specs.Steps as call
 use Rattle.bng_l2tp_call.specs.Steps.{end_step, to_peer}
 use Rattle.bng_l2tp_tunnel.specs.Sound.{IsSpelled}
 use Rattle.bng_l2tp_wire.specs.Messages.{data_text}
-use Rattle.bng_lns.specs.Framed.{call_message}
+use Rattle.bng_lns.specs.Framing.{call_message}
 use Rattle.bng_lns.specs.Timed.{Telling, reminded, stopped}
 use Rattle.bng_lns.specs.Tunnels.{TunnelsState}
 use Rattle.bng_ppp.specs.declared.authentication.Authentication.{Authentication}
 use Rattle.bng_ppp.specs.declared.authentication.Authentication.TheVariants as auth
-use Rattle.bng_ppp.specs.declared.whole_input.WholeInput.{WholeInput}
-use Rattle.bng_ppp.specs.declared.whole_input.WholeInput.TheVariants.{Start, Timer, Close}
+use Rattle.bng_ppp.specs.declared.input.Input.{Input}
+use Rattle.bng_ppp.specs.declared.input.Input.TheVariants.{Start, Timer, Close}
 use Rattle.bng_ppp.specs.Claims.{Claim}
 use Rattle.bng_ppp.specs.Granting.{IsYes, MayAccept, is_frame, is_yes_verdict}
 use Rattle.bng_ppp.specs.Phases.{is_begun}
-use Rattle.bng_ppp.specs.PppRelation.{PppSaid, PppSteps}
-use Rattle.bng_ppp.specs.PppState.{PppState, is_accepted, is_open}
-use Rattle.bng_ppp.proofs.WholeOuts.{ppp_steps_grant}
-use Rattle.bng_ppp.proofs.WholePhases.{accepted_begun, open_unsettled}
-use Rattle.bng_ppp.proofs.WholeQuestions.{accepted_by_verdict, asked_is_open, only_frames_ask, open_was_asked}
+use Rattle.bng_ppp.specs.LinkRelation.{LinkSaid, LinkSteps}
+use Rattle.bng_ppp.specs.LinkState.{LinkState, is_accepted, is_open}
+use Rattle.bng_ppp.proofs.LinkOuts.{link_steps_grant}
+use Rattle.bng_ppp.proofs.LinkPhases.{accepted_begun, open_unsettled}
+use Rattle.bng_ppp.proofs.LinkQuestions.{accepted_by_verdict, asked_is_open, only_frames_ask, open_was_asked}
 use Rattle.bng_sessions.specs.Sessions.{IsNumberOf, value_at, with_value}
 use Rattle.bng_sessions.proofs.SessionLaws.{value_at-with_value, value_at-with_other}
 use Rattle.bng_verdict.specs.Verdicts.{Saying, IsVerdict}
-use Rattle.bng_steps.specs.Made.{Made, Question}
+use Rattle.bng_steps.specs.LinkService.{LinkService, Question}
 use Rattle.bng_steps.specs.declared.meters.Meters.{Meters}
 use Rattle.bng_steps.specs.declared.rules.Rules.{Rules}
 use Rattle.bng_base.specs.declared.item.At.{At}
 use Rattle.bng_steps.specs.declared.session.Lease.{Lease}
 use Rattle.bng_steps.specs.declared.session.Service.{Service}
-use Rattle.bng_steps.specs.declared.session.Service.TheVariants.{Provisioned, Discovered}
+use Rattle.bng_steps.specs.declared.session.Service.TheVariants.{Provisioned, Linked}
 use Rattle.bng_steps.specs.declared.session.Session.{Session}
-use Rattle.bng_steps.specs.declared.way.Called.{Called}
+use Rattle.bng_steps.specs.declared.way.TunnelCall.{TunnelCall}
 use Rattle.bng_steps.specs.declared.way.Way.{Way}
 use Rattle.bng_steps.specs.declared.way.Way.TheVariants.{Port, Call}
 use Rattle.bng_steps.specs.State.{Beside, State, beside_at, call_of, circuit_in, leaves, session_of, settled, with_session, with_driven, with_ended, with_tunnels}
@@ -67,12 +67,12 @@ use Rattle.bng_steps.specs.Cutting.{cut_at, cut_if, cut_of, cut_off, cut_told, i
 use Rattle.bng_steps.specs.Deed.{Deed, at_of, beside_of, frame_outs, tunnel_outs}
 use Rattle.bng_steps.specs.Discovery.{Answers, IsNewLink, Makes, host_uniq_of, new_session}
 use Rattle.bng_steps.specs.Frames.{HearsData, HearsPpp, HearsControl, HearsIn, HearsFrame, HearsAccess, HearsCore}
-use Rattle.bng_steps.specs.Granting.{HasQuestion, IsGranted, IsGrantedOn, IsGrantedOver, IsSound, IsYesOn, IsYesOver, accepted_ask_at, accepted_in}
+use Rattle.bng_steps.specs.Granting.{HasQuestion, IsGranted, IsGrantedOn, IsGrantedOver, IsSound, IsYesOn, IsYesOver, accepted_number_at, accepted_in}
 use Rattle.bng_steps.specs.L2tp.{TellInTurn, TellsIts, tunnels_most}
-use Rattle.bng_steps.specs.Link.{LinkStep, Drives, Told, admin_reset, asked_after, call_octets, ended, ended_service, hears, lost_carrier, nas_request, next_ask, question_after, settles, told, user_request, way_after}
+use Rattle.bng_steps.specs.Link.{LinkStep, Drives, Told, admin_reset, count_after, call_octets, ended, ended_service, hears, lost_carrier, nas_request, next_question, question_after, settles, told, user_request, way_after}
 use Rattle.bng_steps.specs.Metered.{meters_at, meters_of, spent_input, spent_output}
 use Rattle.bng_steps.specs.Passing.{cause_at, lapsed, looked, passed_at, place_in, with_passed}
-use Rattle.bng_steps.specs.Questions.{Asking, asking_of, last_asking, last_asking_at, last_in, open_ask_at, open_in, open_of}
+use Rattle.bng_steps.specs.Questions.{Asking, asking_of, last_asking, last_asking_at, last_in, open_number_at, open_in, open_of}
 use Rattle.bng_steps.specs.Step.{Hears, Step}
 use Rattle.bng_steps.specs.Tenures.{Tenure, closed}
 use Rattle.bng_steps.specs.Timers.{IsTimed, LooksAt, LosesTerm, TimesIn, Ticks, Ends, HearsTick, HearsEnd, Reminds, StopsTunnels, at_once}
@@ -119,13 +119,13 @@ read_with read s n y m k e =
 abbrev ask_in : Session → Option Question
 ask_in x = accepted_in x.service
 
-accepted_with : (s : State) (n : ℕ) (y : Session) (m ask : ℕ) → accepted_ask_at (with_session s n y) m ≡ Some ask
-    → ((m ≡ n) × (q : Question) × (accepted_in y.service ≡ Some q) × (q.ask ≡ ask)) ⊎ (accepted_ask_at s m ≡ Some ask)
+accepted_with : (s : State) (n : ℕ) (y : Session) (m ask : ℕ) → accepted_number_at (with_session s n y) m ≡ Some ask
+    → ((m ≡ n) × (q : Question) × (accepted_in y.service ≡ Some q) × (q.number ≡ ask)) ⊎ (accepted_number_at s m ≡ Some ask)
 accepted_with s n y m ask e =
-    let found = mapped (λ (q : Question). q.ask) (option_and_then ask_in (value_at (with_session s n y).sessions m)) ask e in
+    let found = mapped (λ (q : Question). q.number) (option_and_then ask_in (value_at (with_session s n y).sessions m)) ask e in
     elim (read_with ask_in s n y m found.0 found.1) [
       | inl here ↦ inl (here.0, found.0, here.1, found.2)
-      | inr before ↦ inr (ap (option_map (λ (q : Question). q.ask)) before ∙ ap (λ (i : ℕ). Some i) found.2)
+      | inr before ↦ inr (ap (option_map (λ (q : Question). q.number)) before ∙ ap (λ (i : ℕ). Some i) found.2)
     ]
 
 pub last_with : (s : State) (n : ℕ) (y : Session) (m : ℕ) (a : Asking) → last_asking_at (with_session s n y) m ≡ Some a
@@ -136,13 +136,13 @@ last_with s n y m a e =
       | inr before ↦ inr before
     ]
 
-module _ (s : State) (n : ℕ) (x : Session) (at : value_at s.sessions n ≡ Some x) (made : Made) (is_made : x.service ≡ Discovered made) (q : Question) (is : made.question ≡ Some q) where
-  accepted_there : is_accepted made.link.auth ≡ true → accepted_ask_at s n ≡ Some q.ask
+module _ (s : State) (n : ℕ) (x : Session) (at : value_at s.sessions n ≡ Some x) (made : LinkService) (is_made : x.service ≡ Linked made) (q : Question) (is : made.question ≡ Some q) where
+  accepted_there : is_accepted made.link.auth ≡ true → accepted_number_at s n ≡ Some q.number
   accepted_there tells =
-      let inside : accepted_in (Discovered made) ≡ Some q = ap (λ (b : Bool). if b then made.question else None) tells ∙ is in
-      ap (λ (o : Option Session). option_map (λ (p : Question). p.ask) (option_and_then ask_in o)) at
-      ∙ ap (λ (v : Service). option_map (λ (p : Question). p.ask) (accepted_in v)) is_made
-      ∙ ap (option_map (λ (p : Question). p.ask)) inside
+      let inside : accepted_in (Linked made) ≡ Some q = ap (λ (b : Bool). if b then made.question else None) tells ∙ is in
+      ap (λ (o : Option Session). option_map (λ (p : Question). p.number) (option_and_then ask_in o)) at
+      ∙ ap (λ (v : Service). option_map (λ (p : Question). p.number) (accepted_in v)) is_made
+      ∙ ap (option_map (λ (p : Question). p.number)) inside
 
   pub last_there : last_asking_at s n ≡ Some (asking_of x q)
   last_there =
@@ -152,8 +152,8 @@ module _ (s : State) (n : ℕ) (x : Session) (at : value_at s.sessions n ≡ Som
 
 -- the question after a step is a new one, or the last one
 after_question : (n : ℕ) (claim : Option Claim) (begun : Bool) (last : Option Question) (q : Question) → question_after n claim begun last ≡ Some q
-    → ((is_some claim ≡ true) × (q.ask ≡ next_ask n)) ⊎ ((claim ≡ None) × (last ≡ Some q))
-after_question n (Some claim) begun last q e = inl (refl, ap (λ (p : Question). p.ask) (sym (same_some _ q e)))
+    → ((is_some claim ≡ true) × (q.number ≡ next_question n)) ⊎ ((claim ≡ None) × (last ≡ Some q))
+after_question n (Some claim) begun last q e = inl (refl, ap (λ (p : Question). p.number) (sym (same_some _ q e)))
 after_question n None true last q e = inr (refl, e)
 after_question n None false last q e = absurd (none_some q e)
 
@@ -166,7 +166,7 @@ has_asked : (n : ℕ) (claim : Option Claim) (begun : Bool) (last : Option Quest
 has_asked n (Some claim) begun last some = refl
 has_asked n None begun last some = absurd (false≢true some)
 
-few_after : (n : ℕ) (claim : Option Claim) → asked_after n claim ≤ n + 1
+few_after : (n : ℕ) (claim : Option Claim) → count_after n claim ≤ n + 1
 few_after n None = omega arith
 few_after n (Some claim) = omega arith
 
@@ -189,25 +189,25 @@ decided_yes r limited octets claim t (inr (inr (v, says, allows, g, grant, answe
 -- Calls of sessions -------------------------------------------------------------------------------------------------------
 
 -- two calls are of one tunnel of one peer, and what goes out over them goes to the same numbers
-record SameCall (c d : Called) : Type 0 where
+record SameCall (c d : TunnelCall) : Type 0 where
   peer : c.peer ≡ d.peer
   tunnel : c.tunnel ≡ d.tunnel
   octets : (f : List ℕ) → call_octets c f ≡ call_octets d f
 
-own_call : (c : Called) → SameCall c c
+own_call : (c : TunnelCall) → SameCall c c
 own_call c = record { peer = refl; tunnel = refl; octets = λ f. refl }
 
 -- a way that is a call was the same one before
 abbrev Stays : Way → Way → Type 0
-Stays old new = (d : Called) → new ≡ Call d → (c : Called) × (old ≡ Call c) × SameCall c d
+Stays old new = (d : TunnelCall) → new ≡ Call d → (c : TunnelCall) × (old ≡ Call c) × SameCall c d
 
 same_stays : (way : Way) → Stays way way
 same_stays way d is = (d, is, own_call d)
 
-no_call : (port : ℕ) (mac : Mac) (c : Called) → Port port mac ≡ Call c → ⊥
+no_call : (port : ℕ) (mac : Mac) (c : TunnelCall) → Port port mac ≡ Call c → ⊥
 no_call port mac c e = cc
 
-one_call : (c d : Called) → Call c ≡ Call d → c ≡ d
+one_call : (c d : TunnelCall) → Call c ≡ Call d → c ≡ d
 one_call c d e = cc
 
 -- a call that the gateway ends keeps the peer's number
@@ -216,7 +216,7 @@ unfolding end_step
 ends_to_peer s =
     elim (stands s.phase) as (λ (b : Bool). to_peer (if b then call.ends (call.tells s (cdn (to_peer s) s.session administrative)) else call.nothing s).after ≡ to_peer s) [ true ↦ refl | false ↦ refl ]
 
-ended_call : (c : Called) → SameCall c (record c { call = (end_step c.call).after })
+ended_call : (c : TunnelCall) → SameCall c (record c { call = (end_step c.call).after })
 ended_call c = record { peer = refl; tunnel = refl; octets = λ f. ap (λ (n : ℕ). data_text (call_message c.far n f)) (sym (ends_to_peer c.call)) }
 
 stays_after : (finished : Bool) (way : Way) → Stays way (way_after finished way)
@@ -228,37 +228,37 @@ stays_after true (Call c) d is = (c, refl, subst (SameCall c) (one_call (record 
 
 -- the out goes over the call that is this way
 record TellsOver (way : Way) (o : OutRecord) : Type 0 where
-  called : Called
+  called : TunnelCall
   way_is : way ≡ Call called
   peer : called.peer ≡ o.to
   frame : List ℕ
   sent : o.frame ≡ call_octets called frame
 
 -- what a step of a session's link does to its question and its way, and what it sends
-record Drove (what : WholeInput) (asked : ℕ) (x : Session) (outs : List OutRecord) (x' : Session) (beside' : Beside) : Type 0 where
-  made : Made
-  is_made : x.service ≡ Discovered made
+record Drove (what : Input) (asked : ℕ) (x : Session) (outs : List OutRecord) (x' : Session) (beside' : Beside) : Type 0 where
+  made : LinkService
+  is_made : x.service ≡ Linked made
   number : x'.number ≡ x.number
   asking : (q : Question) → asking_of x' q ≡ asking_of x q
   way : Stays x.way x'.way
   accepted : (q : Question) → accepted_in x'.service ≡ Some q → (made.question ≡ Some q) × MayAccept what made.link.auth
-  last : (q : Question) → last_in x'.service ≡ Some q → (made.question ≡ Some q) ⊎ ((is_frame what ≡ true) × (q.ask ≡ next_ask asked) × (beside'.asked ≡ next_ask asked))
-  few : beside'.asked ≤ asked + 1
-  still : is_frame what ≡ false → beside'.asked ≡ asked
+  last : (q : Question) → last_in x'.service ≡ Some q → (made.question ≡ Some q) ⊎ ((is_frame what ≡ true) × (q.number ≡ next_question asked) × (beside'.question_count ≡ next_question asked))
+  few : beside'.question_count ≤ asked + 1
+  still : is_frame what ≡ false → beside'.question_count ≡ asked
   has : HasQuestion x.service → HasQuestion x'.service
   yes : (o : OutRecord) → Contains outs o → x.number.0 < 65536 → (port : ℕ) (mac : Mac) (n : ℕ) → IsYesOn port mac n o.role o.frame
       → (x.way ≡ Port port mac) × (n ≡ x.number.0) × MayAccept what made.link.auth
   over : (o : OutRecord) → Contains outs o → IsYesOver o.role o.frame → TellsOver x.way o × MayAccept what made.link.auth
 
-module _ (r : Rules) (e : Entry) (a : At) (Steps : LinkStep) (what : WholeInput) (to : (old : PppState) (says : PppSaid) (new : PppState) → Steps old says new → PppSteps r.link what e.moment e.item.random old says new)
+module _ (r : Rules) (e : Entry) (a : At) (Steps : LinkStep) (what : Input) (to : (old : LinkState) (says : LinkSaid) (new : LinkState) → Steps old says new → LinkSteps r.link what e.moment e.item.random old says new)
     (beside : Beside) (x : Session) (outs : List OutRecord) (cause : Option ℕ) (x' : Session) (beside' : Beside) (h : Drives r a beside x Steps outs cause x' beside') where
-  steps : PppSteps r.link what e.moment e.item.random h.made.link h.says h.link
+  steps : LinkSteps r.link what e.moment e.item.random h.made.link h.says h.link
   steps = to h.made.link h.says h.link h.steps
 
   drove_accepted : (q : Question) → accepted_in x'.service ≡ Some q → (h.made.question ≡ Some q) × MayAccept what h.made.link.auth
   drove_accepted q is =
-      let inside = if_some (is_accepted h.link.auth) (question_after beside.asked h.says.asked (is_begun h.link.auth) h.made.question) q (ap (λ (y : Session). accepted_in y.service) (sym h.session) ∙ is) in
-      elim (after_question beside.asked h.says.asked (is_begun h.link.auth) h.made.question q inside.1) [
+      let inside = if_some (is_accepted h.link.auth) (question_after beside.question_count h.says.asked (is_begun h.link.auth) h.made.question) q (ap (λ (y : Session). accepted_in y.service) (sym h.session) ∙ is) in
+      elim (after_question beside.question_count h.says.asked (is_begun h.link.auth) h.made.question q inside.1) [
         | inl new ↦
             let claim = some_of h.says.asked new.0 in
             let opened = (asked_is_open r.link e.moment e.item.random what h.made.link h.says h.link steps claim.0 claim.1).0 in
@@ -266,28 +266,28 @@ module _ (r : Rules) (e : Entry) (a : At) (Steps : LinkStep) (what : WholeInput)
         | inr before ↦ (before.1, accepted_by_verdict r.link e.moment e.item.random what h.made.link h.says h.link steps inside.0)
       ]
 
-  drove_last : (q : Question) → last_in x'.service ≡ Some q → (h.made.question ≡ Some q) ⊎ ((is_frame what ≡ true) × (q.ask ≡ next_ask beside.asked) × (beside'.asked ≡ next_ask beside.asked))
+  drove_last : (q : Question) → last_in x'.service ≡ Some q → (h.made.question ≡ Some q) ⊎ ((is_frame what ≡ true) × (q.number ≡ next_question beside.question_count) × (beside'.question_count ≡ next_question beside.question_count))
   drove_last q is =
-      elim (after_question beside.asked h.says.asked (is_begun h.link.auth) h.made.question q (ap (λ (y : Session). last_in y.service) (sym h.session) ∙ is)) [
+      elim (after_question beside.question_count h.says.asked (is_begun h.link.auth) h.made.question q (ap (λ (y : Session). last_in y.service) (sym h.session) ∙ is)) [
         | inl new ↦
             let frame : is_frame what ≡ true =
             by_test (is_frame what) (λ other. false≢true (sym (ap is_some (only_frames_ask r.link e.moment e.item.random what h.made.link h.says h.link steps other)) ∙ new.0)) in
-            inr (frame, new.1, ap (λ (b : Beside). b.asked) h.count ∙ asked_is_next beside.asked h.says.asked new.0)
+            inr (frame, new.1, ap (λ (b : Beside). b.question_count) h.count ∙ asked_is_next beside.question_count h.says.asked new.0)
         | inr before ↦ inl before.1
       ]
 
   drove_has : HasQuestion x.service → HasQuestion x'.service
   drove_has before =
       let old_has : (is_open h.made.link.auth ≡ true) ⊎ (is_accepted h.made.link.auth ≡ true) → IsSome h.made.question = subst (λ (v : Service). HasQuestion v) h.is_made before in
-      let new_has : (is_open h.link.auth ≡ true) ⊎ (is_accepted h.link.auth ≡ true) → IsSome (question_after beside.asked h.says.asked (is_begun h.link.auth) h.made.question) =
+      let new_has : (is_open h.link.auth ≡ true) ⊎ (is_accepted h.link.auth ≡ true) → IsSome (question_after beside.question_count h.says.asked (is_begun h.link.auth) h.made.question) =
       λ is. elim is [
         | inl opened ↦ elim (open_was_asked r.link e.moment e.item.random what h.made.link h.says h.link steps opened) [
-          | inl asks ↦ has_asked beside.asked h.says.asked (is_begun h.link.auth) h.made.question asks
-          | inr was ↦ has_after beside.asked h.says.asked (is_begun h.link.auth) h.made.question (open_begun h.link.auth opened) (old_has (inl was))
+          | inl asks ↦ has_asked beside.question_count h.says.asked (is_begun h.link.auth) h.made.question asks
+          | inr was ↦ has_after beside.question_count h.says.asked (is_begun h.link.auth) h.made.question (open_begun h.link.auth opened) (old_has (inl was))
         ]
         | inr accepted ↦ elim (accepted_by_verdict r.link e.moment e.item.random what h.made.link h.says h.link steps accepted) [
-          | inl was ↦ has_after beside.asked h.says.asked (is_begun h.link.auth) h.made.question (accepted_begun h.link.auth accepted) (old_has (inr was))
-          | inr found ↦ has_after beside.asked h.says.asked (is_begun h.link.auth) h.made.question (accepted_begun h.link.auth accepted) (old_has (inl found.1))
+          | inl was ↦ has_after beside.question_count h.says.asked (is_begun h.link.auth) h.made.question (accepted_begun h.link.auth accepted) (old_has (inr was))
+          | inr found ↦ has_after beside.question_count h.says.asked (is_begun h.link.auth) h.made.question (accepted_begun h.link.auth accepted) (old_has (inl found.1))
         ]
       ] in
       subst (λ (y : Session). HasQuestion y.service) (sym h.session) new_has
@@ -295,7 +295,7 @@ module _ (r : Rules) (e : Entry) (a : At) (Steps : LinkStep) (what : WholeInput)
   -- a frame of the link that tells yes
   granted_frame : (f : List ℕ) → Contains h.says.outs f → IsYes f → MayAccept what h.made.link.auth
   granted_frame f among tells =
-      All-contains (λ (g : List ℕ). IsYes g → MayAccept what h.made.link.auth) h.says.outs f (ppp_steps_grant r.link e.moment e.item.random what h.made.link h.says h.link steps) among tells
+      All-contains (λ (g : List ℕ). IsYes g → MayAccept what h.made.link.auth) h.says.outs f (link_steps_grant r.link e.moment e.item.random what h.made.link h.says h.link steps) among tells
 
   -- what goes out is what the link says, and how the session is told that it has ended
   either_out : (o : OutRecord) → Contains outs o → Contains h.first o ⊎ Contains h.last o
@@ -323,24 +323,24 @@ module _ (r : Rules) (e : Entry) (a : At) (Steps : LinkStep) (what : WholeInput)
         | inr last ↦ absurd ((last_no_yes o last).over tells)
       ]
 
-  drove : Drove what beside.asked x outs x' beside'
+  drove : Drove what beside.question_count x outs x' beside'
   drove = record {
     made = h.made;
     is_made = h.is_made;
     number = ap (λ (y : Session). y.number) h.session;
-    asking = λ q. ap (λ (y : Session). asking_of y q) h.session ∙ link_asks_same x h.made beside.asked h.says h.link q;
+    asking = λ q. ap (λ (y : Session). asking_of y q) h.session ∙ link_asks_same x h.made beside.question_count h.says h.link q;
     way = subst (λ (y : Session). Stays x.way y.way) (sym h.session) (stays_after h.says.finished x.way);
     accepted = drove_accepted;
     last = drove_last;
-    few = subst (λ (b : Beside). b.asked ≤ beside.asked + 1) (sym h.count) (few_after beside.asked h.says.asked);
-    still = λ other. ap (λ (b : Beside). b.asked) h.count ∙ ap (asked_after beside.asked) (only_frames_ask r.link e.moment e.item.random what h.made.link h.says h.link steps other);
+    few = subst (λ (b : Beside). b.question_count ≤ beside.question_count + 1) (sym h.count) (few_after beside.question_count h.says.asked);
+    still = λ other. ap (λ (b : Beside). b.question_count) h.count ∙ ap (count_after beside.question_count) (only_frames_ask r.link e.moment e.item.random what h.made.link h.says h.link steps other);
     has = drove_has;
     yes = drove_tells;
     over = drove_over;
   }
 
 -- whatever the session leases after the step
-abbrev leased : (what : WholeInput) (asked : ℕ) (x : Session) (outs : List OutRecord) (x' : Session) (beside' : Beside) (lease : Option Lease)
+abbrev leased : (what : Input) (asked : ℕ) (x : Session) (outs : List OutRecord) (x' : Session) (beside' : Beside) (lease : Option Lease)
     → Drove what asked x outs x' beside' → Drove what asked x outs (record x' { lease = lease }) beside'
 leased what asked x outs x' beside' lease d = record {
   made = d.made;
@@ -358,7 +358,7 @@ leased what asked x outs x' beside' lease d = record {
 }
 
 -- or leased before it
-abbrev before_lapse : (what : WholeInput) (asked : ℕ) (x : Session) (outs : List OutRecord) (x' : Session) (beside' : Beside) → Drove what asked (lapsed x) outs x' beside' → Drove what asked x outs x' beside'
+abbrev before_lapse : (what : Input) (asked : ℕ) (x : Session) (outs : List OutRecord) (x' : Session) (beside' : Beside) → Drove what asked (lapsed x) outs x' beside' → Drove what asked x outs x' beside'
 before_lapse what asked x outs x' beside' d = record {
   made = d.made;
   is_made = d.is_made;
@@ -420,7 +420,7 @@ record GrantedOver (s : State) (Is : ℕ → ℕ → Type 0) (to : Peer) (octets
   session : SessionNo
   x : Session
   found : value_at s.sessions session.0 ≡ Some x
-  called : Called
+  called : TunnelCall
   way_is : x.way ≡ Call called
   peer : called.peer ≡ to
   frame : List ℕ
@@ -428,7 +428,7 @@ record GrantedOver (s : State) (Is : ℕ → ℕ → Type 0) (to : Peer) (octets
   granted : GrantedOn s Is (L2tp to called.tunnel session) session.0
 
 abbrev Was : State → ℕ → ℕ → Type 0
-Was s n ask = accepted_ask_at s n ≡ Some ask
+Was s n ask = accepted_number_at s n ≡ Some ask
 
 abbrev IsNew : ℕ → ℕ → Asking → Type 0
 IsNew n m a = (n < a.number.ask) × (a.number.ask ≤ m)
@@ -451,28 +451,28 @@ record Grants (s : State) (Is : ℕ → ℕ → Type 0) (outs : List OutRecord) 
   sound : IsSound s → IsSound s'
   yes : IsSound s → YesesOn s Is outs
   over : IsSound s → YesesOver s Is outs
-  accepted : (n ask : ℕ) → accepted_ask_at s' n ≡ Some ask → Is n ask
-  last : s'.asked < 2 ^ 64 - 1 → (n : ℕ) (a : Asking) → last_asking_at s' n ≡ Some a → (last_asking_at s n ≡ Some a) ⊎ IsNew s.asked s'.asked a
-  few : s'.asked ≤ s.asked + 1
+  accepted : (n ask : ℕ) → accepted_number_at s' n ≡ Some ask → Is n ask
+  last : s'.question_count < 2 ^ 64 - 1 → (n : ℕ) (a : Asking) → last_asking_at s' n ≡ Some a → (last_asking_at s n ≡ Some a) ⊎ IsNew s.question_count s'.question_count a
+  few : s'.question_count ≤ s.question_count + 1
 
 -- nothing is asked, and what is granted was so before
 record Kept (s s' : State) : Type 0 where
   sound : IsSound s → IsSound s'
-  accepted : (n ask : ℕ) → accepted_ask_at s' n ≡ Some ask → Was s n ask
+  accepted : (n ask : ℕ) → accepted_number_at s' n ≡ Some ask → Was s n ask
   last : (n : ℕ) (a : Asking) → last_asking_at s' n ≡ Some a → last_asking_at s n ≡ Some a
-  asked : s'.asked ≡ s.asked
+  asked : s'.question_count ≡ s.question_count
 
 -- the session with this number was a call, this one
-record WasCall (s : State) (n : ℕ) (d : Called) : Type 0 where
+record WasCall (s : State) (n : ℕ) (d : TunnelCall) : Type 0 where
   x : Session
   found : value_at s.sessions n ≡ Some x
-  called : Called
+  called : TunnelCall
   way_is : x.way ≡ Call called
   same : SameCall called d
 
 -- each session that is a call was so before
 abbrev CallsStay : State → State → Type 0
-CallsStay s s' = (n : ℕ) (y : Session) (d : Called) → value_at s'.sessions n ≡ Some y → y.way ≡ Call d → WasCall s n d
+CallsStay s s' = (n : ℕ) (y : Session) (d : TunnelCall) → value_at s'.sessions n ≡ Some y → y.way ≡ Call d → WasCall s n d
 
 -- nothing is asked, what is granted was so before, and no call came
 record Still (s : State) (outs : List OutRecord) (s' : State) : Type 0 where
@@ -531,9 +531,9 @@ own_calls s n y d at way = record { x = y; found = at; called = d; way_is = way;
 same_kept : (s s' : State) → s' ≡ s → Kept s s'
 same_kept s s' e = record {
   sound = λ h. subst (λ (t : State). IsSound t) (sym e) h;
-  accepted = λ n ask is. ap (λ (t : State). accepted_ask_at t n) (sym e) ∙ is;
+  accepted = λ n ask is. ap (λ (t : State). accepted_number_at t n) (sym e) ∙ is;
   last = λ n a is. ap (λ (t : State). last_asking_at t n) (sym e) ∙ is;
-  asked = ap (λ (t : State). t.asked) e;
+  asked = ap (λ (t : State). t.question_count) e;
 }
 
 same_still : (s s' : State) (outs : List OutRecord) → s' ≡ s → NoYes outs → Still s outs s'
@@ -566,7 +566,7 @@ chain_kept s s' s'' g h = record {
 }
 
 -- the later call is that of the earlier
-then_call : (s : State) (n : ℕ) (c d : Called) → WasCall s n c → SameCall c d → WasCall s n d
+then_call : (s : State) (n : ℕ) (c d : TunnelCall) → WasCall s n c → SameCall c d → WasCall s n d
 then_call s n c d was same = record {
   x = was.x;
   found = was.found;
@@ -626,8 +626,8 @@ kept_one s n x y terms at number has accepted last circuit = record {
       sound_driven s n y (own_beside s) s.begun terms s.news s.meters (sound_with s n y h (ap (λ (i : SessionNo). i.0) number ∙ h.own n x at) (h.of_shard n (ap is_some at)) (has (h.questions n x at)));
   accepted = λ m ask is. elim (accepted_with s n y m ask is) [
     | inl here ↦
-        ap (λ (i : ℕ). accepted_ask_at s i) here.0 ∙ ap (λ (o : Option Session). option_map (λ (q : Question). q.ask) (option_and_then ask_in o)) at
-        ∙ ap (option_map (λ (q : Question). q.ask)) (accepted ∙ here.2)
+        ap (λ (i : ℕ). accepted_number_at s i) here.0 ∙ ap (λ (o : Option Session). option_map (λ (q : Question). q.number) (option_and_then ask_in o)) at
+        ∙ ap (option_map (λ (q : Question). q.number)) (accepted ∙ here.2)
         ∙ ap (λ (i : ℕ). Some i) here.3
     | inr before ↦ before
   ];
@@ -678,26 +678,26 @@ changed_still s n x l meters at =
 -- one that ends does
 has_ended : (v : Service) → HasQuestion v → HasQuestion (ended_service v)
 has_ended (Provisioned l) h = h
-has_ended (Discovered m) h = h
+has_ended (Linked m) h = h
 
 same_accepted : (v : Service) → accepted_in v ≡ accepted_in (ended_service v)
 same_accepted (Provisioned l) = refl
-same_accepted (Discovered m) = refl
+same_accepted (Linked m) = refl
 
 same_last : (v : Service) → last_in v ≡ last_in (ended_service v)
 same_last (Provisioned l) = refl
-same_last (Discovered m) = refl
+same_last (Linked m) = refl
 
 over_still : (s : State) (n : ℕ) (x : Session) (outs : List OutRecord) (terms : List Tenure) → value_at s.sessions n ≡ Some x → NoYes outs → Still s outs (state_with s n (ended x) (own_beside s) s.begun terms s.news s.meters)
 over_still s n x outs terms at none =
     kept_still s n x (ended x) outs terms at refl (has_ended x.service) (same_accepted x.service) (same_last x.service) (λ q. refl) (same_stays x.way) none
 
 -- and so does one whose call is another one, whether it ends or not
-turned_kept : (s : State) (n : ℕ) (x : Session) (c : Called) (after : CallState) → value_at s.sessions n ≡ Some x → x.way ≡ Call c → Kept s (state_with s n (turned x c after) (own_beside s) s.begun s.terms s.news s.meters)
+turned_kept : (s : State) (n : ℕ) (x : Session) (c : TunnelCall) (after : CallState) → value_at s.sessions n ≡ Some x → x.way ≡ Call c → Kept s (state_with s n (turned x c after) (own_beside s) s.begun s.terms s.news s.meters)
 turned_kept s n x c after at way =
     kept_one s n x (turned x c after) s.terms at refl (λ h. h) refl refl (λ q. sym (asks_same x (turned x c after) q refl (call_stays x c after way)))
 
-parted_kept : (s : State) (n : ℕ) (x : Session) (c : Called) (after : CallState) (terms : List Tenure) → value_at s.sessions n ≡ Some x → x.way ≡ Call c
+parted_kept : (s : State) (n : ℕ) (x : Session) (c : TunnelCall) (after : CallState) (terms : List Tenure) → value_at s.sessions n ≡ Some x → x.way ≡ Call c
     → Kept s (state_with s n (ended (turned x c after)) (own_beside s) s.begun terms s.news s.meters)
 parted_kept s n x c after terms at way =
     kept_one s n x (ended (turned x c after)) terms at refl (has_ended x.service) (same_accepted x.service) (same_last x.service) (λ q. sym (asks_same x (turned x c after) q refl (call_stays x c after way)))
@@ -728,7 +728,7 @@ cut_told_still : (o : Option Telling) (s : State) → Still s [] (cut_told o s)
 cut_told_still None s = same_still s s [] refl none_yes
 cut_told_still (Some t) s = cut_if_still t.said.cleared t.number s
 
-module _ (s : State) (n : ℕ) (x : Session) (outs : List OutRecord) (x' : Session) (beside' : Beside) (what : WholeInput) (at : value_at s.sessions n ≡ Some x) (d : Drove what s.asked x outs x' beside')
+module _ (s : State) (n : ℕ) (x : Session) (outs : List OutRecord) (x' : Session) (beside' : Beside) (what : Input) (at : value_at s.sessions n ≡ Some x) (d : Drove what s.question_count x outs x' beside')
     (begun : ℕ) (terms news : List Tenure) (meters : List Meters) where
   drove_sound : IsSound s → IsSound (state_with s n x' beside' begun terms news meters)
   drove_sound h =
@@ -741,7 +741,7 @@ module _ (s : State) (n : ℕ) (x : Session) (outs : List OutRecord) (x' : Sessi
       let some : IsSome d.made.question = elim may [ inl was ↦ has (inr was) | inr found ↦ has (inl found.1) ] in
       some_of d.made.question some
 
-  granted_there : (Is : ℕ → ℕ → Type 0) → ((q : Question) → d.made.question ≡ Some q → MayAccept what d.made.link.auth → Is n q.ask) → IsSound s → MayAccept what d.made.link.auth
+  granted_there : (Is : ℕ → ℕ → Type 0) → ((q : Question) → d.made.question ≡ Some q → MayAccept what d.made.link.auth → Is n q.number) → IsSound s → MayAccept what d.made.link.auth
       → GrantedOn s Is (circuit_in x.way (record { 0 = n })) n
   granted_there Is grant h may =
       let q = question_of h may in
@@ -753,7 +753,7 @@ module _ (s : State) (n : ℕ) (x : Session) (outs : List OutRecord) (x' : Sessi
       }
 
   -- where this is granted
-  drove_yes : (Is : ℕ → ℕ → Type 0) → ((q : Question) → d.made.question ≡ Some q → MayAccept what d.made.link.auth → Is n q.ask) → IsSound s → YesesOn s Is outs
+  drove_yes : (Is : ℕ → ℕ → Type 0) → ((q : Question) → d.made.question ≡ Some q → MayAccept what d.made.link.auth → Is n q.number) → IsSound s → YesesOn s Is outs
   drove_yes Is grant h port mac m o c tells =
       let own : x.number.0 ≡ n = h.own n x at in
       let small : x.number.0 < 65536 = omega (arith, own, sound_number s n x h at) in
@@ -761,7 +761,7 @@ module _ (s : State) (n : ℕ) (x : Session) (outs : List OutRecord) (x' : Sessi
       let there : GrantedOn s Is (Pppoe port mac (record { 0 = n })) n = subst (λ (way : Way). GrantedOn s Is (circuit_in way (record { 0 = n })) n) told.0 (granted_there Is grant h told.2) in
       subst (λ (i : ℕ). GrantedOn s Is (Pppoe port mac (record { 0 = i })) i) (sym (told.1 ∙ own)) there
 
-  drove_over_yes : (Is : ℕ → ℕ → Type 0) → ((q : Question) → d.made.question ≡ Some q → MayAccept what d.made.link.auth → Is n q.ask) → IsSound s → YesesOver s Is outs
+  drove_over_yes : (Is : ℕ → ℕ → Type 0) → ((q : Question) → d.made.question ≡ Some q → MayAccept what d.made.link.auth → Is n q.number) → IsSound s → YesesOver s Is outs
   drove_over_yes Is grant h o c tells =
       let told = d.over o c tells in
       let over = told.0 in
@@ -778,8 +778,8 @@ module _ (s : State) (n : ℕ) (x : Session) (outs : List OutRecord) (x' : Sessi
         granted = subst (λ (p : Peer). GrantedOn s Is (L2tp p over.called.tunnel (record { 0 = n })) n) over.peer there;
       }
 
-  drove_accepts : (Is : ℕ → ℕ → Type 0) → ((q : Question) → d.made.question ≡ Some q → MayAccept what d.made.link.auth → Is n q.ask) → ((m ask : ℕ) → accepted_ask_at s m ≡ Some ask → Is m ask)
-      → (m ask : ℕ) → accepted_ask_at (state_with s n x' beside' begun terms news meters) m ≡ Some ask → Is m ask
+  drove_accepts : (Is : ℕ → ℕ → Type 0) → ((q : Question) → d.made.question ≡ Some q → MayAccept what d.made.link.auth → Is n q.number) → ((m ask : ℕ) → accepted_number_at s m ≡ Some ask → Is m ask)
+      → (m ask : ℕ) → accepted_number_at (state_with s n x' beside' begun terms news meters) m ≡ Some ask → Is m ask
   drove_accepts Is grant was m ask is =
       elim (accepted_with s n x' m ask is) [
         | inl here ↦
@@ -788,7 +788,7 @@ module _ (s : State) (n : ℕ) (x : Session) (outs : List OutRecord) (x' : Sessi
         | inr before ↦ was m ask before
       ]
 
-  drove_grants : (Is : ℕ → ℕ → Type 0) → ((q : Question) → d.made.question ≡ Some q → MayAccept what d.made.link.auth → Is n q.ask) → ((m ask : ℕ) → accepted_ask_at s m ≡ Some ask → Is m ask)
+  drove_grants : (Is : ℕ → ℕ → Type 0) → ((q : Question) → d.made.question ≡ Some q → MayAccept what d.made.link.auth → Is n q.number) → ((m ask : ℕ) → accepted_number_at s m ≡ Some ask → Is m ask)
       → Grants s Is outs (state_with s n x' beside' begun terms news meters)
   drove_grants Is grant was = record {
     sound = drove_sound;
@@ -798,7 +798,7 @@ module _ (s : State) (n : ℕ) (x : Session) (outs : List OutRecord) (x' : Sessi
     last = λ low m a is. elim (last_with s n x' m a is) [
       | inl here ↦ elim (d.last here.1 here.2) [
         | inl before ↦ inl (ap (λ (i : ℕ). last_asking_at s i) here.0 ∙ last_there s n x at d.made d.is_made here.1 before ∙ ap (λ (b : Asking). Some b) (sym (d.asking here.1) ∙ here.3))
-        | inr new ↦ inr (new_number s.asked beside'.asked a.number.ask new.2 (sym (ap (λ (b : Asking). b.number.ask) here.3) ∙ new.1) low)
+        | inr new ↦ inr (new_number s.question_count beside'.question_count a.number.ask new.2 (sym (ap (λ (b : Asking). b.number.ask) here.3) ∙ new.1) low)
       ]
       | inr before ↦ inl before
     ];
@@ -825,7 +825,7 @@ module _ (s : State) (n : ℕ) (x : Session) (outs : List OutRecord) (x' : Sessi
     calls = calls_with s n x x' at d.way;
   }
     where
-      only_was : (q : Question) → d.made.question ≡ Some q → MayAccept what d.made.link.auth → Was s n q.ask
+      only_was : (q : Question) → d.made.question ≡ Some q → MayAccept what d.made.link.auth → Was s n q.number
       only_was q is (inl was) = accepted_there s n x at d.made d.is_made q is was
       only_was q is (inr found) = not_both (is_yes_verdict what) found.0 no_verdict
 
@@ -854,13 +854,13 @@ reminds_still (suc n) k a now s outs s' (first, next, one, rest, more, are) =
     equal_still s (first ++ rest) outs s' are (chain_still s next s' first rest (subst (Still s first) (sym one.after) here) (reminds_still n (k + 1) a now next rest s' more))
 
 module _ (r : Rules) (e : Entry) where
-  told_is : (what : WholeInput) (old : PppState) (says : PppSaid) (new : PppState) → told r e what old says new → PppSteps r.link what e.moment e.item.random old says new
+  told_is : (what : Input) (old : LinkState) (says : LinkSaid) (new : LinkState) → told r e what old says new → LinkSteps r.link what e.moment e.item.random old says new
   told_is what old says new h = h
 
-  hears_is : (octets : List ℕ) (old : PppState) (says : PppSaid) (new : PppState) → hears r e octets old says new → PppSteps r.link (frame_of octets) e.moment e.item.random old says new
+  hears_is : (octets : List ℕ) (old : LinkState) (says : LinkSaid) (new : LinkState) → hears r e octets old says new → LinkSteps r.link (frame_of octets) e.moment e.item.random old says new
   hears_is octets old says new h = frame_steps r.link e.moment e.item.random old says new octets h
 
-  settles_is : (t : Told) (old : PppState) (says : PppSaid) (new : PppState) → settles r e t old says new → PppSteps r.link (verdict_of t) e.moment e.item.random old says new
+  settles_is : (t : Told) (old : LinkState) (says : LinkSaid) (new : LinkState) → settles r e t old says new → LinkSteps r.link (verdict_of t) e.moment e.item.random old says new
   settles_is t old says new h = verdict_steps r.link e.moment e.item.random old says new t h
 
   empty_no_yes : (outs : List OutRecord) → outs ≡ [] → NoYes outs
@@ -870,8 +870,8 @@ module _ (r : Rules) (e : Entry) where
   loses_still : (v : Service) (cause : ℕ) (s : State) (n : ℕ) (x : Session) (outs : List OutRecord) (s' : State) → value_at s.sessions n ≡ Some x → LosesTerm v cause r e s n x outs s' → Still s outs s'
   loses_still (Provisioned over) cause s n x outs s' at (none, next) =
       equal_still s [] outs s' none (subst (Still s []) (sym next) (leased_still s n x None (closed x.lease (Some cause) s.terms) at))
-  loses_still (Discovered m) cause s n x outs s' at (y, none, beside', drives, next) =
-      let d = before_lapse Close s.asked x outs y beside' (drove r e (at_of s e) (told r e Close) Close (told_is Close) (beside_of s e) (lapsed x) outs none y beside' drives) in
+  loses_still (Linked m) cause s n x outs s' at (y, none, beside', drives, next) =
+      let d = before_lapse Close s.question_count x outs y beside' (drove r e (at_of s e) (told r e Close) Close (told_is Close) (beside_of s e) (lapsed x) outs none y beside' drives) in
       subst (Still s outs) (sym next) (drove_still s n x outs y beside' Close at d s.begun (closed x.lease (Some cause) s.terms) s.news s.meters refl refl)
 
   looks_still : (o : Option ℕ) (s : State) (n : ℕ) (x : Session) (outs : List OutRecord) (s' : State) → value_at s.sessions n ≡ Some x → LooksAt o r e s n x outs s' → Still s outs s'
@@ -881,7 +881,7 @@ module _ (r : Rules) (e : Entry) where
 
   times_still : (v : Service) (s : State) (n : ℕ) (x : Session) (outs : List OutRecord) (s' : State) → value_at s.sessions n ≡ Some x → TimesIn v r e s n x outs s' → Still s outs s'
   times_still (Provisioned over) s n x outs s' at h = looks_still (cause_at (passed_at s.passed x.number) x.lease e.moment) s n x outs s' at h
-  times_still (Discovered m) s n x outs s' at h =
+  times_still (Linked m) s n x outs s' at h =
       let d = drove r e (at_of s e) (told r e Timer) Timer (told_is Timer) (beside_of s e) x h.first h.cause h.after h.beside h.drives in
       let next = with_driven s n x.lease h.cause h.after h.beside in
       equal_still s (h.first ++ h.then) outs s' h.outs_are
@@ -909,22 +909,22 @@ module _ (r : Rules) (e : Entry) where
 
 auth_in : Authentication → Service → Authentication
 auth_in a (Provisioned l) = a
-auth_in a (Discovered m) = m.link.auth
+auth_in a (Linked m) = m.link.auth
 
 question_in : Service → Option Question
 question_in (Provisioned l) = None
-question_in (Discovered m) = m.question
+question_in (Linked m) = m.question
 
 -- a link that has asked nothing has no question to have
-idle_has : (m : Made) → m.link.auth ≡ auth.Idle → HasQuestion (Discovered m)
+idle_has : (m : LinkService) → m.link.auth ≡ auth.Idle → HasQuestion (Linked m)
 idle_has m idle (inl opened) = absurd (false≢true (sym (ap is_open idle) ∙ opened))
 idle_has m idle (inr accepted) = absurd (false≢true (sym (ap is_accepted idle) ∙ accepted))
 
 -- such a session comes, which is told nothing
-comes_grants : (s : State) (e : Entry) (n : ℕ) (y : Session) (m : Made) (outs : List OutRecord) (t : TunnelsState) → y.service ≡ Discovered m → m.link.auth ≡ auth.Idle → m.question ≡ None
+comes_grants : (s : State) (e : Entry) (n : ℕ) (y : Session) (m : LinkService) (outs : List OutRecord) (t : TunnelsState) → y.service ≡ Linked m → m.link.auth ≡ auth.Idle → m.question ≡ None
     → y.number.0 ≡ n → IsNumberOf s.sessions.shard n → NoYes outs → Grants s (IsGranted s e) outs (with_session (with_tunnels s t) n y)
 comes_grants s e n y m outs t is idle silent number of_shard none = record {
-  sound = λ h. sound_driven s n y (beside_at 0 s.asked t) s.begun s.terms s.news s.meters (sound_with s n y h number of_shard (subst (λ (v : Service). HasQuestion v) (sym is) (idle_has m idle)));
+  sound = λ h. sound_driven s n y (beside_at 0 s.question_count t) s.begun s.terms s.news s.meters (sound_with s n y h number of_shard (subst (λ (v : Service). HasQuestion v) (sym is) (idle_has m idle)));
   yes = λ sound. no_yeses_on s (IsGranted s e) outs none;
   over = λ sound. no_yeses_over s (IsGranted s e) outs none;
   accepted = λ k ask there. elim (accepted_with s n y k ask there) [
@@ -941,9 +941,9 @@ comes_grants s e n y m outs t is idle silent number of_shard none = record {
 }
 
 -- such a session is told Start, at a number that is the shard's
-module _ (r : Rules) (s : State) (e : Entry) (a : At) (beside : Beside) (asked : beside.asked ≡ s.asked) (n : ℕ) (y : Session) (m : Made) (is : y.service ≡ Discovered m) (idle : m.link.auth ≡ auth.Idle) (silent : m.question ≡ None)
+module _ (r : Rules) (s : State) (e : Entry) (a : At) (beside : Beside) (asked : beside.question_count ≡ s.question_count) (n : ℕ) (y : Session) (m : LinkService) (is : y.service ≡ Linked m) (idle : m.link.auth ≡ auth.Idle) (silent : m.question ≡ None)
     (number : IsSound s → y.number.0 ≡ n) (outs : List OutRecord) (cause : Option ℕ) (x' : Session) (beside' : Beside) (h : Drives r a beside y (told r e Start) outs cause x' beside') where
-  started : Drove Start s.asked y outs x' beside'
+  started : Drove Start s.question_count y outs x' beside'
   started = subst (λ (k : ℕ). Drove Start k y outs x' beside') asked (drove r e a (told r e Start) Start (told_is r e Start) beside y outs cause x' beside' h)
 
   made_idle : started.made.link.auth ≡ auth.Idle
@@ -1007,7 +1007,7 @@ module _ (r : Rules) (s : State) (limited : Bool) (e : Entry) (d : Deed) where
   makes_grants : (number : ℕ) (port : AccessPort) (offers : PortRules) (p : PppoeFrame) (tags : List PppoeTag) → Makes r s e number port offers p tags d → Deeds
   makes_grants number port offers p tags h =
       let fresh = new_session h.session number p.src (host_uniq_of tags) h.link in
-      let made : Made = record { host_uniq = host_uniq_of tags; link = h.link; question = None; ended = false } in
+      let made : LinkService = record { host_uniq = host_uniq_of tags; link = h.link; question = None; ended = false } in
       deed _ h.done
       (starts_grants r s e (at_of s e) (beside_of s e) refl h.session fresh made refl h.new.auth refl (λ sound. refl) h.outs h.cause h.x h.beside h.starts
       (frame_outs (at_of s e) number port (pads_of offers p.src h.session tags)) s.begun (closed None h.cause s.terms) s.news s.meters (λ sound. h.vacant.of_shard) (discovery_no_yes (at_of s e) number port (pads_of offers p.src h.session tags) refl))
@@ -1026,7 +1026,7 @@ module _ (r : Rules) (s : State) (limited : Bool) (e : Entry) (d : Deed) where
   packets found info (fate, is, inr (stays, h)) = quiet _ h refl none_yes
 
   -- the link of a session hears a frame
-  ppp : (n : ℕ) (x : Session) (made : Made) (octets : List ℕ) → value_at s.sessions n ≡ Some x → HearsPpp r s e n x made octets d → Deeds
+  ppp : (n : ℕ) (x : Session) (made : LinkService) (octets : List ℕ) → value_at s.sessions n ≡ Some x → HearsPpp r s e n x made octets d → Deeds
   ppp n x made octets at (inl (gone, h)) = quiet _ h refl none_yes
   ppp n x made octets at (inr (live, outs, cause, x', beside', drives, h)) =
       let heard = drove r e (at_of s e) (hears r e octets) (frame_of octets) (hears_is r e octets) (beside_of s e) x outs cause x' beside' drives in
@@ -1037,9 +1037,9 @@ module _ (r : Rules) (s : State) (limited : Bool) (e : Entry) (d : Deed) where
 
   control : (v : Service) (x : Session) (p : PppoeFrame) → value_at s.sessions p.session ≡ Some x → HearsControl v r s e x p d → Deeds
   control (Provisioned l) x p at h = quiet _ h refl none_yes
-  control (Discovered made) x p at (inl (padt, inl (gone, h))) = quiet _ h refl none_yes
-  control (Discovered made) x p at (inl (padt, inr (live, h))) = still _ h (over_still s p.session x [] (closed x.lease (Some user_request) s.terms) at none_yes)
-  control (Discovered made) x p at (inr (data_frame, h)) = ppp p.session x made p.payload at h
+  control (Linked made) x p at (inl (padt, inl (gone, h))) = quiet _ h refl none_yes
+  control (Linked made) x p at (inl (padt, inr (live, h))) = still _ h (over_still s p.session x [] (closed x.lease (Some user_request) s.terms) at none_yes)
+  control (Linked made) x p at (inr (data_frame, h)) = ppp p.session x made p.payload at h
 
   named : (number : ℕ) (p : PppoeFrame) (found : Option Session) → session_of s number p.src p.session ≡ found → HearsIn found r s e p d → Deeds
   named number p None is h = quiet _ h refl none_yes
@@ -1061,24 +1061,24 @@ module _ (r : Rules) (s : State) (limited : Bool) (e : Entry) (d : Deed) where
   core (inr (v, is, (fate, decides, inr (stays, h)))) = quiet _ h refl none_yes
 
   -- the session's open question is the last one
-  open_last : (x : Session) (made : Made) (q : Question) → x.service ≡ Discovered made → made.question ≡ Some q → option_map (λ (p : Question). p.ask) (open_of x) ≡ Some e.item.ask → q.ask ≡ e.item.ask
+  open_last : (x : Session) (made : LinkService) (q : Question) → x.service ≡ Linked made → made.question ≡ Some q → option_map (λ (p : Question). p.number) (open_of x) ≡ Some e.item.ask → q.number ≡ e.item.ask
   open_last x made q is_made is e' =
-      let found = mapped (λ (p : Question). p.ask) (open_in (Discovered made)) e.item.ask (ap (λ (v : Service). option_map (λ (p : Question). p.ask) (open_in v)) (sym is_made) ∙ e') in
+      let found = mapped (λ (p : Question). p.number) (open_in (Linked made)) e.item.ask (ap (λ (v : Service). option_map (λ (p : Question). p.number) (open_in v)) (sym is_made) ∙ e') in
       let inside = if_some (not made.ended && is_open made.link.auth) made.question found.0 found.1 in
-      ap (λ (p : Question). p.ask) (same_some q found.0 (sym is ∙ inside.1)) ∙ found.2
+      ap (λ (p : Question). p.number) (same_some q found.0 (sym is ∙ inside.1)) ∙ found.2
 
   -- the session's link was told what the octets of the entry come to
-  module _ (kind : e.item.kind ≡ Verdict) (asks : open_ask_at s e.item.target ≡ Some e.item.ask) (t : Told) (decides : Decides r limited e.item.frame.payload e.claim (Some t)) (h : Judges r s e t d) where
-    was_told : Drove (verdict_of t) s.asked h.x h.outs h.after h.beside
+  module _ (kind : e.item.kind ≡ Verdict) (asks : open_number_at s e.item.target ≡ Some e.item.ask) (t : Told) (decides : Decides r limited e.item.frame.payload e.claim (Some t)) (h : Judges r s e t d) where
+    was_told : Drove (verdict_of t) s.question_count h.x h.outs h.after h.beside
     was_told = drove r e (at_of s e) (settles r e t) (verdict_of t) (settles_is r e t) (beside_of s e) h.x h.outs h.cause h.after h.beside h.drives
 
-    ask_there : option_map (λ (p : Question). p.ask) (open_of h.x) ≡ Some e.item.ask
-    ask_there = ap (λ (o : Option Session). option_map (λ (p : Question). p.ask) (option_and_then open_of o)) (sym h.found) ∙ asks
+    ask_there : option_map (λ (p : Question). p.number) (open_of h.x) ≡ Some e.item.ask
+    ask_there = ap (λ (o : Option Session). option_map (λ (p : Question). p.number) (option_and_then open_of o)) (sym h.found) ∙ asks
 
-    told_grants : (q : Question) → was_told.made.question ≡ Some q → MayAccept (verdict_of t) was_told.made.link.auth → IsGranted s e e.item.target q.ask
+    told_grants : (q : Question) → was_told.made.question ≡ Some q → MayAccept (verdict_of t) was_told.made.link.auth → IsGranted s e e.item.target q.number
     told_grants q was (inl accepted) = inl (accepted_there s e.item.target h.x h.found was_told.made was_told.is_made q was accepted)
     told_grants q was (inr found) =
-        let same : q.ask ≡ e.item.ask = open_last h.x was_told.made q was_told.is_made was ask_there in
+        let same : q.number ≡ e.item.ask = open_last h.x was_told.made q was_told.is_made was ask_there in
         let v = decided_yes r limited e.item.frame.payload e.claim t decides found.0 in
         inr (record { kind = kind; target = refl; number = sym same; verdict = v.0; says = v.1; yes = v.2 }, asks ∙ ap (λ (i : ℕ). Some i) (sym same))
 
@@ -1089,7 +1089,7 @@ module _ (r : Rules) (s : State) (limited : Bool) (e : Entry) (d : Deed) where
     settled_grants (Some a) =
         let new = next_term s h.x h.question t.plan t.class e.moment a in
         let lease = Some (next_lease s t.plan t.limits e.moment a) in
-        drove_grants s e.item.target h.x h.outs (record h.after { lease = lease }) h.beside (verdict_of t) h.found (leased (verdict_of t) s.asked h.x h.outs h.after h.beside lease was_told)
+        drove_grants s e.item.target h.x h.outs (record h.after { lease = lease }) h.beside (verdict_of t) h.found (leased (verdict_of t) s.question_count h.x h.outs h.after h.beside lease was_told)
         (s.begun + 1) (s.terms ++ new ∷ []) (s.news ++ new ∷ []) (slice_set s.meters (place_in h.after.number) (meters_of t.plan e.moment)) (IsGranted s e) told_grants (λ m k before. inl before)
 
   judged : e.item.kind ≡ Verdict → HearsVerdict r s e limited d → Deeds
@@ -1119,7 +1119,7 @@ module _ (r : Rules) (s : State) (limited : Bool) (e : Entry) (d : Deed) where
   says_no frames spelled = tunnel_no_yes (at_of s e) e.item.from frames spelled
 
   -- the link of a call is made anew
-  connects_grants : (frames : List (List ℕ)) (t : TunnelsState) (n : ℕ) (x x' : Session) (c : Called) (after : CallState) (link : PppState) (outs : List OutRecord) (none : Option ℕ) (beside' : Beside)
+  connects_grants : (frames : List (List ℕ)) (t : TunnelsState) (n : ℕ) (x x' : Session) (c : TunnelCall) (after : CallState) (link : LinkState) (outs : List OutRecord) (none : Option ℕ) (beside' : Beside)
       → AllByRecursion IsSpelled frames → value_at s.sessions n ≡ Some x → IsNewLink 1500 e.item.random link
       → Drives r (at_of s e) (beside_of (with_tunnels s t) e) (linked_anew (turned x c after) link) (told r e Start) outs none x' beside'
       → Grants s (IsGranted s e) (answers_to s e frames ++ outs) (with_driven (with_tunnels s t) n x.lease (Some lost_carrier) x' beside')
@@ -1190,15 +1190,15 @@ module _ (r : Rules) (s : State) (limited : Bool) (d : Deed) (h : Step r s limit
       }
 
   -- and each question that is answered by a yes after it was granted
-  pub step_accepted : (n ask : ℕ) → accepted_ask_at d.next n ≡ Some ask → IsGranted s d.entry n ask
+  pub step_accepted : (n ask : ℕ) → accepted_number_at d.next n ≡ Some ask → IsGranted s d.entry n ask
   step_accepted n ask is = grants.accepted n ask is
 
   -- the question that a link asked last was so before, or has a number that the step gave
-  pub step_last : d.next.asked < 2 ^ 64 - 1 → (n : ℕ) (a : Asking) → last_asking_at d.next n ≡ Some a → (last_asking_at s n ≡ Some a) ⊎ ((s.asked < a.number.ask) × (a.number.ask ≤ d.next.asked))
+  pub step_last : d.next.question_count < 2 ^ 64 - 1 → (n : ℕ) (a : Asking) → last_asking_at d.next n ≡ Some a → (last_asking_at s n ≡ Some a) ⊎ ((s.question_count < a.number.ask) × (a.number.ask ≤ d.next.question_count))
   step_last low n a is = grants.last low n a is
 
   -- a step asks one question at most
-  pub step_few : d.next.asked ≤ s.asked + 1
+  pub step_few : d.next.question_count ≤ s.question_count + 1
   step_few = grants.few
 
 -- The settlement ----------------------------------------------------------------------------------------------------------

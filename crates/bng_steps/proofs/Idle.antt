@@ -7,11 +7,11 @@ use Rattle.bng_base.specs.declared.address.SessionNo.{SessionNo}
 use Rattle.bng_sessions.specs.Sessions.{Sessions, value_at}
 use Rattle.bng_sessions.specs.Listed.{values}
 use Rattle.bng_steps.specs.declared.session.Session.{Session}
-use Rattle.bng_steps.specs.declared.terms.Running.{Running}
+use Rattle.bng_steps.specs.declared.terms.TermRow.{TermRow}
 use Rattle.bng_steps.specs.Listing.{does_pass, passing_in}
-use Rattle.bng_steps.specs.Made.{Question}
+use Rattle.bng_steps.specs.LinkService.{Question}
 use Rattle.bng_steps.specs.Questions.{does_wait, open_of}
-use Rattle.bng_steps.specs.Running.{TermsView, has_ended, tenures_in, whole}
+use Rattle.bng_steps.specs.TermRows.{TermsView, has_ended, tenures_in, whole}
 use Rattle.bng_steps.specs.Serving.{AreAsking, AreLeaving, asks}
 use Rattle.bng_steps.specs.State.{State, leaves, reaped}
 use Rattle.bng_steps.proofs.Circuits.{no_length}
@@ -35,11 +35,11 @@ is_something xs false e h none = false≢true (e ∙ eq-eqb (length xs) 0 none)
 -- Terms ------------------------------------------------------------------------------------------------------------------
 
 -- none is counted among those that ended where none of them is there
-pub none_over_counted : (rows : List Running) → filter has_ended rows ≡ [] → count_by has_ended rows ≡ 0
+pub none_over_counted : (rows : List TermRow) → filter has_ended rows ≡ [] → count_by has_ended rows ≡ 0
 none_over_counted rows none = sym (length-filter has_ended rows) ∙ ap length none
 
 -- the engine's terms of rows have ended where the rows' have
-pub rows_none_over : (rows : List Running) → ended_from rows ≡ [] → filter has_ended rows ≡ []
+pub rows_none_over : (rows : List TermRow) → ended_from rows ≡ [] → filter has_ended rows ≡ []
 rows_none_over [] e = refl
 rows_none_over (r ∷ rows) e =
     elim (has_ended r) as (λ b. has_ended r ≡ b → cond b (r ∷ filter has_ended rows) (filter has_ended rows) ≡ []) [
@@ -47,7 +47,7 @@ rows_none_over (r ∷ rows) e =
       | false ↦ λ over. rows_none_over rows (let rest : ended_from rows ≡ [] = cc in rest)
     ] refl
 
-pub no_rows : (rows : List Running) → tenures_in rows ≡ [] → rows ≡ []
+pub no_rows : (rows : List TermRow) → tenures_in rows ≡ [] → rows ≡ []
 no_rows [] e = refl
 no_rows (r ∷ rows) e = absurd (let never : ⊥ = cc in never)
 
@@ -79,11 +79,11 @@ no_first : {A : Type 0} (xs : List A) → slice_get xs 0 ≡ None → xs ≡ []
 no_first [] e = refl
 no_first (x ∷ xs) e = absurd (none_some x (sym e))
 
-some_open : (o : Option Question) → is_some o ≡ true → IsSome (option_map (λ (q : Question). q.ask) o)
+some_open : (o : Option Question) → is_some o ≡ true → IsSome (option_map (λ (q : Question). q.number) o)
 some_open None h = absurd (false≢true h)
 some_open (Some q) h = refl
 
-open_there : (o : Option Session) → does_pass asks o ≡ true → IsSome (option_map (λ (q : Question). q.ask) (option_and_then open_of o))
+open_there : (o : Option Session) → does_pass asks o ≡ true → IsSome (option_map (λ (q : Question). q.number) (option_and_then open_of o))
 open_there None h = absurd (false≢true h)
 open_there (Some x) h = some_open (open_of x) h
 
@@ -92,7 +92,7 @@ module _ (s : Sessions Session) where
   pub none_waits : AreAsking s [] → (handed : List ℕ) → left handed (asked (values s)) ≡ []
   none_waits h handed = no_first (left handed (asked (values s))) (head_none s handed [] h (All-nil (λ (m : SessionNo). does_pass (does_wait handed) (value_at s m.0) ≡ false)))
 
-  pub one_asks : (numbers : List SessionNo) → AreAsking s numbers → length numbers ≢ 0 → (n : ℕ) × IsSome (option_map (λ (q : Question). q.ask) (option_and_then open_of (value_at s n)))
+  pub one_asks : (numbers : List SessionNo) → AreAsking s numbers → length numbers ≢ 0 → (n : ℕ) × IsSome (option_map (λ (q : Question). q.number) (option_and_then open_of (value_at s n)))
   one_asks [] h some = absurd (some refl)
   one_asks (m ∷ numbers) h some = (m.0, open_there (value_at s m.0) (listed_passes asks s (m ∷ numbers) h m (0, omega arith, refl)))
 
@@ -102,4 +102,4 @@ module _ (s : Sessions Session) where
 pub whole_settled : (s : State) (t : TermsView) → filter has_ended t.rows ≡ [] → (reaped s).sessions ≡ s.sessions → reaped (whole s t) ≡ whole s t
 whole_settled s t none stay =
     let live = all_are_live t.rows none in
-    λ i. record { sessions = stay i; begun = s.begun; asked = s.asked; terms = live i; news = tenures_in t.news; passed = s.passed; meters = s.meters; tunnels = s.tunnels }
+    λ i. record { sessions = stay i; begun = s.begun; question_count = s.question_count; terms = live i; news = tenures_in t.news; passed = s.passed; meters = s.meters; tunnels = s.tunnels }

@@ -40,7 +40,7 @@ module _ (now number : ℕ) (circuits : List Static) (apart : AllPairs (λ a b. 
   opened_sound profiles low own =
       let h = opened_all 1022 in
       let shard : h.sessions.shard ≡ number = h.opens.shard in
-      let sound : IsSound (record { sessions = h.sessions; begun = h.begun; asked = 0; terms = tenures_after now 0 (in_order number circuits); news = []; passed = none_passed; meters = opened_meters number profiles circuits now; tunnels = no_tunnels number }) = record {
+      let sound : IsSound (record { sessions = h.sessions; begun = h.begun; question_count = 0; terms = tenures_after now 0 (in_order number circuits); news = []; passed = none_passed; meters = opened_meters number profiles circuits now; tunnels = no_tunnels number }) = record {
         shard = omega (arith, shard, low);
         own = opened_own now number circuits h.sessions h.begun h.opens;
         of_shard = opened_of_shard now number circuits h.sessions h.begun h.opens;

@@ -16,7 +16,7 @@ use Rattle.bng_base.specs.declared.item.OutRecord.{OutRecord}
 use Rattle.bng_base.specs.declared.settings.NamedRange.{NamedRange}
 use Rattle.bng_grant.specs.Grants.{Gift}
 use Rattle.bng_sessions.specs.Sessions.{value_at}
-use Rattle.bng_steps.specs.Made.{Question}
+use Rattle.bng_steps.specs.LinkService.{Question}
 use Rattle.bng_steps.specs.declared.meters.Plan.{Plan}
 use Rattle.bng_steps.specs.declared.rules.Rules.{Rules}
 use Rattle.bng_base.specs.declared.item.At.{At}
@@ -29,7 +29,7 @@ use Rattle.bng_steps.specs.Hearing.{Does}
 use Rattle.bng_steps.specs.Link.{IsToldVerdict, Told}
 use Rattle.bng_steps.specs.Metered.{plan_for}
 use Rattle.bng_steps.specs.Protocol.{entry_with}
-use Rattle.bng_steps.specs.Questions.{open_ask_at, open_of}
+use Rattle.bng_steps.specs.Questions.{open_number_at, open_of}
 use Rattle.bng_steps.specs.Verdicts.{HearsVerdict, settled_by}
 use Rattle.bng_steps.specs.Wished.{IsAnswered, WishesFor, WishesVerdict}
 use Rattle.bng_steps.specs.Wishes.{Decides, IsAnswerTo, Wishes, accepted_with, has_none, pool_for, refused_with, told_at, told_by, told_if, told_of}
@@ -54,16 +54,16 @@ pub same_ask : (o : Option ℕ) (n : ℕ) → not (option_eq eqb o (Some n)) ≡
 same_ask None n e = absurd (let never : ⊥ = cc in never)
 same_ask (Some m) n e = ap (λ (k : ℕ). Some k) (eqb-true m n (not_false (eqb m n) e))
 
-asked_of : (x : Session) (o : Option Question) (n : ℕ) → open_of x ≡ o → option_map (λ (q : Question). q.ask) o ≡ Some n → (q : Question) × (open_of x ≡ Some q)
+asked_of : (x : Session) (o : Option Question) (n : ℕ) → open_of x ≡ o → option_map (λ (q : Question). q.number) o ≡ Some n → (q : Question) × (open_of x ≡ Some q)
 asked_of x None n is e = absurd (none_some n e)
 asked_of x (Some q) n is e = (q, is)
 
-asked_there : (o : Option Session) (n : ℕ) → option_map (λ (q : Question). q.ask) (option_and_then open_of o) ≡ Some n → (x : Session) × (q : Question) × (o ≡ Some x) × (open_of x ≡ Some q)
+asked_there : (o : Option Session) (n : ℕ) → option_map (λ (q : Question). q.number) (option_and_then open_of o) ≡ Some n → (x : Session) × (q : Question) × (o ≡ Some x) × (open_of x ≡ Some q)
 asked_there None n e = absurd (none_some n e)
 asked_there (Some x) n e = let found = asked_of x (open_of x) n refl e in (x, found.0, refl, found.1)
 
 -- a session with an open question is there
-pub asks_there : (s : State) (n ask : ℕ) → open_ask_at s n ≡ Some ask → (x : Session) × (q : Question) × (value_at s.sessions n ≡ Some x) × (open_of x ≡ Some q)
+pub asks_there : (s : State) (n ask : ℕ) → open_number_at s n ≡ Some ask → (x : Session) × (q : Question) × (value_at s.sessions n ≡ Some x) × (open_of x ≡ Some q)
 asks_there s n ask e = asked_there (value_at s.sessions n) ask e
 
 -- What comes of an Accept ------------------------------------------------------------------------------------------------
@@ -109,14 +109,14 @@ pub answered_verdict : (r : Rules) (s : State) (item : Item) (limited : Bool) (c
 answered_verdict r s item limited claim kind h = (h.wish, subst (λ (k : ItemKind). WishesFor k r s item limited h.wish) kind h.is_wished, h.answers)
 
 -- where its question is open, it asks as its octets say
-pub answered_open : (r : Rules) (s : State) (item : Item) (limited : Bool) (claim : Claim) → item.kind ≡ Verdict → IsAnswered r s item limited claim → open_ask_at s item.target ≡ Some item.ask
+pub answered_open : (r : Rules) (s : State) (item : Item) (limited : Bool) (claim : Claim) → item.kind ≡ Verdict → IsAnswered r s item limited claim → open_number_at s item.target ≡ Some item.ask
     → (wish : Wish) × Wishes r limited item.frame.payload wish × IsAnswerTo r.pools wish claim
 answered_open r s item limited claim kind h asked =
     let (wish, wishes, answers) = answered_verdict r s item limited claim kind h in
     elim wishes [ inl there ↦ (wish, there.1, answers) | inr elsewhere ↦ absurd (elsewhere.0 asked) ]
 
 -- and where it is not, it asks nothing
-pub answered_other : (r : Rules) (s : State) (item : Item) (limited : Bool) (claim : Claim) → item.kind ≡ Verdict → IsAnswered r s item limited claim → ¬ (open_ask_at s item.target ≡ Some item.ask) → claim ≡ NoClaim
+pub answered_other : (r : Rules) (s : State) (item : Item) (limited : Bool) (claim : Claim) → item.kind ≡ Verdict → IsAnswered r s item limited claim → ¬ (open_number_at s item.target ≡ Some item.ask) → claim ≡ NoClaim
 answered_other r s item limited claim kind h other =
     let (wish, wishes, answers) = answered_verdict r s item limited claim kind h in
     elim wishes [ inl there ↦ absurd (other there.0) | inr elsewhere ↦ subst (λ (w : Wish). IsAnswerTo r.pools w claim) elsewhere.1 answers ]
@@ -137,17 +137,17 @@ module _ (r : Rules) (s : State) (limited : Bool) (a : At) (now : ℕ) (item : I
   }
 
   -- the question that the item names is not open
-  pub not_open : (¬ (open_ask_at s item.target ≡ Some item.ask)) → claim ≡ NoClaim → Does (HearsVerdict r s entry limited) 5 s s outs outs entry Consumed
+  pub not_open : (¬ (open_number_at s item.target ≡ Some item.ask)) → claim ≡ NoClaim → Does (HearsVerdict r s entry limited) 5 s s outs outs entry Consumed
   not_open other none = ignores (inr (inr (other, none, refl)))
 
   -- the octets say nothing
-  pub no_verdict : open_ask_at s item.target ≡ Some item.ask → Decides r limited item.frame.payload claim None → Does (HearsVerdict r s entry limited) 5 s s outs outs entry Consumed
+  pub no_verdict : open_number_at s item.target ≡ Some item.ask → Decides r limited item.frame.payload claim None → Does (HearsVerdict r s entry limited) 5 s s outs outs entry Consumed
   no_verdict asked decides = ignores (inr (inl (asked, decides, refl)))
 
   -- the session's link is told what they come to, and a term begins where the peer is accepted with an address
-  pub is_told : a.shard ≡ s.sessions.shard → open_ask_at s item.target ≡ Some item.ask → (t : Told) → Decides r limited item.frame.payload claim (Some t) → (s' : State) (outs' : List OutRecord)
+  pub is_told : a.shard ≡ s.sessions.shard → open_number_at s item.target ≡ Some item.ask → (t : Told) → Decides r limited item.frame.payload claim (Some t) → (s' : State) (outs' : List OutRecord)
       → ((x : Session) (q : Question) → value_at s.sessions item.target ≡ Some x → open_of x ≡ Some q → (x' : Session) × (cause : Option ℕ) × (beside' : Beside)
-      × Driven r a (IsToldVerdict r.link t now item.random) (beside_at now s.asked s.tunnels) x cause x' beside' outs outs' × (x.lease ≡ None) × (s' ≡ settled_by s item.target x q t now x' beside' t.lease))
+      × Driven r a (IsToldVerdict r.link t now item.random) (beside_at now s.question_count s.tunnels) x cause x' beside' outs outs' × (x.lease ≡ None) × (s' ≡ settled_by s item.target x q t now x' beside' t.lease))
       → length outs' ≤ length outs + 5 → Does (HearsVerdict r s entry limited) 5 s s' outs outs' entry Consumed
   is_told here asked t decides s' outs' settled few =
       let (x, q, found, asks) = asks_there s item.target item.ask asked in

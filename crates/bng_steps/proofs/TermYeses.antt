@@ -7,18 +7,18 @@ use Rattle.bng_base.specs.declared.address.Ip4.{Ip4}
 use Rattle.bng_base.specs.declared.item.Claim.TheVariants.{NoClaim}
 use Rattle.bng_base.specs.declared.item.ItemKind.{ItemKind}
 use Rattle.bng_base.specs.declared.item.ItemKind.TheVariants.{Verdict}
-use Rattle.bng_ppp.specs.PppState.{is_open}
+use Rattle.bng_ppp.specs.LinkState.{is_open}
 use Rattle.bng_sessions.specs.Sessions.{value_at}
 use Rattle.bng_steps.specs.declared.rules.Rules.{Rules}
 use Rattle.bng_steps.specs.declared.session.Service.{Service}
-use Rattle.bng_steps.specs.declared.session.Service.TheVariants.{Provisioned, Discovered}
+use Rattle.bng_steps.specs.declared.session.Service.TheVariants.{Provisioned, Linked}
 use Rattle.bng_steps.specs.declared.session.Session.{Session}
 use Rattle.bng_steps.specs.Deed.{Deed}
 use Rattle.bng_steps.specs.Granting.{BeginsByYes, IsSound}
 use Rattle.bng_steps.specs.Link.{Told}
-use Rattle.bng_steps.specs.Made.{Question}
+use Rattle.bng_steps.specs.LinkService.{Question}
 use Rattle.bng_steps.specs.Protocol.{claimed_by}
-use Rattle.bng_steps.specs.Questions.{asking_of, last_asking, last_in, open_ask_at, open_in, open_of}
+use Rattle.bng_steps.specs.Questions.{asking_of, last_asking, last_in, open_number_at, open_in, open_of}
 use Rattle.bng_steps.specs.State.{State}
 use Rattle.bng_steps.specs.Step.{Hears, Step}
 use Rattle.bng_steps.specs.Tenures.{Tenure}
@@ -49,19 +49,19 @@ open_is_last true begun o q e = absurd (let never : ⊥ = cc in never)
 
 last_of : (v : Service) (q : Question) → open_in v ≡ Some q → last_in v ≡ Some q
 last_of (Provisioned over) q e = absurd (let never : ⊥ = cc in never)
-last_of (Discovered m) q e = open_is_last m.ended (is_open m.link.auth) m.question q e
+last_of (Linked m) q e = open_is_last m.ended (is_open m.link.auth) m.question q e
 
-module _ (r : Rules) (s : State) (limited : Bool) (d : Deed) (sound : IsSound s) (kind : d.entry.item.kind ≡ Verdict) (asks : open_ask_at s d.entry.item.target ≡ Some d.entry.item.ask) (t : Told) (decides : Decides r limited d.entry.item.frame.payload d.entry.claim (Some t)) (h : Judges r s d.entry t d) where
+module _ (r : Rules) (s : State) (limited : Bool) (d : Deed) (sound : IsSound s) (kind : d.entry.item.kind ≡ Verdict) (asks : open_number_at s d.entry.item.target ≡ Some d.entry.item.ask) (t : Told) (decides : Decides r limited d.entry.item.frame.payload d.entry.claim (Some t)) (h : Judges r s d.entry t d) where
   own : h.x.number.0 ≡ d.entry.item.target
   own = sound.own d.entry.item.target h.x h.found
 
   here : value_at s.sessions h.x.number.0 ≡ Some h.x
   here = ap (value_at s.sessions) own ∙ h.found
 
-  ask_is : h.question.ask ≡ d.entry.item.ask
+  ask_is : h.question.number ≡ d.entry.item.ask
   ask_is =
-      some_same h.question.ask d.entry.item.ask
-      (sym (ap (λ (o : Option Session). option_map (λ (q : Question). q.ask) (option_and_then open_of o)) h.found ∙ ap (option_map (λ (q : Question). q.ask)) h.asks) ∙ asks)
+      some_same h.question.number d.entry.item.ask
+      (sym (ap (λ (o : Option Session). option_map (λ (q : Question). q.number) (option_and_then open_of o)) h.found ∙ ap (option_map (λ (q : Question). q.number)) h.asks) ∙ asks)
 
   begins : (a : Ip4) → t.lease ≡ Some a → BeginsByYes s d (next_term s h.x h.question t.plan t.class d.entry.moment a)
   begins a leased =
@@ -69,7 +69,7 @@ module _ (r : Rules) (s : State) (limited : Bool) (d : Deed) (sound : IsSound s)
       record {
         asking = asking_of h.x h.question;
         last = ap (λ (o : Option Session). option_and_then last_asking o) here ∙ ap (option_map (asking_of h.x)) (last_of h.x.service h.question h.asks);
-        asks = ap (λ (o : Option Session). option_map (λ (q : Question). q.ask) (option_and_then open_of o)) here ∙ ap (option_map (λ (q : Question). q.ask)) h.asks;
+        asks = ap (λ (o : Option Session). option_map (λ (q : Question). q.number) (option_and_then open_of o)) here ∙ ap (option_map (λ (q : Question). q.number)) h.asks;
         yes = record { kind = kind; target = sym own; number = sym ask_is; verdict = v.0; says = v.1; yes = v.2 };
         circuit = refl;
         user = refl;

@@ -14,7 +14,7 @@ use Rattle.bng_sessions.specs.Sessions.{value_at, with_value}
 use Rattle.bng_sessions.proofs.SessionLaws.{value_at-with_value, value_at-with_other}
 use Rattle.bng_term.specs.declared.limits.Limits.{Limits}
 use Rattle.bng_steps.specs.Calls.{called_session, turned}
-use Rattle.bng_steps.specs.Made.{Question}
+use Rattle.bng_steps.specs.LinkService.{Question}
 use Rattle.bng_steps.specs.Changes.{Found, changed_by, found_by, lease_after, meters_after, place_of, recast_by, with_change}
 use Rattle.bng_steps.specs.Passing.{lapsed, looked}
 use Rattle.bng_steps.specs.Serving.{AreOwn}
@@ -28,7 +28,7 @@ use Rattle.bng_steps.specs.State.{Beside, State, IsTermOf, with_session, with_dr
 use Rattle.bng_steps.specs.Deed.{Deed, at_of, beside_of}
 use Rattle.bng_steps.specs.Link.{Drives, LinkStep, Told, ended, nas_request, lost_carrier}
 use Rattle.bng_steps.specs.Metered.{meters_of}
-use Rattle.bng_steps.specs.Running.{AreTied}
+use Rattle.bng_steps.specs.TermRows.{AreTied}
 use Rattle.bng_steps.specs.Step.{Step}
 use Rattle.bng_steps.specs.Tenures.{Tenure, closed, is_over, kept_lease, over_by}
 use Rattle.bng_steps.specs.Verdicts.{Judges, next_lease, next_term, settled_by, with_term}
@@ -196,7 +196,7 @@ module _ (s : State) (h : Holds s) where
 
   -- after a step of the link of one of them
   driven_ties : (r : Rules) (a : At) (moment : ℕ) (Steps : LinkStep) (n : ℕ) (x x' : Session) (outs : List OutRecord) (cause : Option ℕ) (beside' : Beside) → value_at s.sessions n ≡ Some x
-      → Drives r a (beside_at moment s.asked s.tunnels) x Steps outs cause x' beside' → Holds (with_driven s n x.lease cause x' beside')
+      → Drives r a (beside_at moment s.question_count s.tunnels) x Steps outs cause x' beside' → Holds (with_driven s n x.lease cause x' beside')
   driven_ties r a moment Steps n x x' outs cause beside' at d =
       holds_with n x x.lease (λ k is. (at, is)) cause x' beside'
       (λ l its.
@@ -214,7 +214,7 @@ module _ (s : State) (h : Holds s) where
 
   -- once it has ended
   ended_ties : (n : ℕ) (x : Session) (cause : ℕ) → value_at s.sessions n ≡ Some x → Holds (with_ended s n x.lease cause (ended x))
-  ended_ties n x cause at = holds_with n x x.lease (λ k is. (at, is)) (Some cause) (ended x) (beside_at 0 s.asked s.tunnels) (λ l its. absurd (none_some l its))
+  ended_ties n x cause at = holds_with n x x.lease (λ k is. (at, is)) (Some cause) (ended x) (beside_at 0 s.question_count s.tunnels) (λ l its. absurd (none_some l its))
 
   -- once its live term has been looked at
   looked_ties : (n at : ℕ) (x : Session) → value_at s.sessions n ≡ Some x → Holds (with_session s n (looked at x))
@@ -340,17 +340,17 @@ ties_walk r = record {
       holds_with s h n x x.lease (λ k is. (at, is)) (Some cause) x' beside' (λ l its. absurd (none_some l (sym bare ∙ its)));
   lapses_circuit = λ e s n x over cause at is lapse h. holds_with s h n x x.lease (λ k is. (at, is)) (Some cause) (lapsed x) (beside_of s e) (λ l its. absurd (none_some l its));
   tells = λ s t h. record { own = h.own; tied = h.tied; apart = h.apart; numbered = h.numbered };
-  comes = λ e s n number peer t c link vacant new h. bare_ties s h n (called_session n peer number t c link) (called_session n peer number t c link) None (beside_at 0 s.asked s.tunnels) refl;
+  comes = λ e s n number peer t c link vacant new h. bare_ties s h n (called_session n peer number t c link) (called_session n peer number t c link) None (beside_at 0 s.question_count s.tunnels) refl;
   turns = λ s n x c call at way h.
       subst (λ (ts : List Tenure). let u : State = record (with_session s n (turned x c call)) { terms = ts } in Holds u) (unclosed x.lease s.terms)
-      (holds_with s h n x x.lease (λ k is. (at, is)) None (turned x c call) (beside_at 0 s.asked s.tunnels)
+      (holds_with s h n x x.lease (λ k is. (at, is)) None (turned x c call) (beside_at 0 s.question_count s.tunnels)
       (λ l its. (
         h.own n x l at its,
         subst (AnyOf (IsTermOf (turned x c call) l)) (sym (unclosed x.lease s.terms))
             (any_of (IsTermOf x l) (IsTermOf (turned x c call) l) s.terms (λ t. same_term x (turned x c call) l t refl (call_stays x c call way)) (h.tied n x l at its)),
       )));
   over = λ s n x m c call at is way h.
-      holds_with s h n x x.lease (λ k is. (at, is)) (Some lost_carrier) (ended (turned x c call)) (beside_at 0 s.asked s.tunnels) (λ l its. absurd (none_some l its));
+      holds_with s h n x x.lease (λ k is. (at, is)) (Some lost_carrier) (ended (turned x c call)) (beside_at 0 s.question_count s.tunnels) (λ l its. absurd (none_some l its));
   connects = λ e s n x x' m c call link outs none beside' at is way new d h.
       let bare : x'.lease ≡ None = ap (λ (y : Session). y.lease) d.session ∙ none_kept d.says.term_ended in
       holds_with s h n x x.lease (λ k is. (at, is)) (Some lost_carrier) x' beside' (λ l its. absurd (none_some l (sym bare ∙ its)));

@@ -31,6 +31,6 @@ state_code =
     code_by
     (Sessions Session × (ℕ × (ℕ × (List Tenure × (List Tenure × (List ℕ × (List Meters × TunnelsState)))))))
     (coded× (sessions_code the_row.coded) (coded× coded_ℕ (coded× coded_ℕ (coded× (coded_list tenure_code) (coded× (coded_list tenure_code) (coded× (coded_list coded_ℕ) (coded× (coded_list meters_row.coded) tunnels_row.coded)))))))
-    (λ s. (s.sessions, (s.begun, (s.asked, (s.terms, (s.news, (s.passed, (s.meters, s.tunnels))))))))
-    (λ p. record { sessions = p.0; begun = p.1.0; asked = p.1.1.0; terms = p.1.1.1.0; news = p.1.1.1.1.0; passed = p.1.1.1.1.1.0; meters = p.1.1.1.1.1.1.0; tunnels = p.1.1.1.1.1.1.1 })
+    (λ s. (s.sessions, (s.begun, (s.question_count, (s.terms, (s.news, (s.passed, (s.meters, s.tunnels))))))))
+    (λ p. record { sessions = p.0; begun = p.1.0; question_count = p.1.1.0; terms = p.1.1.1.0; news = p.1.1.1.1.0; passed = p.1.1.1.1.1.0; meters = p.1.1.1.1.1.1.0; tunnels = p.1.1.1.1.1.1.1 })
     (λ _. refl)

@@ -29,7 +29,7 @@ at_of s e = record { shard = s.sessions.shard; seat = e.seat; place = e.place }
 
 -- what a session's link works with at an entry, beside the session
 abbrev pub beside_of : State → Entry → Beside
-beside_of s e = beside_at e.moment s.asked s.tunnels
+beside_of s e = beside_at e.moment s.question_count s.tunnels
 
 -- a datagram that an entry has to send
 abbrev pub out : At → Role → Peer → List ℕ → Option Charge → OutRecord

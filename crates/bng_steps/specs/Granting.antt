@@ -13,17 +13,17 @@ use Rattle.bng_base.specs.declared.outside.Role.TheVariants.{Access, Tunnel}
 use Rattle.bng_base.specs.PppoeGrammar.{PppoeFrame, IsPppoe}
 use Rattle.bng_l2tp_wire.specs.Messages.{DataMessage, IsData}
 use Rattle.bng_ppp.specs.Granting.{IsYes}
-use Rattle.bng_ppp.specs.PppState.{is_open, is_accepted}
+use Rattle.bng_ppp.specs.LinkState.{is_open, is_accepted}
 use Rattle.bng_sessions.specs.Sessions.{value_at}
 use Rattle.bng_verdict.specs.Verdicts.{Saying, IsVerdict}
-use Rattle.bng_steps.specs.Made.{Question}
+use Rattle.bng_steps.specs.LinkService.{Question}
 use Rattle.bng_steps.specs.declared.session.Service.{Service}
-use Rattle.bng_steps.specs.declared.session.Service.TheVariants.{Provisioned, Discovered}
+use Rattle.bng_steps.specs.declared.session.Service.TheVariants.{Provisioned, Linked}
 use Rattle.bng_steps.specs.declared.session.Session.{Session}
-use Rattle.bng_steps.specs.declared.way.Called.{Called}
+use Rattle.bng_steps.specs.declared.way.TunnelCall.{TunnelCall}
 use Rattle.bng_steps.specs.declared.way.Way.TheVariants.{Call}
 use Rattle.bng_steps.specs.Link.{call_octets}
-use Rattle.bng_steps.specs.Questions.{Asking, last_asking_at, open_ask_at}
+use Rattle.bng_steps.specs.Questions.{Asking, last_asking_at, open_number_at}
 use Rattle.bng_steps.specs.Serving.{AreOwn, AreOfShard}
 use Rattle.bng_steps.specs.State.{State}
 use Rattle.bng_steps.specs.Deed.{Deed}
@@ -50,10 +50,10 @@ pub record IsYesOver (role : Role) (octets : List ℕ) : Type 0 where
 -- the question that the link of a session asked last, and whose verdict was yes
 abbrev pub accepted_in : Service → Option Question
 accepted_in (Provisioned l) = None
-accepted_in (Discovered m) = if is_accepted m.link.auth then m.question else None
+accepted_in (Linked m) = if is_accepted m.link.auth then m.question else None
 
-abbrev pub accepted_ask_at : State → ℕ → Option ℕ
-accepted_ask_at s n = option_map (λ q. q.ask) (option_and_then (λ (x : Session). accepted_in x.service) (value_at s.sessions n))
+abbrev pub accepted_number_at : State → ℕ → Option ℕ
+accepted_number_at s n = option_map (λ q. q.number) (option_and_then (λ (x : Session). accepted_in x.service) (value_at s.sessions n))
 
 -- the entry is the yes to this question of this session
 pub record GivesYes (e : Entry) (session ask : ℕ) : Type 0 where
@@ -67,7 +67,7 @@ pub record GivesYes (e : Entry) (session ask : ℕ) : Type 0 where
 -- the question was answered by a yes before, or is open and the entry answers it so
 abbrev pub IsGranted : State → Entry → ℕ → ℕ → Type 0
 IsGranted s e session ask =
-    (accepted_ask_at s session ≡ Some ask) ⊎ (GivesYes e session ask × (open_ask_at s session ≡ Some ask))
+    (accepted_number_at s session ≡ Some ask) ⊎ (GivesYes e session ask × (open_number_at s session ≡ Some ask))
 
 -- This circuit, of the session with this number, was asked about by the question that its link asked last, and the question was answered by a
 -- yes.
@@ -82,7 +82,7 @@ pub record IsGrantedOver (s : State) (e : Entry) (to : Peer) (octets : List ℕ)
   pub session : SessionNo
   pub x : Session
   pub found : value_at s.sessions session.0 ≡ Some x
-  pub called : Called
+  pub called : TunnelCall
   pub way_is : x.way ≡ Call called
   pub peer : called.peer ≡ to
   pub frame : List ℕ
@@ -92,7 +92,7 @@ pub record IsGrantedOver (s : State) (e : Entry) (to : Peer) (octets : List ℕ)
 -- a link with an open question, or whose peer was accepted, has its question
 abbrev pub HasQuestion : Service → Type 0
 HasQuestion (Provisioned l) = Unit {0}
-HasQuestion (Discovered m) = (is_open m.link.auth ≡ true) ⊎ (is_accepted m.link.auth ≡ true) → IsSome m.question
+HasQuestion (Linked m) = (is_open m.link.auth ≡ true) ⊎ (is_accepted m.link.auth ≡ true) → IsSome m.question
 
 -- It is of one of 64 shards, sessions stand under their own numbers, which are the shard's, and such links have their questions.
 pub record IsSound (s : State) : Type 0 where
@@ -106,7 +106,7 @@ pub record IsSound (s : State) : Type 0 where
 pub record BeginsByYes (s : State) (d : Deed) (t : Tenure) : Type 0 where
   pub asking : Asking
   pub last : last_asking_at s t.term.session.0 ≡ Some asking
-  pub asks : open_ask_at s t.term.session.0 ≡ Some asking.number.ask
+  pub asks : open_number_at s t.term.session.0 ≡ Some asking.number.ask
   pub yes : GivesYes d.entry t.term.session.0 asking.number.ask
   pub circuit : t.circuit ≡ asking.circuit
   pub user : t.user ≡ asking.claim.name

@@ -14,7 +14,7 @@ use Rattle.bng_steps.specs.declared.way.Way.TheVariants.{Port}
 use Rattle.bng_steps.specs.Metered.{meters_of, no_meters, plan_at}
 use Rattle.bng_steps.specs.State.{State}
 use Rattle.bng_steps.specs.Tenures.{Tenure}
-use Rattle.bng_steps.specs.Limited.{no_limits}
+use Rattle.bng_steps.specs.Limits.{no_limits}
 use Rattle.bng_term.specs.Lifetimes.{leased}
 
 -- what a circuit leases from this moment on, by a term with this number; it has no timeouts
@@ -83,7 +83,7 @@ abbrev pub opened_slots : ℕ → List Profile → List Static → ℕ → State
 opened_slots number profiles circuits now = record {
   sessions = record { shard = number; by_number = from_sorted (numbered_after now 0 (in_order number circuits)) };
   begun = length circuits;
-  asked = 0;
+  question_count = 0;
   terms = tenures_after now 0 (in_order number circuits);
   news = [];
   passed = none_passed;

@@ -15,7 +15,7 @@ use Rattle.bng_engine.specs.Sums.{passed_sum}
 use Rattle.bng_engine.specs.Terms.{Key, Stop, Term, ComesBefore, is_ended, keys}
 use Rattle.bng_engine.specs.Views.{ShardView, Row, new_row}
 use Rattle.bng_base.specs.Ranges.{size_of}
-use Rattle.bng_steps.specs.declared.changes.Answer.{Answer}
+use Rattle.bng_steps.specs.declared.changes.ChangeAnswer.{ChangeAnswer}
 use Rattle.bng_steps.specs.declared.rules.Rules.{Rules}
 use Rattle.bng_steps.specs.declared.term.EndedTerm.{EndedTerm}
 use Rattle.bng_steps.specs.declared.term.LiveTerm.{LiveTerm}
@@ -32,7 +32,7 @@ use Rattle.bng_steps.specs.Step.{Step}
 pub record ShardState : Type 0 where
   pub rules : Rules
   pub slots : State
-  pub changed : List Answer
+  pub changed : List ChangeAnswer
 
 -- an entry as it was handled: what it did, whether it found the shard's allowance of new terms used up, the addresses that it was told to
 -- be held, and what it was answered, if it was a request for a change
@@ -40,7 +40,7 @@ pub record Handled : Type 0 where
   pub deed : Deed
   pub limited : Bool
   pub refused : List ℕ
-  pub answer : Option Answer
+  pub answer : Option ChangeAnswer
 
 -- the cause of its end, 0 as long as it is live
 abbrev pub cause_in : Option ℕ → ℕ
@@ -49,7 +49,7 @@ cause_in (Some cause) = cause
 
 -- what never changes of a term, and the term, as the engine reads them
 abbrev pub key_in : Tenure → Key
-key_in t = record { term = t.term; circuit = t.circuit; lease = t.address }
+key_in t = record { term = t.term; circuit = t.circuit; address = t.address }
 
 abbrev pub term_in : Tenure → Term
 term_in t = record { key = key_in t; profile = t.profile; ended = is_over t; cause = cause_in t.cause }
@@ -141,15 +141,15 @@ opened number rules circuits now = record {
 
 -- the row of the term that has an address
 abbrev pub row_at : List Row → Ip4 → Option Row
-row_at rows address = find (λ (r : Row). r.key.lease.0 == address.0) rows
+row_at rows address = find (λ (r : Row). r.key.address.0 == address.0) rows
 
 -- what is reported of a term that ended
 abbrev pub stop_of : EndedTerm → Stop
-stop_of e = record { key = record { term = e.term; circuit = e.circuit; lease = e.address }; cause = e.cause; carried = e.carried }
+stop_of e = record { key = record { term = e.term; circuit = e.circuit; address = e.address }; cause = e.cause; carried = e.carried }
 
 -- the key of a term that is there
 abbrev pub key_of : LiveTerm → Key
-key_of t = record { term = t.term; circuit = t.circuit; lease = t.address }
+key_of t = record { term = t.term; circuit = t.circuit; address = t.address }
 
 -- what is reported says what its records say of this term
 pub record SaysOf (user class : List ℕ) (began : ℕ) (k : Key) (t : Tenure) : Type 0 where

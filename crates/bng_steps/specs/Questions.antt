@@ -5,14 +5,14 @@ use Rattle.std.specs.Option.{option_map, option_and_then}
 use Rattle.bng_base.specs.declared.address.SessionNo.{SessionNo}
 use Rattle.bng_base.specs.declared.circuit.Circuit.{Circuit}
 use Rattle.bng_ppp.specs.Claims.{Claim, claim_of}
-use Rattle.bng_ppp.specs.PppState.{is_open}
+use Rattle.bng_ppp.specs.LinkState.{is_open}
 use Rattle.bng_sessions.specs.Sessions.{Sessions, value_at}
 use Rattle.bng_sessions.specs.Listed.{values}
 use Rattle.bng_verdict.specs.declared.question.AuthAsk.{AuthAsk}
 use Rattle.bng_verdict.specs.declared.question.QuestionNo.{QuestionNo}
-use Rattle.bng_steps.specs.Made.{Question}
+use Rattle.bng_steps.specs.LinkService.{Question}
 use Rattle.bng_steps.specs.declared.session.Service.{Service}
-use Rattle.bng_steps.specs.declared.session.Service.TheVariants.{Provisioned, Discovered}
+use Rattle.bng_steps.specs.declared.session.Service.TheVariants.{Provisioned, Linked}
 use Rattle.bng_steps.specs.declared.session.Session.{Session}
 use Rattle.bng_steps.specs.Listing.{IsLowestPassing, does_pass}
 use Rattle.bng_steps.specs.State.{State, circuit_of}
@@ -30,17 +30,17 @@ asking_from a = record { number = a.number; circuit = a.circuit; claim = claim_o
 -- the question of a session whose verdict is not there yet; one that has ended has none
 abbrev pub open_in : Service → Option Question
 open_in (Provisioned l) = None
-open_in (Discovered m) = if not m.ended && is_open m.link.auth then m.question else None
+open_in (Linked m) = if not m.ended && is_open m.link.auth then m.question else None
 
 abbrev pub open_of : Session → Option Question
 open_of x = open_in x.service
 
 -- the number of the open question of the session with this number
-abbrev pub open_ask_at : State → ℕ → Option ℕ
-open_ask_at s n = option_map (λ q. q.ask) (option_and_then open_of (value_at s.sessions n))
+abbrev pub open_number_at : State → ℕ → Option ℕ
+open_number_at s n = option_map (λ q. q.number) (option_and_then open_of (value_at s.sessions n))
 
 abbrev pub asking_of : Session → Question → Asking
-asking_of x q = record { number = record { session = x.number; ask = q.ask }; circuit = circuit_of x; claim = q.claim }
+asking_of x q = record { number = record { session = x.number; ask = q.number }; circuit = circuit_of x; claim = q.claim }
 
 abbrev pub asked_in : Session → Option Question → List Asking
 asked_in x None = []
@@ -49,7 +49,7 @@ asked_in x (Some q) = asking_of x q ∷ []
 -- the question that a session asked last, whether its verdict is there or not
 abbrev pub last_in : Service → Option Question
 last_in (Provisioned l) = None
-last_in (Discovered m) = m.question
+last_in (Linked m) = m.question
 
 abbrev pub last_asking : Session → Option Asking
 last_asking x = option_map (asking_of x) (last_in x.service)
@@ -83,8 +83,8 @@ none_handed = replicate 1022 0
 -- One state of a shard comes of another: the count of questions does not fall and stays below 2 ^ 64. Where it has not come to its
 -- end, each open question was open before, or has a number that the count passed since.
 pub record AsksOn (s s' : State) : Type 0 where
-  pub count : s.asked < 2 ^ 64 → (s.asked ≤ s'.asked) × (s'.asked < 2 ^ 64)
-  pub asks : s'.asked < 2 ^ 64 - 1 → (a : Asking) → Contains (questions_of s') a → Contains (questions_of s) a ⊎ ((s.asked < a.number.ask) × (a.number.ask ≤ s'.asked))
+  pub count : s.question_count < 2 ^ 64 → (s.question_count ≤ s'.question_count) × (s'.question_count < 2 ^ 64)
+  pub asks : s'.question_count < 2 ^ 64 - 1 → (a : Asking) → Contains (questions_of s') a → Contains (questions_of s) a ⊎ ((s.question_count < a.number.ask) × (a.number.ask ≤ s'.question_count))
 
 -- the session has an open question that was not handed out yet
 abbrev pub is_waiting : List ℕ → Session → Option Question → Bool

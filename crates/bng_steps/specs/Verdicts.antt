@@ -7,7 +7,7 @@ use Rattle.bng_base.specs.declared.item.OutRecord.{OutRecord}
 use Rattle.bng_sessions.specs.Sessions.{value_at}
 use Rattle.bng_term.specs.Lifetimes.{leased}
 use Rattle.bng_term.specs.declared.limits.Limits.{Limits}
-use Rattle.bng_steps.specs.Made.{Question}
+use Rattle.bng_steps.specs.LinkService.{Question}
 use Rattle.bng_steps.specs.declared.meters.Meters.{Meters}
 use Rattle.bng_steps.specs.declared.meters.Plan.{Plan}
 use Rattle.bng_steps.specs.declared.rules.Rules.{Rules}
@@ -19,7 +19,7 @@ use Rattle.bng_steps.specs.Deed.{Deed, at_of, beside_of, handled, ignored}
 use Rattle.bng_steps.specs.Link.{Drives, Told, settles}
 use Rattle.bng_steps.specs.Metered.{meters_of}
 use Rattle.bng_steps.specs.Passing.{place_in}
-use Rattle.bng_steps.specs.Questions.{open_ask_at, open_of}
+use Rattle.bng_steps.specs.Questions.{open_number_at, open_of}
 use Rattle.bng_steps.specs.Wishes.{Decides}
 
 -- the lease of the term that begins next, with this address, by this plan and within these limits, from this moment on
@@ -71,6 +71,6 @@ pub record Judges (r : Rules) (s : State) (e : Entry) (t : Told) (d : Deed) : Ty
 -- open, and the octets say something, the session's link is told what they come to. Else nothing happens.
 abbrev pub HearsVerdict : Rules → State → Entry → Bool → Deed → Type 0
 HearsVerdict r s e limited d =
-    ((open_ask_at s e.item.target ≡ Some e.item.ask) × (t : Told) × Decides r limited e.item.frame.payload e.claim (Some t) × Judges r s e t d)
-    ⊎ (((open_ask_at s e.item.target ≡ Some e.item.ask) × Decides r limited e.item.frame.payload e.claim None × (d ≡ ignored s e))
-    ⊎ ((¬ (open_ask_at s e.item.target ≡ Some e.item.ask)) × (e.claim ≡ NoClaim) × (d ≡ ignored s e)))
+    ((open_number_at s e.item.target ≡ Some e.item.ask) × (t : Told) × Decides r limited e.item.frame.payload e.claim (Some t) × Judges r s e t d)
+    ⊎ (((open_number_at s e.item.target ≡ Some e.item.ask) × Decides r limited e.item.frame.payload e.claim None × (d ≡ ignored s e))
+    ⊎ ((¬ (open_number_at s e.item.target ≡ Some e.item.ask)) × (e.claim ≡ NoClaim) × (d ≡ ignored s e)))

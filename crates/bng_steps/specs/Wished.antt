@@ -9,15 +9,15 @@ use Rattle.bng_base.specs.declared.settings.NamedRange.{NamedRange}
 use Rattle.bng_steps.specs.declared.rules.Rules.{Rules}
 use Rattle.bng_steps.specs.declared.wish.Wish.{Wish}
 use Rattle.bng_steps.specs.declared.wish.Wish.TheVariants.{Nothing, Address, Pool}
-use Rattle.bng_steps.specs.Questions.{open_ask_at}
+use Rattle.bng_steps.specs.Questions.{open_number_at}
 use Rattle.bng_steps.specs.State.{State}
 use Rattle.bng_steps.specs.Wishes.{IsAnswerTo, Wishes, is_within}
 
 -- a verdict asks as its octets say, where the question that it names is open, and else nothing
 abbrev pub WishesVerdict : Rules → State → Item → Bool → Wish → Type 0
 WishesVerdict r s item limited wish =
-    ((open_ask_at s item.target ≡ Some item.ask) × Wishes r limited item.frame.payload wish)
-    ⊎ ((¬ (open_ask_at s item.target ≡ Some item.ask)) × (wish ≡ Nothing))
+    ((open_number_at s item.target ≡ Some item.ask) × Wishes r limited item.frame.payload wish)
+    ⊎ ((¬ (open_number_at s item.target ≡ Some item.ask)) × (wish ≡ Nothing))
 
 -- no other item asks anything
 abbrev pub WishesFor : ItemKind → Rules → State → Item → Bool → Wish → Type 0

@@ -13,7 +13,7 @@ use Rattle.bng_steps.specs.declared.meters.Plan.{Plan}
 use Rattle.bng_steps.specs.declared.rules.Rules.{Rules}
 use Rattle.bng_steps.specs.declared.wish.Wish.{Wish}
 use Rattle.bng_steps.specs.declared.wish.Wish.TheVariants.{Nothing, Address, Pool}
-use Rattle.bng_steps.specs.Limited.{limits_of, no_limits}
+use Rattle.bng_steps.specs.Limits.{limits_of, no_limits}
 use Rattle.bng_steps.specs.Link.{Told}
 use Rattle.bng_steps.specs.Metered.{plan_for, unmetered}
 

@@ -9,11 +9,11 @@ ghost use Rattle.bng_steps.specs.Changes.{AnswersRequest, Applies, Found, HearsC
 ghost use Rattle.bng_steps.specs.Doing.{DoesWith};
 ghost use Rattle.bng_steps.specs.Placed.{ArePlaced};
 ghost use Rattle.bng_steps.specs.Link.{admin_reset};
-ghost use Rattle.bng_steps.specs.Running.{whole, KeepSums};
+ghost use Rattle.bng_steps.specs.TermRows.{whole, KeepSums};
 ghost use Rattle.bng_steps.specs.State.{beside_at, with_session};
 ghost use Rattle.bng_steps.specs.Timed.{LostTerm};
 ghost use Rattle.bng_steps.specs.Timers.{stays_at};
-ghost use Rattle.bng_steps.specs.declared.changes.Answer.{Answer as AnswerOf};
+ghost use Rattle.bng_steps.specs.declared.changes.ChangeAnswer.{ChangeAnswer as AnswerOf};
 ghost use Rattle.bng_steps.specs.declared.session.Session.{Session as Seen};
 
 use crate::incoming::Incoming;
@@ -31,8 +31,8 @@ use bng_term::Limits;
 
 /// What a request for a change was answered, by its number.
 #[derive(Clone, Copy, PartialEq, Eq, Debug)]
-pub struct Answer {
-    pub ask: u64,
+pub struct ChangeAnswer {
+    pub number: u64,
     pub verdict: ChangeVerdict,
 }
 
@@ -107,12 +107,12 @@ fn found_by<S: Store>(
 ) -> Option<Meant>
     ensures { result ≡ option_map meant_of (found_by rules.now (whole served.now terms.now) (packet_of request.now).attributes) }
 {
-    let asked = terms.asked_for(rules, request)?;
-    let session = served.get(asked.term.session)?;
-    let lease = lease_for(session, asked.term.serial)?;
+    let named = terms.named_by(rules, request)?;
+    let session = served.get(named.term.session)?;
+    let lease = lease_for(session, named.term.serial)?;
     Some(Meant {
-        term: asked.term,
-        profile: asked.profile,
+        term: named.term,
+        profile: named.profile,
         lease,
     })
 }
@@ -184,24 +184,24 @@ fn disconnect<S: Store>(
     requires stays { stays_at served.old meant.now.term.session.0 ≡ true }
     requires room { length outs.old.items + 5 ≤ outs.old.room }
     ensures sums { KeepSums terms.old terms.new }
-    ensures lost { (x : Seen) → value_at served.old.sessions meant.now.term.session.0 ≡ Some x → (x' : Seen) × (asked : ℕ) × (served.new ≡ record (with_session served.old meant.now.term.session.0 x') { asked = asked; tunnels = served.new.tunnels })
-        × LostTerm x.service admin_reset incoming.now.rules.now incoming.now.at incoming.now.moment incoming.now.item.now.random (beside_at incoming.now.moment served.old.asked served.old.tunnels) x x' (beside_at incoming.now.moment asked served.new.tunnels) terms.old terms.new outs.old.items outs.new.items }
+    ensures lost { (x : Seen) → value_at served.old.sessions meant.now.term.session.0 ≡ Some x → (x' : Seen) × (question_count : ℕ) × (served.new ≡ record (with_session served.old meant.now.term.session.0 x') { question_count = question_count; tunnels = served.new.tunnels })
+        × LostTerm x.service admin_reset incoming.now.rules.now incoming.now.at incoming.now.moment incoming.now.item.now.random (beside_at incoming.now.moment served.old.question_count served.old.tunnels) x x' (beside_at incoming.now.moment question_count served.new.tunnels) terms.old terms.new outs.old.items outs.new.items }
     ensures capacity { outs.new.room ≡ outs.old.room }
     ensures few { length outs.new.items ≤ length outs.old.items + 5 }
 {
     let mut session = served.take(meant.term.session);
-    let asked = served.asked();
-    let asked = end_term(
+    let question_count = served.question_count();
+    let question_count = end_term(
         served,
         &mut session,
         terms,
-        asked,
+        question_count,
         ADMIN_RESET,
         incoming,
         outs,
     );
     served.put(session);
-    served.count_asked(asked);
+    served.count_questions(question_count);
 }
 
 // Does to the term that a request names what the request says.
@@ -311,7 +311,7 @@ pub fn hear_change<S: Store>(
     served: &mut Served<S>,
     terms: &mut Terms,
     incoming: &Incoming<'_>,
-    answers: &mut Vec<Answer>,
+    answers: &mut Vec<ChangeAnswer>,
     outs: &mut Batch<OutRecord>,
 ) -> Fate
     requires moment { incoming.now.moment < 2 ^ 60 }
@@ -332,8 +332,8 @@ pub fn hear_change<S: Store>(
     match request_in(item.frame.payload()) {
         Some(request) => {
             let verdict = obey(served, terms, incoming, &request, outs);
-            answers.push_reserved(Answer {
-                ask: item.ask,
+            answers.push_reserved(ChangeAnswer {
+                number: item.ask,
                 verdict,
             });
             Fate::Consumed

@@ -34,17 +34,17 @@ pub fn destination_of(rules: &Rules, item: &Item) -> Destination
     ensures inside { (n : ℕ) → result ≡ Destination.Stands n → n < rules.now.shards }
 {
     match item.kind {
-        ItemKind::Access(number) => whose_frame(rules, number, item),
-        ItemKind::Core => whose_packet(rules, item),
-        ItemKind::Tunnel => whose_datagram(rules, item),
-        ItemKind::Verdict => whose_session(rules, item.target),
-        ItemKind::Change => whose_request(rules, item),
-        ItemKind::Tick | ItemKind::End => whose_target(rules, item.target),
+        ItemKind::Access(number) => port_destination(rules, number, item),
+        ItemKind::Core => core_destination(rules, item),
+        ItemKind::Tunnel => tunnel_destination(rules, item),
+        ItemKind::Verdict => verdict_destination(rules, item.target),
+        ItemKind::Change => request_destination(rules, item),
+        ItemKind::Tick | ItemKind::End => target_destination(rules, item.target),
     }
 }
 
 // A verdict, by its session's number.
-fn whose_session(rules: &Rules, session: u16) -> Destination
+fn verdict_destination(rules: &Rules, session: u16) -> Destination
     ensures is { IsForSession rules.now session result }
     ensures inside { (n : ℕ) → result ≡ Destination.Stands n → n < rules.now.shards }
 {
@@ -58,30 +58,30 @@ fn whose_session(rules: &Rules, session: u16) -> Destination
 }
 
 // A request for a change, by what it names.
-fn whose_request(rules: &Rules, item: &Item) -> Destination
+fn request_destination(rules: &Rules, item: &Item) -> Destination
     ensures is { IsForRequest rules.now item.now result }
     ensures inside { (n : ℕ) → result ≡ Destination.Stands n → n < rules.now.shards }
 {
     match request_in(item.frame.payload()) {
-        Some(request) => whose_lead(rules, lead_of(&request)),
+        Some(request) => lead_destination(rules, lead_of(&request)),
         None => Destination::Loose(Fate::Consumed),
     }
 }
 
 // Where a request leads.
-fn whose_lead(rules: &Rules, lead: Lead) -> Destination
+fn lead_destination(rules: &Rules, lead: Lead) -> Destination
     ensures is { IsForLead rules.now lead result }
     ensures inside { (n : ℕ) → result ≡ Destination.Stands n → n < rules.now.shards }
 {
     match lead {
-        Lead::Session(number) => whose_numbered(rules, number),
+        Lead::Session(number) => shard_of_number(rules, number),
         Lead::Address(address) => Destination::Holder(address, Fate::Consumed),
         Lead::Nowhere => Destination::Loose(Fate::Consumed),
     }
 }
 
 // By a session number.
-fn whose_numbered(rules: &Rules, number: u16) -> Destination
+fn shard_of_number(rules: &Rules, number: u16) -> Destination
     ensures is { IsForNumbered rules.now number result }
     ensures inside { (n : ℕ) → result ≡ Destination.Stands n → n < rules.now.shards }
 {
@@ -93,7 +93,7 @@ fn whose_numbered(rules: &Rules, number: u16) -> Destination
     }
 }
 
-fn whose_target(rules: &Rules, target: u16) -> Destination
+fn target_destination(rules: &Rules, target: u16) -> Destination
     ensures is { IsForTarget rules.now target result }
     ensures inside { (n : ℕ) → result ≡ Destination.Stands n → n < rules.now.shards }
 {
@@ -105,7 +105,7 @@ fn whose_target(rules: &Rules, target: u16) -> Destination
 }
 
 // A datagram of the core.
-fn whose_packet(rules: &Rules, item: &Item) -> Destination
+fn core_destination(rules: &Rules, item: &Item) -> Destination
     ensures is { IsForKind ItemKind.Core rules.now item.now result }
     ensures inside { (n : ℕ) → result ≡ Destination.Stands n → n < rules.now.shards }
 {
@@ -121,7 +121,7 @@ fn whose_packet(rules: &Rules, item: &Item) -> Destination
 }
 
 // A datagram of the access port with this number.
-fn whose_frame(rules: &Rules, number: u8, item: &Item) -> Destination
+fn port_destination(rules: &Rules, number: u8, item: &Item) -> Destination
     requires some { 1 ≤ rules.now.shards }
     ensures is { IsForKind (ItemKind.Access number) rules.now item.now result }
     ensures inside { (n : ℕ) → result ≡ Destination.Stands n → n < rules.now.shards }
@@ -132,13 +132,13 @@ fn whose_frame(rules: &Rules, number: u8, item: &Item) -> Destination
         octets: item.frame.payload(),
     };
     match frame_at(rules.access.as_slice(), number, &arrived) {
-        Some(frame) => whose_read(rules, &frame),
+        Some(frame) => frame_destination(rules, &frame),
         None => Destination::Loose(Fate::Dropped(DropCause::Malformed)),
     }
 }
 
 // A frame that came to a port.
-fn whose_read(rules: &Rules, frame: &Pppoe<'_>) -> Destination
+fn frame_destination(rules: &Rules, frame: &Pppoe<'_>) -> Destination
     requires some { 1 ≤ rules.now.shards }
     ensures is { IsForFrame rules.now (frame_of frame.now) result }
     ensures inside { (n : ℕ) → result ≡ Destination.Stands n → n < rules.now.shards }
@@ -156,31 +156,31 @@ fn whose_read(rules: &Rules, frame: &Pppoe<'_>) -> Destination
 }
 
 // A datagram of the gateway's end for tunnels.
-fn whose_datagram(rules: &Rules, item: &Item) -> Destination
+fn tunnel_destination(rules: &Rules, item: &Item) -> Destination
     requires some { 1 ≤ rules.now.shards }
     ensures is { IsForDatagram rules.now item.now result }
     ensures inside { (n : ℕ) → result ≡ Destination.Stands n → n < rules.now.shards }
 {
     match datagram_of(item.cut, item.frame.payload()) {
-        Some(datagram) => whose_sent(rules, item.from, &datagram),
+        Some(datagram) => datagram_destination(rules, item.from, &datagram),
         None => Destination::Loose(Fate::Dropped(DropCause::Malformed)),
     }
 }
 
 // One that was read, from this sender.
-fn whose_sent(rules: &Rules, from: Peer, datagram: &TunnelDatagram<'_>) -> Destination
+fn datagram_destination(rules: &Rules, from: Peer, datagram: &TunnelDatagram<'_>) -> Destination
     requires some { 1 ≤ rules.now.shards }
     ensures is { IsForRead rules.now from datagram.now result }
     ensures inside { (n : ℕ) → result ≡ Destination.Stands n → n < rules.now.shards }
 {
     match datagram {
-        TunnelDatagram::Control(message) => whose_message(rules, from, message),
-        TunnelDatagram::Data(message) => whose_number(rules, message.session),
+        TunnelDatagram::Control(message) => message_destination(rules, from, message),
+        TunnelDatagram::Data(message) => numbered_destination(rules, message.session),
     }
 }
 
 // A message of a tunnel, from this sender.
-fn whose_message(rules: &Rules, from: Peer, message: &Control<'_>) -> Destination
+fn message_destination(rules: &Rules, from: Peer, message: &Control<'_>) -> Destination
     requires some { 1 ≤ rules.now.shards }
     ensures is { IsForMessage rules.now from (control_of message.now) result }
     ensures inside { (n : ℕ) → result ≡ Destination.Stands n → n < rules.now.shards }
@@ -188,11 +188,11 @@ fn whose_message(rules: &Rules, from: Peer, message: &Control<'_>) -> Destinatio
     if message.tunnel == 0 {
         return Destination::Stands(shard_of(from, rules.shards));
     }
-    whose_number(rules, message.tunnel)
+    numbered_destination(rules, message.tunnel)
 }
 
 // What names a shard by its number.
-fn whose_number(rules: &Rules, number: u16) -> Destination
+fn numbered_destination(rules: &Rules, number: u16) -> Destination
     ensures is { IsForNumber rules.now number result }
     ensures inside { (n : ℕ) → result ≡ Destination.Stands n → n < rules.now.shards }
 {

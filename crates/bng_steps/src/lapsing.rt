@@ -12,13 +12,13 @@ use crate::session::{Service, Session};
 use crate::store::Store;
 use crate::terms::Terms;
 use bng_base::{Batch, OutRecord};
-use bng_ppp::WholeInput;
+use bng_ppp::Input;
 
 // The link of a session without a term takes Close, if it has one. Answers how many questions were asked then.
 fn close_link<S: Store>(
     served: &mut Served<S>,
     session: &mut Session,
-    asked: u64,
+    question_count: u64,
     incoming: &Incoming<'_>,
     outs: &mut Batch<OutRecord>,
 ) -> u64
@@ -29,7 +29,7 @@ fn close_link<S: Store>(
     requires leased { KeepsLease session.old.service session.old.lease }
     requires none { session.old.lease ≡ Nothing }
     requires room { length outs.old.items + 5 ≤ outs.old.room }
-    ensures closed { ClosedLink session.old.service incoming.now.rules.now incoming.now.at incoming.now.moment incoming.now.item.now.random (beside_at incoming.now.moment asked served.old.tunnels) session.old session.new (beside_at incoming.now.moment result served.new.tunnels) outs.old.items outs.new.items }
+    ensures closed { ClosedLink session.old.service incoming.now.rules.now incoming.now.at incoming.now.moment incoming.now.item.now.random (beside_at incoming.now.moment question_count served.old.tunnels) session.old session.new (beside_at incoming.now.moment result served.new.tunnels) outs.old.items outs.new.items }
     ensures others { served.new ≡ with_tunnels served.old served.new.tunnels }
     ensures leased { KeepsLease session.new.service session.new.lease }
     ensures number { session.new.number ≡ session.old.number }
@@ -37,10 +37,17 @@ fn close_link<S: Store>(
     ensures few { length outs.new.items ≤ length outs.old.items + 5 }
 {
     match &session.service {
-        Service::Provisioned { .. } => asked,
-        Service::Discovered(_) => {
-            let (asked, _) = drive(served, session, asked, incoming, WholeInput::Close, outs);
-            asked
+        Service::Provisioned { .. } => question_count,
+        Service::Linked(_) => {
+            let (question_count, _) = drive(
+                served,
+                session,
+                question_count,
+                incoming,
+                Input::Close,
+                outs,
+            );
+            question_count
         }
     }
 }
@@ -50,7 +57,7 @@ pub fn end_term<S: Store>(
     served: &mut Served<S>,
     session: &mut Session,
     terms: &mut Terms,
-    asked: u64,
+    question_count: u64,
     cause: u8,
     incoming: &Incoming<'_>,
     outs: &mut Batch<OutRecord>,
@@ -61,7 +68,7 @@ pub fn end_term<S: Store>(
     requires placed { IsPlaced incoming.now.rules.now session.old.way }
     requires leased { KeepsLease session.old.service session.old.lease }
     requires room { length outs.old.items + 5 ≤ outs.old.room }
-    ensures lost { LostTerm session.old.service cause incoming.now.rules.now incoming.now.at incoming.now.moment incoming.now.item.now.random (beside_at incoming.now.moment asked served.old.tunnels) session.old session.new (beside_at incoming.now.moment result served.new.tunnels) terms.old terms.new outs.old.items outs.new.items }
+    ensures lost { LostTerm session.old.service cause incoming.now.rules.now incoming.now.at incoming.now.moment incoming.now.item.now.random (beside_at incoming.now.moment question_count served.old.tunnels) session.old session.new (beside_at incoming.now.moment result served.new.tunnels) terms.old terms.new outs.old.items outs.new.items }
     ensures others { served.new ≡ with_tunnels served.old served.new.tunnels }
     ensures leased { KeepsLease session.new.service session.new.lease }
     ensures number { session.new.number ≡ session.old.number }
@@ -71,5 +78,5 @@ pub fn end_term<S: Store>(
 {
     terms.close(session.lease(), Some(cause));
     session.lapse();
-    close_link(served, session, asked, incoming, outs)
+    close_link(served, session, question_count, incoming, outs)
 }

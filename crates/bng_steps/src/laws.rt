@@ -22,11 +22,11 @@ ghost use Rattle.bng_steps.specs.Datagrams.{heard_by};
 ghost use Rattle.bng_steps.specs.Deed.{Deed, is_forwarded};
 ghost use Rattle.bng_steps.specs.Protocol.{ShardState, Handled, opened, pppoe, packet_octets, sessions_of};
 ghost use Rattle.bng_radius_wire.specs.Attributes.{Field};
-ghost use Rattle.bng_steps.specs.Changes.{found_by, is_asked_for};
+ghost use Rattle.bng_steps.specs.Changes.{found_by, is_named_by};
 ghost use Rattle.bng_steps.specs.Claiming.{IsAskedBy};
 ghost use Rattle.bng_steps.specs.Interims.{AwaitsInterims, Reports};
 ghost use Rattle.bng_steps.specs.Lasting.{AreHoused, AreTenures, BeginsByClaims, CircuitsLast};
-ghost use Rattle.bng_steps.specs.Granting.{BeginsByYes, IsGranted, IsGrantedOn, IsGrantedOver, IsSound, IsYesOn, IsYesOver, accepted_ask_at};
+ghost use Rattle.bng_steps.specs.Granting.{BeginsByYes, IsGranted, IsGrantedOn, IsGrantedOver, IsSound, IsYesOn, IsYesOver, accepted_number_at};
 ghost use Rattle.bng_steps.specs.Opening.{opened_slots};
 ghost use Rattle.bng_steps.specs.Questions.{Asking, AsksOn, last_asking_at};
 ghost use Rattle.bng_steps.specs.Reader.{IsWhole};
@@ -104,7 +104,7 @@ pub fn interims_are_awaited()
 /// A live term is found by a request for a change that names its values: where no term outlasts its session, a request is answered that no
 /// live term has all the values that it names (RFC 5176 section 3.5) only where none has.
 pub fn requests_find_live_terms()
-    ensures { (r : Rules) (s : State) (fs : List Field) (t : Tenure) → IsSound s → AreHoused s → find (is_asked_for r fs) s.terms ≡ Some t → IsSome (found_by r s fs) }
+    ensures { (r : Rules) (s : State) (fs : List Field) (t : Tenure) → IsSound s → AreHoused s → find (is_named_by r fs) s.terms ≡ Some t → IsSome (found_by r s fs) }
 {}
 
 /// A peer is told that it is accepted, by Success of CHAP (RFC 1994 section 4.2) or Authenticate-Ack of PAP (RFC 1334 section 2.2.2),
@@ -120,10 +120,10 @@ pub fn yeses_are_granted()
     ensures yes { (r : Rules) (s : State) (limited : Bool) (d : Deed) → Step r s limited d → IsSound s → (port : ℕ) (mac : Mac) (n : ℕ) (o : OutRecord) → Contains d.outs o
         → IsYesOn port mac n o.role o.frame → IsGrantedOn s d.entry (Pppoe port mac (record { 0 = n })) n }
     ensures yes_over { (r : Rules) (s : State) (limited : Bool) (d : Deed) → Step r s limited d → IsSound s → (o : OutRecord) → Contains d.outs o → IsYesOver o.role o.frame → IsGrantedOver s d.entry o.to o.frame }
-    ensures accepted { (r : Rules) (s : State) (limited : Bool) (d : Deed) → Step r s limited d → (n ask : ℕ) → accepted_ask_at d.next n ≡ Some ask → IsGranted s d.entry n ask }
-    ensures last { (r : Rules) (s : State) (limited : Bool) (d : Deed) → Step r s limited d → d.next.asked < 2 ^ 64 - 1 → (n : ℕ) (a : Asking) → last_asking_at d.next n ≡ Some a
-        → (last_asking_at s n ≡ Some a) ⊎ ((s.asked < a.number.ask) × (a.number.ask ≤ d.next.asked)) }
-    ensures few { (r : Rules) (s : State) (limited : Bool) (d : Deed) → Step r s limited d → d.next.asked ≤ s.asked + 1 }
+    ensures accepted { (r : Rules) (s : State) (limited : Bool) (d : Deed) → Step r s limited d → (n ask : ℕ) → accepted_number_at d.next n ≡ Some ask → IsGranted s d.entry n ask }
+    ensures last { (r : Rules) (s : State) (limited : Bool) (d : Deed) → Step r s limited d → d.next.question_count < 2 ^ 64 - 1 → (n : ℕ) (a : Asking) → last_asking_at d.next n ≡ Some a
+        → (last_asking_at s n ≡ Some a) ⊎ ((s.question_count < a.number.ask) × (a.number.ask ≤ d.next.question_count)) }
+    ensures few { (r : Rules) (s : State) (limited : Bool) (d : Deed) → Step r s limited d → d.next.question_count ≤ s.question_count + 1 }
 {}
 
 /// A link asks only by a PPP frame of its session. The question that a link asked last is the one of before, or the step's entry carries a
@@ -134,7 +134,7 @@ pub fn yeses_are_granted()
 pub fn questions_are_heard()
     ensures heard { (r : Rules) (s : State) (limited : Bool) (d : Deed) → Step r s limited d → IsSound s → (n : ℕ) (a : Asking) → last_asking_at d.next n ≡ Some a
         → (last_asking_at s n ≡ Some a) ⊎ IsAskedBy r s d n a }
-    ensures same { (r : Rules) (s : State) (limited : Bool) (d : Deed) → Step r s limited d → d.next.asked < 2 ^ 64 - 1 → (n : ℕ) (a b : Asking) → last_asking_at s n ≡ Some a → a.number.ask ≤ s.asked
+    ensures same { (r : Rules) (s : State) (limited : Bool) (d : Deed) → Step r s limited d → d.next.question_count < 2 ^ 64 - 1 → (n : ℕ) (a b : Asking) → last_asking_at s n ≡ Some a → a.number.ask ≤ s.question_count
         → last_asking_at d.next n ≡ Some b → b.number ≡ a.number → b ≡ a }
 {}
 

@@ -150,7 +150,7 @@ fn waits<S: Store>(number: SessionNo, sessions: &S, handed: &Handed) -> bool
     match session.question() {
         Some(question) => !handed.has(QuestionNo {
             session: session.number,
-            ask: question.ask,
+            ask: question.number,
         }),
         None => false,
     }

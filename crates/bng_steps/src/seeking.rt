@@ -7,7 +7,7 @@ ghost use Rattle.bng_steps.specs.Due.{sessions_due};
 ghost use Rattle.bng_steps.specs.Interims.{interim_at};
 ghost use Rattle.bng_steps.specs.declared.session.Session.{Session as Seen};
 ghost use Rattle.bng_steps.specs.Surveying.{AreSpaced, IsSurveyed};
-ghost use Rattle.bng_steps.specs.Questions.{asking_from, handed_after, open_ask_at, place_of, waiting};
+ghost use Rattle.bng_steps.specs.Questions.{asking_from, handed_after, open_number_at, place_of, waiting};
 ghost use Rattle.bng_steps.specs.State.{call_of, holder_of, session_at, session_of};
 ghost use Rattle.bng_steps.specs.Cutting.{is_cut};
 ghost use Rattle.bng_steps.specs.Listing.{does_pass};
@@ -24,11 +24,11 @@ use bng_verdict::{AuthAsk, QuestionNo};
 
 impl<S: Store> Served<S> {
     /// The number of the open question of the session with this number.
-    pub fn open_ask(&self, number: SessionNo) -> Option<u64>
-        ensures { result ≡ open_ask_at self.now number.0 }
+    pub fn open_number(&self, number: SessionNo) -> Option<u64>
+        ensures { result ≡ open_number_at self.now number.0 }
     {
         let question = self.sessions.get(number)?.question()?;
-        Some(question.ask)
+        Some(question.number)
     }
 
     /// The first open question, by session number, that was not handed out yet.
@@ -45,7 +45,7 @@ impl<S: Store> Served<S> {
         Some(AuthAsk {
             number: QuestionNo {
                 session: session.number,
-                ask: question.ask,
+                ask: question.number,
             },
             circuit: session.own_circuit(),
             credentials: copied(&question.credentials),
@@ -55,7 +55,7 @@ impl<S: Store> Served<S> {
     /// Whether a session has an open question, handed out or not.
     pub fn has_open(&self) -> bool
         ensures none { result ≡ false → (handed : List ℕ) → waiting self.now handed ≡ [] }
-        ensures some { result ≡ true → (n : ℕ) × IsSome (open_ask_at self.now n) }
+        ensures some { result ≡ true → (n : ℕ) × IsSome (open_number_at self.now n) }
     {
         !self.asking.as_slice().is_empty()
     }

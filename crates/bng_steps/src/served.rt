@@ -13,7 +13,7 @@ ghost use Rattle.bng_steps.specs.State.{count_in, reaped, with_session};
 ghost use Rattle.bng_steps.specs.Timers.{stays_at};
 
 use crate::leaving::list_leaving;
-use crate::limited::NO_LIMITS;
+use crate::limits::NO_LIMITS;
 use crate::meters::{Meters, opened_meters};
 use crate::questions::{list, unlist};
 use crate::session::{Lease, Service, Session};
@@ -32,7 +32,7 @@ use std::marker::Model;
 pub struct Served<S: Store> {
     pub sessions: S,
     pub begun: u64,
-    pub asked: u64,
+    pub question_count: u64,
     pub passed: Vec<u64>,
     pub meters: Vec<Meters>,
     pub leaving: Vec<SessionNo>,
@@ -46,7 +46,7 @@ impl<S: Store> Drop for Served<S> {
         let Served {
             sessions: _,
             begun: _,
-            asked: _,
+            question_count: _,
             passed: _,
             meters: _,
             leaving: _,
@@ -67,7 +67,7 @@ impl<S: Store> Model for Served<S> {
 
     ghost coded = { state_code };
 
-    ghost view = { λ a. record { sessions = S.sessions a.sessions; begun = a.begun; asked = a.asked; terms = []; news = []; passed = a.passed.items; meters = a.meters.items; tunnels = a.tunnels } };
+    ghost view = { λ a. record { sessions = S.sessions a.sessions; begun = a.begun; question_count = a.question_count; terms = []; news = []; passed = a.passed.items; meters = a.meters.items; tunnels = a.tunnels } };
 
     ghost invariant = { λ a. Keeps S.unique (S.sessions a.sessions) a.leaving.items (vec_capacity a.leaving) a.asking.items (vec_capacity a.asking) a.young.items (vec_capacity a.young) a.passed.items a.meters.items };
 }
@@ -151,7 +151,7 @@ impl<S: Store> Served<S> {
         Ok(Served {
             sessions,
             begun,
-            asked: 0,
+            question_count: 0,
             passed,
             meters,
             leaving,
@@ -186,17 +186,17 @@ impl<S: Store> Served<S> {
     }
 
     /// How many questions were asked.
-    pub fn asked(&self) -> u64
-        ensures { result ≡ self.now.asked }
+    pub fn question_count(&self) -> u64
+        ensures { result ≡ self.now.question_count }
     {
-        self.asked
+        self.question_count
     }
 
     /// So many questions were asked.
-    pub fn count_asked(&mut self, asked: u64)
-        ensures { self.new ≡ record self.old { asked = asked } }
+    pub fn count_questions(&mut self, question_count: u64)
+        ensures { self.new ≡ record self.old { question_count = question_count } }
     {
-        self.asked = asked;
+        self.question_count = question_count;
     }
 
     /// One term more begins. Answers its number.

@@ -1,14 +1,14 @@
 //! Ticks and Ends.
 ghost use Rattle.std.specs.Prelude.{◌≡◌, ◌+◌, ◌<◌, ◌≤◌, ◌^◌, ◌++◌, ℕ, List, Option as Maybe, IsSome, length};
-ghost use Rattle.bng_ppp.specs.PppRelation.{PppSteps};
-ghost use Rattle.bng_ppp.specs.declared.whole_input.WholeInput.TheVariants.{Timer};
+ghost use Rattle.bng_ppp.specs.LinkRelation.{LinkSteps};
+ghost use Rattle.bng_ppp.specs.declared.input.Input.TheVariants.{Timer};
 ghost use Rattle.bng_base.specs.declared.item.OutRecord.{OutRecord as Out};
 ghost use Rattle.bng_steps.specs.Placed.{ArePlaced, IsPlaced};
 ghost use Rattle.bng_steps.specs.Driven.{Driven};
 ghost use Rattle.bng_steps.specs.Passing.{cause_at};
 ghost use Rattle.bng_steps.specs.Serving.{KeepsLease};
 ghost use Rattle.bng_steps.specs.Timed.{LookedOnce, RemindedOnce, TickedOnce, EndedOnce, Ticked, Ended, Stopped, TickDone, EndDone};
-ghost use Rattle.bng_steps.specs.Running.{closed_rows, whole, KeepSums};
+ghost use Rattle.bng_steps.specs.TermRows.{closed_rows, whole, KeepSums};
 ghost use Rattle.bng_steps.specs.State.{beside_at, made_one, with_tunnels};
 ghost use Rattle.bng_steps.specs.Timers.{TellsEnd, TellsOn, at_once};
 
@@ -24,7 +24,7 @@ use crate::store::Store;
 use crate::terms::Terms;
 use crate::way::Way;
 use bng_base::{At, Batch, OutRecord};
-use bng_ppp::WholeInput;
+use bng_ppp::Input;
 
 /// The cause of an end by the gateway's own stop (RFC 2866 section 5.10, NAS Request).
 const NAS_REQUEST: u8 = 10;
@@ -37,7 +37,7 @@ fn remind<S: Store>(
     served: &mut Served<S>,
     session: &mut Session,
     terms: &mut Terms,
-    asked: u64,
+    question_count: u64,
     incoming: &Incoming<'_>,
     outs: &mut Batch<OutRecord>,
 ) -> u64
@@ -48,7 +48,7 @@ fn remind<S: Store>(
     requires made { made_one session.old.service ≡ 1 }
     requires leased { KeepsLease session.old.service session.old.lease }
     requires room { length outs.old.items + 5 ≤ outs.old.room }
-    ensures driven { (cause : Maybe ℕ) × Driven incoming.now.rules.now incoming.now.at (PppSteps incoming.now.rules.now.link Timer incoming.now.moment incoming.now.item.now.random) (beside_at incoming.now.moment asked served.old.tunnels) session.old cause session.new (beside_at incoming.now.moment result served.new.tunnels) outs.old.items outs.new.items
+    ensures driven { (cause : Maybe ℕ) × Driven incoming.now.rules.now incoming.now.at (LinkSteps incoming.now.rules.now.link Timer incoming.now.moment incoming.now.item.now.random) (beside_at incoming.now.moment question_count served.old.tunnels) session.old cause session.new (beside_at incoming.now.moment result served.new.tunnels) outs.old.items outs.new.items
         × (terms.new ≡ record terms.old { rows = closed_rows session.old.lease cause terms.old.rows }) }
     ensures others { served.new ≡ with_tunnels served.old served.new.tunnels }
     ensures leased { KeepsLease session.new.service session.new.lease }
@@ -58,9 +58,16 @@ fn remind<S: Store>(
     ensures fewer { IsSome session.new.lease → length outs.new.items ≤ length outs.old.items + 2 }
 {
     let lease = session.lease();
-    let (asked, cause) = drive(served, session, asked, incoming, WholeInput::Timer, outs);
+    let (question_count, cause) = drive(
+        served,
+        session,
+        question_count,
+        incoming,
+        Input::Timer,
+        outs,
+    );
     terms.close(lease, cause);
-    asked
+    question_count
 }
 
 // The link of a session takes Timer, if it has one. Answers how many questions were asked then.
@@ -68,7 +75,7 @@ fn remind_link<S: Store>(
     served: &mut Served<S>,
     session: &mut Session,
     terms: &mut Terms,
-    asked: u64,
+    question_count: u64,
     incoming: &Incoming<'_>,
     outs: &mut Batch<OutRecord>,
 ) -> u64
@@ -78,7 +85,7 @@ fn remind_link<S: Store>(
     requires placed { IsPlaced incoming.now.rules.now session.old.way }
     requires leased { KeepsLease session.old.service session.old.lease }
     requires room { length outs.old.items + 5 ≤ outs.old.room }
-    ensures reminded { RemindedOnce session.old.service incoming.now.rules.now incoming.now.at incoming.now.moment incoming.now.item.now.random (beside_at incoming.now.moment asked served.old.tunnels) session.old session.new (beside_at incoming.now.moment result served.new.tunnels) terms.old terms.new outs.old.items outs.new.items }
+    ensures reminded { RemindedOnce session.old.service incoming.now.rules.now incoming.now.at incoming.now.moment incoming.now.item.now.random (beside_at incoming.now.moment question_count served.old.tunnels) session.old session.new (beside_at incoming.now.moment result served.new.tunnels) terms.old terms.new outs.old.items outs.new.items }
     ensures others { served.new ≡ with_tunnels served.old served.new.tunnels }
     ensures leased { KeepsLease session.new.service session.new.lease }
     ensures number { session.new.number ≡ session.old.number }
@@ -87,8 +94,8 @@ fn remind_link<S: Store>(
     ensures fewer { IsSome session.new.lease → length outs.new.items ≤ length outs.old.items + 2 }
 {
     match &session.service {
-        Service::Provisioned { .. } => asked,
-        Service::Discovered(_) => remind(served, session, terms, asked, incoming, outs),
+        Service::Provisioned { .. } => question_count,
+        Service::Linked(_) => remind(served, session, terms, question_count, incoming, outs),
     }
 }
 
@@ -98,7 +105,7 @@ fn look_at<S: Store>(
     served: &mut Served<S>,
     session: &mut Session,
     terms: &mut Terms,
-    asked: u64,
+    question_count: u64,
     passed: u64,
     incoming: &Incoming<'_>,
     outs: &mut Batch<OutRecord>,
@@ -110,7 +117,7 @@ fn look_at<S: Store>(
     requires placed { IsPlaced incoming.now.rules.now session.old.way }
     requires leased { KeepsLease session.old.service session.old.lease }
     requires room { length outs.old.items + 5 ≤ outs.old.room }
-    ensures looked { LookedOnce (cause_at passed session.old.lease incoming.now.moment) incoming.now.rules.now incoming.now.at incoming.now.moment incoming.now.item.now.random passed (beside_at incoming.now.moment asked served.old.tunnels) session.old session.new (beside_at incoming.now.moment result served.new.tunnels) terms.old terms.new outs.old.items outs.new.items }
+    ensures looked { LookedOnce (cause_at passed session.old.lease incoming.now.moment) incoming.now.rules.now incoming.now.at incoming.now.moment incoming.now.item.now.random passed (beside_at incoming.now.moment question_count served.old.tunnels) session.old session.new (beside_at incoming.now.moment result served.new.tunnels) terms.old terms.new outs.old.items outs.new.items }
     ensures others { served.new ≡ with_tunnels served.old served.new.tunnels }
     ensures leased { KeepsLease session.new.service session.new.lease }
     ensures number { session.new.number ≡ session.old.number }
@@ -118,9 +125,17 @@ fn look_at<S: Store>(
     ensures few { length outs.new.items ≤ length outs.old.items + 1 }
 {
     let Some(cause) = session.look(passed, incoming.moment) else {
-        return asked;
+        return question_count;
     };
-    end_term(served, session, terms, asked, cause, incoming, outs)
+    end_term(
+        served,
+        session,
+        terms,
+        question_count,
+        cause,
+        incoming,
+        outs,
+    )
 }
 
 // Handles the due deadline that comes first, and says whether one is due.
@@ -146,11 +161,19 @@ fn tick_once<S: Store>(
     };
     let passed = served.passed_at(number);
     let mut session = served.take(number);
-    let asked = served.asked();
-    let asked = remind_link(served, &mut session, terms, asked, incoming, outs);
-    let asked = look_at(served, &mut session, terms, asked, passed, incoming, outs);
+    let question_count = served.question_count();
+    let question_count = remind_link(served, &mut session, terms, question_count, incoming, outs);
+    let question_count = look_at(
+        served,
+        &mut session,
+        terms,
+        question_count,
+        passed,
+        incoming,
+        outs,
+    );
     served.put(session);
-    served.count_asked(asked);
+    served.count_questions(question_count);
     true
 }
 
@@ -180,7 +203,7 @@ fn tell_end(rules: &Rules, at: At, session: &Session, outs: &mut Batch<OutRecord
 {
     match &session.service {
         Service::Provisioned { .. } => {}
-        Service::Discovered(_) => tell_on_way(rules, at, session, outs),
+        Service::Linked(_) => tell_on_way(rules, at, session, outs),
     }
 }
 

@@ -7,14 +7,14 @@ ghost use Rattle.bng_grant.specs.Grants.{gift};
 ghost use Rattle.bng_steps.specs.Driven.{Driven};
 ghost use Rattle.bng_steps.specs.Placed.{ArePlaced};
 ghost use Rattle.bng_steps.specs.Hearing.{Does};
-ghost use Rattle.bng_steps.specs.Limited.{limits_of};
+ghost use Rattle.bng_steps.specs.Limits.{limits_of};
 ghost use Rattle.bng_steps.specs.Link.{IsToldVerdict};
-ghost use Rattle.bng_steps.specs.Made.{Question as Asked};
+ghost use Rattle.bng_steps.specs.LinkService.{Question as Asked};
 ghost use Rattle.bng_steps.specs.Metered.{meters_of};
 ghost use Rattle.bng_steps.specs.Passing.{place_in};
 ghost use Rattle.bng_steps.specs.Protocol.{entry_with};
 ghost use Rattle.bng_steps.specs.Questions.{open_of};
-ghost use Rattle.bng_steps.specs.Running.{tenures_in, whole, MayBegin, SumsStay};
+ghost use Rattle.bng_steps.specs.TermRows.{tenures_in, whole, MayBegin, SumsStay};
 ghost use Rattle.bng_steps.specs.State.{beside_at, Beside};
 ghost use Rattle.bng_steps.specs.Verdicts.{next_lease, next_term, settled_by, HearsVerdict};
 ghost use Rattle.bng_steps.specs.Wished.{IsAnswered};
@@ -26,19 +26,19 @@ ghost use Rattle.bng_term.specs.Lifetimes.{HasAllowedInterval};
 
 use crate::drive::drive;
 use crate::incoming::Incoming;
-use crate::limited::{NO_LIMITS, limits_of};
+use crate::limits::{NO_LIMITS, limits_of};
 use crate::meters::{Meters, Plan, UNMETERED, plan_for};
 use crate::rules::Rules;
 use crate::served::Served;
 use crate::session::{Lease, Session};
 use crate::store::Store;
 use crate::term_rows::copied;
-use crate::terms::{Running, Terms};
+use crate::terms::{TermRow, Terms};
 use crate::wish::pool_for;
 use arrayvec::ArrayVec;
 use bng_base::{Batch, Book, Claim, Fate, Ip4, NamedRange, OutRecord, SessionNo, TermId};
 use bng_grant::{Grant, grant_of};
-use bng_ppp::WholeInput;
+use bng_ppp::Input;
 use bng_term::{Lifetime, Limits};
 use bng_verdict::verdict_of;
 use std::marker::Model;
@@ -234,13 +234,13 @@ fn begin_term<S: Store>(
         profile: plan.profile,
         life: Lifetime::new(limits, now),
     });
-    terms.begin(Running {
+    terms.begin(TermRow {
         term: TermId {
             session: session.number,
             serial,
         },
         circuit: session.own_circuit(),
-        lease: address,
+        address,
         profile: plan.profile,
         carried: Book::empty(),
         user,
@@ -267,7 +267,7 @@ fn settle_question<S: Store>(
     requires begins { (a : Address) → told.lease ≡ Some a → (told.yes ≡ true) × MayBegin S.unique a served.old terms.old }
     requires room { length outs.old.items + 5 ≤ outs.old.room }
     ensures settled { (x : Seen) (q : Asked) → value_at served.old.sessions number.0 ≡ Some x → open_of x ≡ Some q → (x' : Seen) × (cause : Maybe ℕ) × (after : Beside)
-        × Driven incoming.now.rules.now incoming.now.at (IsToldVerdict incoming.now.rules.now.link told incoming.now.moment incoming.now.item.now.random) (beside_at incoming.now.moment served.old.asked served.old.tunnels) x cause x' after outs.old.items outs.new.items
+        × Driven incoming.now.rules.now incoming.now.at (IsToldVerdict incoming.now.rules.now.link told incoming.now.moment incoming.now.item.now.random) (beside_at incoming.now.moment served.old.question_count served.old.tunnels) x cause x' after outs.old.items outs.new.items
         × (x.lease ≡ Nothing) × (whole served.new terms.new ≡ settled_by (whole served.old terms.old) number.0 x q told incoming.now.moment x' after told.lease) }
     ensures sums { SumsStay terms.old terms.new }
     ensures capacity { outs.new.room ≡ outs.old.room }
@@ -283,10 +283,10 @@ fn settle_question<S: Store>(
         limits,
         plan,
     } = told;
-    let input = WholeInput::Verdict { yes, lease, text };
-    let asked = served.asked();
-    let (asked, _) = drive(served, &mut session, asked, incoming, input, outs);
-    served.count_asked(asked);
+    let input = Input::Verdict { yes, lease, text };
+    let question_count = served.question_count();
+    let (question_count, _) = drive(served, &mut session, question_count, incoming, input, outs);
+    served.count_questions(question_count);
     let Some(address) = lease else {
         served.put(session);
         return;
@@ -330,7 +330,7 @@ pub fn hear_verdict<S: Store>(
 {
     let item = incoming.item;
     let number = SessionNo(item.target);
-    if served.open_ask(number) != Some(item.ask) {
+    if served.open_number(number) != Some(item.ask) {
         return Fate::Consumed;
     }
     let Some(told) = told_for(incoming.rules, limited, item.frame.payload(), claim) else {

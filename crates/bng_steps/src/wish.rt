@@ -122,7 +122,7 @@ fn verdict_wish<S: Store>(served: &Served<S>, rules: &Rules, item: &Item, limite
     requires few_profiles { length rules.now.profiles ≤ 16 }
     ensures { WishesVerdict rules.now served.now item.now limited result }
 {
-    if served.open_ask(SessionNo(item.target)) != Some(item.ask) {
+    if served.open_number(SessionNo(item.target)) != Some(item.ask) {
         return Wish::Nothing;
     }
     octets_wish(rules, limited, item.frame.payload())

@@ -15,7 +15,7 @@ use Rattle.bng_steps.specs.Deed.{tunnel_outs}
 use Rattle.bng_steps.specs.Placed.{IsPlaced}
 use Rattle.bng_steps.specs.Indexed.{address_of}
 use Rattle.bng_steps.specs.Protocol.{entry_of}
-use Rattle.bng_steps.specs.Running.{whole}
+use Rattle.bng_steps.specs.TermRows.{whole}
 use Rattle.bng_steps.specs.Serving.{KeepsLease}
 use Rattle.bng_steps.specs.State.{State, beside_at, with_tunnels}
 use Rattle.bng_steps.specs.Timed.{TurnedOnce}
@@ -26,7 +26,7 @@ use Rattle.bng_steps.proofs.Serves.{live_stays, shares_as}
 use Rattle.bng_steps.proofs.Tunnelling.{others_kept, payloads_length, standing}
 use Rattle.bng_steps.proofs.calls.take_for_call.Given.{Over}
 use Rattle.bng_steps.proofs.calls.take_for_call.Goals as goal
-use Rattle.bng_steps.proofs.calls.take_for_call.Goals.{After-answer_for-told, After-turn-asked}
+use Rattle.bng_steps.proofs.calls.take_for_call.Goals.{After-answer_for-told, After-turn-question_count}
 
 pub take-session-requires : goal.take-session-requires
 take-session-requires g c = live_stays (value_at c.args.served.now.sessions c.args.message.now.session) c.requires.lives
@@ -67,24 +67,24 @@ taken g c =
       others_kept c.take-session.new.self c.answer_for-told.new.served (with_step now c.take-session.new.self.tunnels n (call_step t (said c.args.heard) k.call m now).after) answered.1,
     )
 
-pub turn-asked-requires-clause-placed : goal.turn-asked-requires-clause-placed
-turn-asked-requires-clause-placed g c =
-    let (x', same, number, service, lease, placed, others) = taken g ((goal.at.turn-asked-requires-clause-placed g c).After-answer_for-told) in
+pub turn-question_count-requires-clause-placed : goal.turn-question_count-requires-clause-placed
+turn-question_count-requires-clause-placed g c =
+    let (x', same, number, service, lease, placed, others) = taken g ((goal.at.turn-question_count-requires-clause-placed g c).After-answer_for-told) in
     let r = c.args.incoming.now.rules.now in
     subst (λ (y : Session). IsPlaced r y.way) same (placed r)
 
-pub turn-asked-requires-clause-leased : goal.turn-asked-requires-clause-leased
-turn-asked-requires-clause-leased g c =
-    let (x', same, number, service, lease, placed, others) = taken g ((goal.at.turn-asked-requires-clause-leased g c).After-answer_for-told) in
+pub turn-question_count-requires-clause-leased : goal.turn-question_count-requires-clause-leased
+turn-question_count-requires-clause-leased g c =
+    let (x', same, number, service, lease, placed, others) = taken g ((goal.at.turn-question_count-requires-clause-leased g c).After-answer_for-told) in
     subst (λ (y : Session). KeepsLease y.service y.lease) same
     (subst (λ (l : Option Lease). KeepsLease x'.service l) (sym lease) (subst (λ (v : Service). KeepsLease v c.take-session.result.lease) (sym service) c.take-session.ensures.leased))
 
-pub turn-asked-requires-clause-room : goal.turn-asked-requires-clause-room
-turn-asked-requires-clause-room g c =
+pub turn-question_count-requires-clause-room : goal.turn-question_count-requires-clause-room
+turn-question_count-requires-clause-room g c =
     omega (arith, c.requires.room, c.send_datagrams.ensures.few, c.send_datagrams.ensures.capacity, c.answer_for-told.ensures.few, payloads_length c.answer_for-told.result.outs.items, ap length c.as_slice.ensures.value)
 
 -- the session keeps its number
-same_number : (g : Over) (d : After-answer_for-told g) (c : After-turn-asked g) → c.turn-asked.new.session.number ≡ d.answer_for-told.new.session.number → c.turn-asked.new.session.number.0 ≡ d.args.message.now.session
+same_number : (g : Over) (d : After-answer_for-told g) (c : After-turn-question_count g) → c.turn-question_count.new.session.number ≡ d.answer_for-told.new.session.number → c.turn-question_count.new.session.number.0 ≡ d.args.message.now.session
 same_number g d c kept =
     let (x', same, number, service, lease, placed, others) = taken g d in
     ap (λ (n : SessionNo). n.0) (kept ∙ ap (λ (y : Session). y.number) (sym same) ∙ number ∙ d.take-session.ensures.number)
@@ -98,14 +98,14 @@ still g d s kept =
 pub put-requires-clause-number : goal.put-requires-clause-number
 put-requires-clause-number g c =
     let at = goal.at.put-requires-clause-number g c in
-    let u = c.turn-asked.new.served in
-    number_back (with_tunnels c.args.served.now u.tunnels) u c.args.message.now.session c.turn-asked.new.session.number.0 (still g at.After-answer_for-told u c.turn-asked.ensures.others) (same_number g at.After-answer_for-told at.After-turn-asked c.turn-asked.ensures.number) c.take-session.ensures.of_shard
+    let u = c.turn-question_count.new.served in
+    number_back (with_tunnels c.args.served.now u.tunnels) u c.args.message.now.session c.turn-question_count.new.session.number.0 (still g at.After-answer_for-told u c.turn-question_count.ensures.others) (same_number g at.After-answer_for-told at.After-turn-question_count c.turn-question_count.ensures.number) c.take-session.ensures.of_shard
 
 pub put-requires-clause-vacant : goal.put-requires-clause-vacant
 put-requires-clause-vacant g c =
     let at = goal.at.put-requires-clause-vacant g c in
-    let u = c.turn-asked.new.served in
-    vacant_back (with_tunnels c.args.served.now u.tunnels) u c.args.message.now.session c.turn-asked.new.session.number.0 (still g at.After-answer_for-told u c.turn-asked.ensures.others) (same_number g at.After-answer_for-told at.After-turn-asked c.turn-asked.ensures.number)
+    let u = c.turn-question_count.new.served in
+    vacant_back (with_tunnels c.args.served.now u.tunnels) u c.args.message.now.session c.turn-question_count.new.session.number.0 (still g at.After-answer_for-told u c.turn-question_count.ensures.others) (same_number g at.After-answer_for-told at.After-turn-question_count c.turn-question_count.ensures.number)
 
 pub put-requires-clause-apart : goal.put-requires-clause-apart
 put-requires-clause-apart g c unique =
@@ -114,20 +114,20 @@ put-requires-clause-apart g c unique =
     let now = c.args.incoming.now.moment in
     let told = c.answer_for-told.result in
     let ss = c.take-session.new.self.sessions in
-    let u = c.turn-asked.new.served in
-    let y = c.turn-asked.new.session in
+    let u = c.turn-question_count.new.served in
+    let y = c.turn-question_count.new.session in
     let before = c.answer_for-told.new.session in
-    subst (λ (t : State). NoneShares address_of t.sessions y) (sym (c.turn-asked.ensures.others ∙ ap (λ (q : State). with_tunnels q u.tunnels) others))
-    (turned_apart c.args.incoming.now.rules.now c.args.incoming.now.at now c.args.incoming.now.item.now.random (beside_at now c.answer_for-told.new.served.asked c.answer_for-told.new.served.tunnels) before y (beside_at now c.turn-asked.result u.tunnels) c.args.terms.now c.turn-asked.new.terms c.send_datagrams.new.outs.items c.turn-asked.new.outs.items
-    told.opened told.ended ss c.turn-asked.ensures.turned
+    subst (λ (t : State). NoneShares address_of t.sessions y) (sym (c.turn-question_count.ensures.others ∙ ap (λ (q : State). with_tunnels q u.tunnels) others))
+    (turned_apart c.args.incoming.now.rules.now c.args.incoming.now.at now c.args.incoming.now.item.now.random (beside_at now c.answer_for-told.new.served.question_count c.answer_for-told.new.served.tunnels) before y (beside_at now c.turn-question_count.result u.tunnels) c.args.terms.now c.turn-question_count.new.terms c.send_datagrams.new.outs.items c.turn-question_count.new.outs.items
+    told.opened told.ended ss c.turn-question_count.ensures.turned
     (shares_as ss c.take-session.result before (ap address_of (sym same) ∙ ap (option_map (λ (l : Lease). l.address)) lease) (c.take-session.ensures.apart unique)))
 
 pub returns-clause-sums : goal.returns-clause-sums
 returns-clause-sums g c =
     let now = c.args.incoming.now.moment in
     let told = c.answer_for-told.result in
-    turned_sums c.args.incoming.now.rules.now c.args.incoming.now.at now c.args.incoming.now.item.now.random (beside_at now c.answer_for-told.new.served.asked c.answer_for-told.new.served.tunnels) c.answer_for-told.new.session c.turn-asked.new.session (beside_at now c.turn-asked.result c.turn-asked.new.served.tunnels) c.args.terms.now c.turn-asked.new.terms c.send_datagrams.new.outs.items c.turn-asked.new.outs.items
-    told.opened told.ended c.turn-asked.ensures.turned
+    turned_sums c.args.incoming.now.rules.now c.args.incoming.now.at now c.args.incoming.now.item.now.random (beside_at now c.answer_for-told.new.served.question_count c.answer_for-told.new.served.tunnels) c.answer_for-told.new.session c.turn-question_count.new.session (beside_at now c.turn-question_count.result c.turn-question_count.new.served.tunnels) c.args.terms.now c.turn-question_count.new.terms c.send_datagrams.new.outs.items c.turn-question_count.new.outs.items
+    told.opened told.ended c.turn-question_count.ensures.turned
 
 pub returns-clause-does : goal.returns-clause-does
 returns-clause-does g c y found =
@@ -146,12 +146,12 @@ returns-clause-does g c y found =
     let told = c.answer_for-told.result in
     let s₁ = c.take-session.new.self in
     let s₂ = c.answer_for-told.new.served in
-    let x' = c.turn-asked.new.session in
-    let count = c.turn-asked.result in
-    let u' = c.turn-asked.new.served.tunnels in
-    let t' = c.turn-asked.new.terms in
+    let x' = c.turn-question_count.new.session in
+    let count = c.turn-question_count.result in
+    let u' = c.turn-question_count.new.served.tunnels in
+    let t' = c.turn-question_count.new.terms in
     let outs₁ = c.send_datagrams.new.outs.items in
-    let outs' = c.turn-asked.new.outs.items in
+    let outs' = c.turn-question_count.new.outs.items in
     let x = c.take-session.result in
     let it : x ≡ y = taken_found s item.from n at_n x c.take-session.ensures.value y found in
     let (k, its_way) = taken_called s item.from n at_n x c.take-session.ensures.value c.requires.found in
@@ -162,17 +162,17 @@ returns-clause-does g c y found =
     let answered = c.answer_for-told.ensures.answered t k (taken_stands s s₁ at_n n t c.take-session.ensures.after stands) its_way in
     let u = with_step now s.tunnels n step.after in
     let spoke : s₂.tunnels ≡ u = ap (λ (q : State). q.tunnels) answered.1 ∙ ap (λ (q : State). with_step now q.tunnels n step.after) c.take-session.ensures.after in
-    let asked : s₂.asked ≡ s.asked = ap (λ (q : State). q.asked) answered.1 ∙ ap (λ (q : State). q.asked) c.take-session.ensures.after in
+    let asked : s₂.question_count ≡ s.question_count = ap (λ (q : State). q.question_count) answered.1 ∙ ap (λ (q : State). q.question_count) c.take-session.ensures.after in
     let session : c.answer_for-told.new.session ≡ turned y k call = answered.2 ∙ ap (λ (z : Session). turned z k call) it in
     let behind = beside_at now count u' in
     let once = subst (λ (q : ℕ). TurnedOnce told.opened told.ended r a now item.random (beside_at now q u) (turned y k call) x' behind c.args.terms.now t' outs₁ outs') asked
-    (subst (λ (q : TunnelsState). TurnedOnce told.opened told.ended r a now item.random (beside_at now s₂.asked q) (turned y k call) x' behind c.args.terms.now t' outs₁ outs') spoke
-    (subst (λ (z : Session). TurnedOnce told.opened told.ended r a now item.random (beside_at now s₂.asked s₂.tunnels) z x' behind c.args.terms.now t' outs₁ outs') session c.turn-asked.ensures.turned)) in
-    let counted : State → State = λ q. record q { asked = count } in
-    let next = c.count_asked.ensures
-    ∙ ap counted (put_back (with_tunnels s u') c.turn-asked.new.served at_n x'.number.0 (still g d c.turn-asked.new.served c.turn-asked.ensures.others) (same_number g d at.After-turn-asked c.turn-asked.ensures.number) c.put.new.self x' c.put.ensures) in
-    let (more, turns, are) = turns_so r a now item.random (with_tunnels s u) c.count_asked.new.self c.args.terms.now t' at_n y k call x' count u' outs₁ outs' next told.opened told.ended once in
+    (subst (λ (q : TunnelsState). TurnedOnce told.opened told.ended r a now item.random (beside_at now s₂.question_count q) (turned y k call) x' behind c.args.terms.now t' outs₁ outs') spoke
+    (subst (λ (z : Session). TurnedOnce told.opened told.ended r a now item.random (beside_at now s₂.question_count s₂.tunnels) z x' behind c.args.terms.now t' outs₁ outs') session c.turn-question_count.ensures.turned)) in
+    let counted : State → State = λ q. record q { question_count = count } in
+    let next = c.count_questions.ensures
+    ∙ ap counted (put_back (with_tunnels s u') c.turn-question_count.new.served at_n x'.number.0 (still g d c.turn-question_count.new.served c.turn-question_count.ensures.others) (same_number g d at.After-turn-question_count c.turn-question_count.ensures.number) c.put.new.self x' c.put.ensures) in
+    let (more, turns, are) = turns_so r a now item.random (with_tunnels s u) c.count_questions.new.self c.args.terms.now t' at_n y k call x' count u' outs₁ outs' next told.opened told.ended once in
     takes_call r (whole s c.args.terms.now) a item c.args.outs.now.items c.requires.here now n heard m t stands y k way (said told) answered.0 (c.answer_for-told.ensures.spelled c.requires.taken.spelled) c.answer_for-told.ensures.few more outs₁ outs'
     (c.send_datagrams.ensures.items ∙ ap (λ (sent : List Packet). c.args.outs.now.items ++ tunnel_outs a item.from (payloads sent)) c.as_slice.ensures.value) are
-    (omega (arith, c.turn-asked.ensures.few, length-append outs₁ more, ap length are)) (whole c.count_asked.new.self t')
+    (omega (arith, c.turn-question_count.ensures.few, length-append outs₁ more, ap length are)) (whole c.count_questions.new.self t')
     (turns e refl refl (sym (its_place (whole (with_tunnels s u) c.args.terms.now) a now item c.requires.here)))

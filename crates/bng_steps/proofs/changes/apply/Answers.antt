@@ -6,7 +6,7 @@ use Rattle.bng_radius_wire.specs.Grammar.{whole as packet_of}
 use Rattle.bng_steps.specs.declared.changes.Meant.{Meant}
 use Rattle.bng_steps.specs.Changes.{changed_to, meant}
 use Rattle.bng_steps.specs.Link.{admin_reset}
-use Rattle.bng_steps.specs.Running.{whole}
+use Rattle.bng_steps.specs.TermRows.{whole}
 use Rattle.bng_steps.specs.State.{State, with_session}
 use Rattle.bng_steps.proofs.Looking.{loses}
 use Rattle.bng_steps.proofs.Obeying.{changes, ends, meant_changed, meant_leased, meant_stays, meant_there}
@@ -53,6 +53,6 @@ returns-else-is_change-clause-does g c f is =
     let (g, was, its) = c.requires.found in
     let same : k ≡ meant f = its ∙ ap meant (same_some g f (sym was ∙ is)) in
     let (x', count, next, lost) = c.disconnect.ensures.lost f.session (meant_there r (whole s t) p f k is same) in
-    let here = next ∙ ap (λ (m : Meant). let q : State = record (with_session s m.term.session.0 x') { asked = count; tunnels = c.disconnect.new.served.tunnels } in q) same in
+    let here = next ∙ ap (λ (m : Meant). let q : State = record (with_session s m.term.session.0 x') { question_count = count; tunnels = c.disconnect.new.served.tunnels } in q) same in
     let (more, loses_so, sent) = loses r a now item.random s c.disconnect.new.served t c.disconnect.new.terms f.term.term.session.0 f.session x' count c.disconnect.new.served.tunnels c.args.outs.now.items c.disconnect.new.outs.items here f.session.service admin_reset lost in
     ends r (whole s t) a item c.args.outs.now.items c.requires.here now p f (whole c.disconnect.new.served c.disconnect.new.terms) c.disconnect.new.outs.items more c.if-is_change.false loses_so sent c.disconnect.ensures.few

@@ -1,6 +1,6 @@
 use Rattle.std.proofs.Common.{ℕ, ap, refl, subst, sym, ◌∙◌}
 use Rattle.bng_base.specs.declared.outside.Role.TheVariants.{Access, Tunnel}
-use Rattle.bng_lns.specs.Framed.{IsCallFrameTo, call_frame}
+use Rattle.bng_lns.specs.Framing.{IsCallFrameTo, call_frame}
 use Rattle.bng_steps.specs.declared.way.Way.{Way}
 use Rattle.bng_steps.specs.Placed.{IsPlaced}
 use Rattle.bng_steps.specs.Frames.{SentDown}

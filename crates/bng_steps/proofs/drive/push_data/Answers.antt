@@ -1,7 +1,7 @@
 use Rattle.std.proofs.Common.{◌∙◌, ℕ, ap, refl}
 use Rattle.bng_base.specs.Packet.{Packet}
 use Rattle.bng_l2tp_wire.specs.Messages.{data_text}
-use Rattle.bng_lns.specs.Framed.{call_message}
+use Rattle.bng_lns.specs.Framing.{call_message}
 use Rattle.bng_steps.specs.Link.{call_octets}
 use Rattle.bng_steps.proofs.drive.push_data.Goals as goal
 

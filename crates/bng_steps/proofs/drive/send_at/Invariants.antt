@@ -1,7 +1,7 @@
 use Rattle.std.proofs.Common.{◌≡◌, ◌+◌, ◌≤◌, ◌++◌, length, take}
 use Rattle.std.specs.List.{flat_map}
 use Rattle.bng_ppp.specs.Said.{payloads}
-use Rattle.bng_forward.specs.Framed.{session_frame}
+use Rattle.bng_forward.specs.Framing.{session_frame}
 use Rattle.bng_steps.specs.Deed.{frame_outs}
 use Rattle.bng_steps.proofs.drive.send_at.Given as goal
 

@@ -3,7 +3,7 @@ use Rattle.bng_steps.specs.declared.session.Lease.{Lease}
 use Rattle.bng_steps.specs.declared.session.Session.{Session}
 use Rattle.bng_steps.specs.Placed.{IsPlaced}
 use Rattle.bng_steps.specs.Passing.{lapsed}
-use Rattle.bng_steps.specs.Running.{TermsView, closed_rows}
+use Rattle.bng_steps.specs.TermRows.{TermsView, closed_rows}
 use Rattle.bng_steps.specs.Serving.{KeepsLease}
 use Rattle.bng_steps.specs.State.{beside_at}
 use Rattle.bng_steps.specs.Timed.{ClosedLink}
@@ -13,9 +13,9 @@ use Rattle.bng_steps.proofs.lapsing.end_term.Goals as goal
 use Rattle.bng_steps.proofs.lapsing.end_term.Goals.{After-close_link}
 
 -- the link closed after the term had ended
-closes : (g : Over) (c : After-close_link g) → ClosedLink c.args.session.now.service c.args.incoming.now.rules.now c.args.incoming.now.at c.args.incoming.now.moment c.args.incoming.now.item.now.random (beside_at c.args.incoming.now.moment c.args.asked c.args.served.now.tunnels) (lapsed c.args.session.now) c.close_link.new.session (beside_at c.args.incoming.now.moment c.close_link.result c.close_link.new.served.tunnels) c.args.outs.now.items c.close_link.new.outs.items
+closes : (g : Over) (c : After-close_link g) → ClosedLink c.args.session.now.service c.args.incoming.now.rules.now c.args.incoming.now.at c.args.incoming.now.moment c.args.incoming.now.item.now.random (beside_at c.args.incoming.now.moment c.args.question_count c.args.served.now.tunnels) (lapsed c.args.session.now) c.close_link.new.session (beside_at c.args.incoming.now.moment c.close_link.result c.close_link.new.served.tunnels) c.args.outs.now.items c.close_link.new.outs.items
 closes g c =
-    subst (λ (y : Session). ClosedLink y.service c.args.incoming.now.rules.now c.args.incoming.now.at c.args.incoming.now.moment c.args.incoming.now.item.now.random (beside_at c.args.incoming.now.moment c.args.asked c.args.served.now.tunnels) y c.close_link.new.session (beside_at c.args.incoming.now.moment c.close_link.result c.close_link.new.served.tunnels) c.args.outs.now.items c.close_link.new.outs.items)
+    subst (λ (y : Session). ClosedLink y.service c.args.incoming.now.rules.now c.args.incoming.now.at c.args.incoming.now.moment c.args.incoming.now.item.now.random (beside_at c.args.incoming.now.moment c.args.question_count c.args.served.now.tunnels) y c.close_link.new.session (beside_at c.args.incoming.now.moment c.close_link.result c.close_link.new.served.tunnels) c.args.outs.now.items c.close_link.new.outs.items)
     c.lapse.ensures c.close_link.ensures.closed
 
 pub close_link-requires-clause-placed : goal.close_link-requires-clause-placed
@@ -40,5 +40,5 @@ returns-clause-number g c = c.close_link.ensures.number ∙ ap (λ (y : Session)
 pub returns-clause-fewer : goal.returns-clause-fewer
 returns-clause-fewer g c = λ some.
     let d = (goal.at.returns-clause-fewer g c).After-close_link in
-    closed_few c.args.incoming.now.rules.now c.args.incoming.now.at c.args.incoming.now.moment c.args.incoming.now.item.now.random (beside_at c.args.incoming.now.moment c.args.asked c.args.served.now.tunnels) c.args.session.now c.close_link.new.session (beside_at c.args.incoming.now.moment c.close_link.result c.close_link.new.served.tunnels) c.args.outs.now.items c.close_link.new.outs.items
+    closed_few c.args.incoming.now.rules.now c.args.incoming.now.at c.args.incoming.now.moment c.args.incoming.now.item.now.random (beside_at c.args.incoming.now.moment c.args.question_count c.args.served.now.tunnels) c.args.session.now c.close_link.new.session (beside_at c.args.incoming.now.moment c.close_link.result c.close_link.new.served.tunnels) c.args.outs.now.items c.close_link.new.outs.items
     c.args.session.now.service c.requires.leased some (closes g d)

@@ -19,7 +19,7 @@ returns-clause-looked g c =
     let now = c.args.incoming.now.moment in
     let random = c.args.incoming.now.item.now.random in
     let x = c.args.session.now in
-    let before = beside_at now c.args.asked c.args.served.now.tunnels in
+    let before = beside_at now c.args.question_count c.args.served.now.tunnels in
     let after = beside_at now c.end_term.result c.end_term.new.served.tunnels in
     subst (λ (k : Option ℕ). LookedOnce k r a now random c.args.passed before x c.end_term.new.session after c.args.terms.now c.end_term.new.terms c.args.outs.now.items c.end_term.new.outs.items) c.in-Some.ensures.cause
     (subst (λ (y : Session). LostTerm y.service c.in-Some.cause r a now random before y c.end_term.new.session after c.args.terms.now c.end_term.new.terms c.args.outs.now.items c.end_term.new.outs.items) c.in-Some.ensures.over c.end_term.ensures.lost)

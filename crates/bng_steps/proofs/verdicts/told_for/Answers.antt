@@ -1,7 +1,7 @@
 use Rattle.std.proofs.Common.{false, List, ℕ, None, Some, subst, sym}
 use Rattle.bng_grant.specs.Grants.{gift}
 use Rattle.bng_verdict.specs.Verdicts.{said}
-use Rattle.bng_steps.specs.Limited.{no_limits}
+use Rattle.bng_steps.specs.Limits.{no_limits}
 use Rattle.bng_steps.specs.Link.{Told}
 use Rattle.bng_steps.specs.Metered.{unmetered}
 use Rattle.bng_steps.specs.Wishes.{Decides}

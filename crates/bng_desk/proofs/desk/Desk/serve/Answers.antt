@@ -4,7 +4,7 @@ use Rattle.bng_base.specs.declared.book.Profile.{Profile}
 use Rattle.bng_base.specs.declared.item.Item.{Item}
 use Rattle.bng_base.specs.Stretch.{Outside}
 use Rattle.bng_billing.specs.State.{BillingState}
-use Rattle.bng_ppp.specs.LinkRelation.{earliest}
+use Rattle.bng_ppp.specs.LcpRelation.{earliest}
 use Rattle.bng_desk.specs.declared.holding.Named.{Named}
 use Rattle.bng_desk.specs.declared.lists.Lists.{Lists}
 use Rattle.bng_desk.specs.declared.settlement.Works.{Works}
@@ -278,10 +278,10 @@ returns g c =
     c.begin-front.result.reads c.begin-front.result.verdicts (front g b) c.gather-quiet.new.items.items (replies_in c.begin-front.new.lists.repeats.items) c.settle-noted.result due record_due
     (told c.args.plant.now) (told c.heed-heeding.new.plant) (told c.hear-unacknowledged.new.plant) (told c.begin-front.new.plant) (told c.gather-quiet.new.plant) (told c.settle-noted.new.plant) (told c.wait_for_work.new.plant) (g.T.Trace.told c.args.trace.now) (g.T.Trace.told c.settle-noted.new.trace)
     refl c.self.invariant.0.all_told (heeds g b) c.hear-unacknowledged.ensures.takes (takes g b) c.begin-front.ensures.reads c.begin-front.ensures.verdicts (gathers g b) (settles g c) c.deadline.ensures c.deadline-2.ensures
-    c.took_nothing-idle.result (wait_for (earliest (deadline_in c.as_slice-3.result.now) c.earlier-asked.result) c.now-now.result) c.wait_for_work.ensures
+    c.took_nothing-idle.result (wait_for (earliest (deadline_in c.as_slice-3.result.now) c.earlier-radius_deadline.result) c.now-now.result) c.wait_for_work.ensures
     c.took_nothing-idle.ensures
     (ap (λ (x : Option ℕ). wait_for x c.now-now.result)
-    (ap (λ (xs : Shards). earliest (deadline_in xs) c.earlier-asked.result) c.as_slice-3.ensures.value ∙ ap (λ (x : Option ℕ). earliest (deadline_in after.shards.items) x) c.earlier-asked.ensures))
+    (ap (λ (xs : Shards). earliest (deadline_in xs) c.earlier-radius_deadline.result) c.as_slice-3.ensures.value ∙ ap (λ (x : Option ℕ). earliest (deadline_in after.shards.items) x) c.earlier-radius_deadline.ensures))
     (later g b) (clock c.args.clock.now) (clock c.now-now.new.self) (clock c.wall-wall.new.self) c.now-now.ensures.answers c.wall-wall.ensures.answers (c.wall-wall.ensures.last ∙ c.now-now.ensures.last)
     c.answer.result c.answer.ensures c.either-self-inside.result c.either-self-inside.ensures c.told_after-self-inside.result c.told_after-self-inside.ensures in
     subst (λ (x : Desk). MakesTurn x (after_turn (seen_with d after) c.either-self-inside.result c.now-now.result c.told_after-self-inside.result) before_is behind_is c.answer.result) c.self.view_is made

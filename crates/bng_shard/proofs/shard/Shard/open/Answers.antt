@@ -4,10 +4,10 @@ use Rattle.std.proofs.lemmas.List.{length-replicate}
 use Rattle.bng_base.specs.declared.book.Profile.{Profile}
 use Rattle.bng_base.specs.declared.item.Entry.{Entry}
 use Rattle.bng_engine.specs.Quantities.{empty_book}
-use Rattle.bng_steps.specs.declared.terms.Running.{Running}
+use Rattle.bng_steps.specs.declared.terms.TermRow.{TermRow}
 use Rattle.bng_shard.specs.Fits.{begun_in}
 use Rattle.bng_steps.specs.Opening.{opened_slots}
-use Rattle.bng_steps.specs.Running.{rows_in, whole}
+use Rattle.bng_steps.specs.TermRows.{rows_in, whole}
 use Rattle.bng_engine.specs.Views.{ShardView}
 use Rattle.bng_steps.specs.Protocol.{ShardState, sessions_of}
 use Rattle.bng_steps.specs.State.{State, count_in}
@@ -25,7 +25,7 @@ boxed-requires c =
     record {
       fits = record {
         numbered = opened_numbered c.args.number c.args.now served.begun cs rows c.requires.own begun c.in-Ok-open-2.ensures.terms;
-        numbered_news = subst (All (λ (r : Running). r.term.serial ≤ served.begun)) (sym c.in-Ok-open-2.ensures.none.0) (λ i d lt. absurd (omega (arith, lt)));
+        numbered_news = subst (All (λ (r : TermRow). r.term.serial ≤ served.begun)) (sym c.in-Ok-open-2.ensures.none.0) (λ i d lt. absurd (omega (arith, lt)));
         apart = opened_rows_apart c.args.number c.args.now cs rows c.requires.sessions c.requires.addresses c.in-Ok-open-2.ensures.terms;
         tied = opened_tied c.args.now c.args.number cs served.sessions sessions c.requires.sessions _ c.in-Ok-open-2.ensures.terms;
         left = λ some. omega (arith, none);

@@ -18,7 +18,7 @@ give_back-requires c =
     let v = c.args.self.now in
     let says = c.in_ok-ended.ensures.says in (
       v.number,
-      ap (λ (k : Key). entry c.args.pool.now.table k.lease.0) (sym says.1.key) ∙ held_here v.number v.state.slots.terms c.take_ended.new.self.state.slots.terms says.0 says.2 c.args.pool.now.table c.requires.held,
+      ap (λ (k : Key). entry c.args.pool.now.table k.address.0) (sym says.1.key) ∙ held_here v.number v.state.slots.terms c.take_ended.new.self.state.slots.terms says.0 says.2 c.args.pool.now.table c.requires.held,
     )
 
 pub returns-clause-held : goal.returns-clause-held

@@ -11,7 +11,7 @@ use Rattle.bng_shard.specs.Fits.{begun_in, owed, Fits, shown_of}
 use Rattle.bng_steps.specs.Protocol.{ShardState, entry_with, terms_of}
 use Rattle.bng_shard.specs.Handling.{HandlesAs, IsUnused}
 use Rattle.bng_shard.specs.Room.{is_tick, is_end, has_tick, has_end}
-use Rattle.bng_steps.specs.Running.{rows_in, whole}
+use Rattle.bng_steps.specs.TermRows.{rows_in, whole}
 use Rattle.bng_steps.specs.Sums.{AreLow, Rises}
 use Rattle.bng_engine.specs.Terms.{Key}
 use Rattle.bng_steps.proofs.TermLaws.{terms_there}
@@ -90,7 +90,7 @@ invariant_of-self c =
     let room = ap (λ (v : ShardView ShardState Entry). v.room) seen in
     let once = subst (λ (v : ShardView ShardState Entry). (is_tick e.item.kind ≡ true → has_tick v.journal ≡ false) × (is_end e.item.kind ≡ true → has_end v.journal ≡ false)) (sym seen) (c.requires.once.tick, c.requires.once.end) in
     let spent = owed_more a.journal.items e once.0 once.1 in
-    let free : (x : Ip4) → claim ≡ Claimed x → AllByRecursion (λ (k : Key). k.lease ≢ x) (keys_there s.terms) =
+    let free : (x : Ip4) → claim ≡ Claimed x → AllByRecursion (λ (k : Key). k.address ≢ x) (keys_there s.terms) =
     λ x is. keys_unused x (terms_there s) (subst (λ (v : ShardView ShardState Entry). IsUnused x.0 (terms_of v.state)) (sym seen) (c.requires.unused x is)) in
     let keys = fit_after a.rules s s' outs outs' e limited fate does (fit_rows a.served a.terms was.numbered was.numbered_news was.apart) free in
     let own = c.shard.ensures.numbers in

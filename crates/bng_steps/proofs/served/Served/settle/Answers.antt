@@ -116,4 +116,4 @@ returns g c =
     let tunnels = was.tunnels in
     let terms = ap (λ (t : State). t.terms) c.self.view_is in
     let news = ap (λ (t : State). t.news) c.self.view_is in
-    λ i. record { sessions = all i; begun = begun i; asked = asked i; terms = terms i; news = news i; passed = passed i; meters = meters i; tunnels = tunnels i }
+    λ i. record { sessions = all i; begun = begun i; question_count = asked i; terms = terms i; news = news i; passed = passed i; meters = meters i; tunnels = tunnels i }

@@ -13,7 +13,7 @@ invariant-loop-number g l = record {
   apart : g.S.Store.unique ≡ true → AreApart l.fn.self.sessions;
   leased : AreLeased l.fn.self.sessions;
   begun : l.self-inside.begun ≡ l.fn.self.begun;
-  asked : l.self-inside.asked ≡ l.fn.self.asked;
+  asked : l.self-inside.question_count ≡ l.fn.self.question_count;
   passed : l.self-inside.passed.items ≡ l.fn.self.passed;
   moments : length l.self-inside.passed.items ≡ 1024;
   moments_low : All (λ moment. moment < 2 ^ 60) l.self-inside.passed.items;
