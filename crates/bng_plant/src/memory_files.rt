@@ -48,12 +48,20 @@ impl MemoryFiles {
     }
 }
 
+/// Looks for the first file of this name.
+fn first_named(files: &[MemoryFile], name: &str) -> Option<usize>
+    ensures { result ≡ position (is_named name.now) files.now }
+{
+    files.iter().position(|file| file.name.as_str() == name)
+}
+
 /// The place of the first file of this name.
+#[tactic(auto, using(crate::proofs::FileLaws::named_there))]
 fn place_of(files: &[MemoryFile], name: &str) -> Option<usize>
     ensures found { result ≡ position (is_named name.now) files.now }
     ensures named { IfSome result (λ place. name_at files.now place ≡ name.now) }
 {
-    files.iter().position(|file| file.name.as_str() == name)
+    first_named(files, name)
 }
 
 /// What the file at this place contains.
