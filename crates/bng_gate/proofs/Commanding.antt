@@ -1,6 +1,7 @@
 -- What follows of how a command ends.
 use Rattle.std.proofs.Common.{◌≡◌, ◌≤◌, ◌⊎◌, inl, inr, ℕ, List, [], ◌∷◌, None, Some, IsSome, refl, ap, subst, arith}
-use Rattle.bng_base.specs.Told.{EntropyTold, FilesTold, TraceTold, Grows}
+use Rattle.bng_base.specs.Told.{FilesTold, EntropyTold, TraceTold, Grows}
+use Rattle.bng_plant.specs.Calls.{reads}
 use Rattle.bng_config.specs.declared.config.Config.{Config}
 use Rattle.bng_config.specs.declared.fault.Fault.{Fault}
 use Rattle.bng_config.specs.Configuration.{HasFault}
@@ -46,9 +47,9 @@ module _ (old new : World) (status : ℕ) where
   wanting : (m : Meaning) → WantsWords old new status → CommandEnds m old new status
   wanting (serve file None rounds) w =
       let u = w.untouched in
-      ends_with rounds old new status (inl u.entropy) OutOfMemory
+      ends_with file rounds old new status (inl u.entropy) OutOfMemory
       (inl (record {
-        wants = record { contents = inl (ap (λ (f : FilesTold). f.contents) u.files); unfailed = ap (λ (f : FilesTold). f.faults) u.files };
+        wants = record { contents = inl (ap (λ (f : FilesTold). f.reads) u.files); unfailed = ap (λ (f : FilesTold). f.faults) u.files };
         untouched = record { plant = u.plant; clock = u.clock; trace = u.trace; out = u.out };
         unseeded = u.entropy;
       }))
@@ -57,7 +58,7 @@ module _ (old new : World) (status : ℕ) where
   wanting (check file) w =
       let u = w.untouched in
       record {
-        checks = inr (OutOfMemory, (record { contents = inl (ap (λ (f : FilesTold). f.contents) u.files); unfailed = ap (λ (f : FilesTold). f.faults) u.files }, u.out), w.told);
+        checks = inr (OutOfMemory, (record { contents = inl (ap (λ (f : FilesTold). f.reads) u.files); unfailed = ap (λ (f : FilesTold). f.faults) u.files }, u.out), w.told);
         plant = u.plant;
         clock = u.clock;
         entropy = u.entropy;
@@ -78,17 +79,17 @@ module _ (old new : World) (status : ℕ) where
   want_told refusal (inl t) s = omega (arith, t.0, s)
   want_told refusal (inr t) s = absurd (omega (arith, t.0, s))
 
-  unchecked_unfailed : (refusal : Refusal) → IsUnchecked old.files new.files old.out new.out refusal → status_of refusal ≡ 4 → new.files.faults ≡ old.files.faults
-  unchecked_unfailed Usage w s = absurd w
-  unchecked_unfailed (Refused fault) w s = absurd (omega (arith, s))
-  unchecked_unfailed (CannotOpen what) w s = absurd (omega (arith, s))
-  unchecked_unfailed OutOfMemory w s = w.0.unfailed
-  unchecked_unfailed TraceFailed w s = absurd w
-  unchecked_unfailed OutputFailed w s = absurd (omega (arith, s))
+  unchecked_unfailed : (file : List ℕ) (refusal : Refusal) → IsUnchecked file old.files new.files old.out new.out refusal → status_of refusal ≡ 4 → new.files.faults ≡ old.files.faults
+  unchecked_unfailed file Usage w s = absurd w
+  unchecked_unfailed file (Refused fault) w s = absurd (omega (arith, s))
+  unchecked_unfailed file (CannotOpen what) w s = absurd (omega (arith, s))
+  unchecked_unfailed file OutOfMemory w s = w.0.unfailed
+  unchecked_unfailed file TraceFailed w s = absurd w
+  unchecked_unfailed file OutputFailed w s = absurd (omega (arith, s))
 
-  check_unfailed : Checks old.files new.files old.out new.out old.err new.err status → status ≡ 4 → new.files.faults ≡ old.files.faults
-  check_unfailed (inl c) s = absurd (omega (arith, c.0, s))
-  check_unfailed (inr c) s = unchecked_unfailed c.0 c.1 (want_told c.0 c.2 s)
+  check_unfailed : (file : List ℕ) → Checks file old.files new.files old.out new.out old.err new.err status → status ≡ 4 → new.files.faults ≡ old.files.faults
+  check_unfailed file (inl c) s = absurd (omega (arith, c.0, s))
+  check_unfailed file (inr c) s = unchecked_unfailed file c.0 c.1 (want_told c.0 c.2 s)
 
   unplayed_unfailed : (workers : ℕ) (refusal : Refusal) → IsUnplayed workers old.trace new.trace refusal → status_of refusal ≡ 4 → new.trace.faults ≡ old.trace.faults
   unplayed_unfailed workers Usage w s = absurd w
@@ -106,10 +107,10 @@ module _ (old new : World) (status : ℕ) where
   exercise_unfailed subscribers workers (inr e) s = unplayed_unfailed workers e.0 e.1 (want_told e.0 e.3 s)
 
   command_unfailed : (m : Meaning) → CommandEnds m old new status → status ≡ 4 → IsUnfailed old new
-  command_unfailed (serve file None rounds) e s = serving.unfailed rounds old new status e s
+  command_unfailed (serve file None rounds) e s = serving.unfailed file rounds old new status e s
   command_unfailed (serve file (Some trace) rounds) e s = left_unfailed e.untouched
   command_unfailed (check file) e s =
-      record { files = check_unfailed e.checks s; entropy = ap (λ (x : EntropyTold). x.faults) e.entropy; trace = ap (λ (t : TraceTold). t.faults) e.trace }
+      record { files = check_unfailed file e.checks s; entropy = ap (λ (x : EntropyTold). x.faults) e.entropy; trace = ap (λ (t : TraceTold). t.faults) e.trace }
   command_unfailed (exercise subscribers workers) e s =
       record { files = ap (λ (f : FilesTold). f.faults) e.files; entropy = ap (λ (x : EntropyTold). x.faults) e.entropy; trace = exercise_unfailed subscribers workers e.exercises s }
   command_unfailed (audit file) e s = left_unfailed e.untouched
@@ -119,42 +120,42 @@ module _ (old new : World) (status : ℕ) where
   abbrev Faulty : Type 0
   Faulty = (status ≡ 2) ⊎ (status ≡ 4) ⊎ (status ≡ 5)
 
-  module _ (some : IsSome old.files.contents) (text : List ℕ) (fault : Fault) (grew : Grows old.files.contents new.files.contents (text ∷ [])) (broken : HasFault text fault) where
+  module _ (some : IsSome old.files.reads) (name text : List ℕ) (fault : Fault) (grew : Grows old.files.reads new.files.reads (reads name text)) (broken : HasFault text fault) where
     none_read : new.files ≡ old.files → Faulty
-    none_read same = absurd (serving.unread old.files.contents new.files.contents text some grew (ap (λ (f : FilesTold). f.contents) same))
+    none_read same = absurd (serving.unread old.files.reads new.files.reads name text some grew (ap (λ (f : FilesTold). f.reads) same))
 
-    not_right : (config : Config) → Prepares old.files new.files config → ⊥
-    not_right config prepares = serving.read_well old.files new.files config text fault prepares some grew broken
+    not_right : (file : List ℕ) (config : Config) → Prepares file old.files new.files config → ⊥
+    not_right file config prepares = serving.read_well file old.files new.files config name text fault prepares some grew broken
 
-    unopened_faulty : (what : Unopened) → IsUnprepared old.files new.files (CannotOpen what) → ⊥
-    unopened_faulty Configuration w = serving.unread old.files.contents new.files.contents text some grew w.contents
-    unopened_faulty Seed w = w
-    unopened_faulty Control w = w
-    unopened_faulty Core w = w
-    unopened_faulty (Access number) w = w
-    unopened_faulty Auth w = w
-    unopened_faulty Acct w = w
-    unopened_faulty Tunnel w = w
-    unopened_faulty Coa w = w
+    unopened_faulty : (file : List ℕ) (what : Unopened) → IsUnprepared file old.files new.files (CannotOpen what) → ⊥
+    unopened_faulty file Configuration w = serving.unread old.files.reads new.files.reads name text some grew w.contents
+    unopened_faulty file Seed w = w
+    unopened_faulty file Control w = w
+    unopened_faulty file Core w = w
+    unopened_faulty file (Access number) w = w
+    unopened_faulty file Auth w = w
+    unopened_faulty file Acct w = w
+    unopened_faulty file Tunnel w = w
+    unopened_faulty file Coa w = w
 
-    unchecked_faulty : (refusal : Refusal) → IsUnchecked old.files new.files old.out new.out refusal → Told old.err new.err refusal status → Faulty
-    unchecked_faulty Usage w t = absurd w
-    unchecked_faulty (Refused f) w (inl t) = inl t.0
-    unchecked_faulty (Refused f) w (inr t) = inr (inr t.0)
-    unchecked_faulty (CannotOpen what) w t = absurd (unopened_faulty what w.0)
-    unchecked_faulty OutOfMemory w (inl t) = inr (inl t.0)
-    unchecked_faulty OutOfMemory w (inr t) = inr (inr t.0)
-    unchecked_faulty TraceFailed w t = absurd w
-    unchecked_faulty OutputFailed w t = absurd (not_right w.config w.prepares)
+    unchecked_faulty : (file : List ℕ) (refusal : Refusal) → IsUnchecked file old.files new.files old.out new.out refusal → Told old.err new.err refusal status → Faulty
+    unchecked_faulty file Usage w t = absurd w
+    unchecked_faulty file (Refused f) w (inl t) = inl t.0
+    unchecked_faulty file (Refused f) w (inr t) = inr (inr t.0)
+    unchecked_faulty file (CannotOpen what) w t = absurd (unopened_faulty file what w.0)
+    unchecked_faulty file OutOfMemory w (inl t) = inr (inl t.0)
+    unchecked_faulty file OutOfMemory w (inr t) = inr (inr t.0)
+    unchecked_faulty file TraceFailed w t = absurd w
+    unchecked_faulty file OutputFailed w t = absurd (not_right file w.config w.prepares)
 
-    check_faulty : Checks old.files new.files old.out new.out old.err new.err status → Faulty
-    check_faulty (inl c) = absurd (not_right c.1.config c.1.prepares)
-    check_faulty (inr c) = unchecked_faulty c.0 c.1 c.2
+    check_faulty : (file : List ℕ) → Checks file old.files new.files old.out new.out old.err new.err status → Faulty
+    check_faulty file (inl c) = absurd (not_right file c.1.config c.1.prepares)
+    check_faulty file (inr c) = unchecked_faulty file c.0 c.1 c.2
 
     command_faulty : (m : Meaning) → CommandEnds m old new status → Faulty
-    command_faulty (serve file None rounds) e = serving.faulty rounds old new status e some text fault grew broken
+    command_faulty (serve file None rounds) e = serving.faulty file rounds old new status e some name text fault grew broken
     command_faulty (serve file (Some trace) rounds) e = none_read e.untouched.files
-    command_faulty (check file) e = check_faulty e.checks
+    command_faulty (check file) e = check_faulty file e.checks
     command_faulty (exercise subscribers workers) e = none_read e.files
     command_faulty (audit file) e = none_read e.untouched.files
 
@@ -163,33 +164,33 @@ module _ (old new : World) (status : ℕ) where
   abbrev Done : Type 0
   Done = (status ≡ 0) ⊎ (status ≡ 4) ⊎ (status ≡ 6)
 
-  module _ (sound : (text : List ℕ) (fault : Fault) → Grows old.files.contents new.files.contents (text ∷ []) → ¬ HasFault text fault) (none : IsFaultless old new) where
+  module _ (sound : (name text : List ℕ) (fault : Fault) → Grows old.files.reads new.files.reads (reads name text) → ¬ HasFault text fault) (none : IsFaultless old new) where
     want_done : Told old.err new.err OutOfMemory status → Done
     want_done (inl t) = inr (inl t.0)
     want_done (inr t) = absurd (none.err t.1.rose)
 
-    unopened_rose : (what : Unopened) → IsUnprepared old.files new.files (CannotOpen what) → ⊥
-    unopened_rose Configuration w = none.files w.rose
-    unopened_rose Seed w = w
-    unopened_rose Control w = w
-    unopened_rose Core w = w
-    unopened_rose (Access number) w = w
-    unopened_rose Auth w = w
-    unopened_rose Acct w = w
-    unopened_rose Tunnel w = w
-    unopened_rose Coa w = w
+    unopened_rose : (file : List ℕ) (what : Unopened) → IsUnprepared file old.files new.files (CannotOpen what) → ⊥
+    unopened_rose file Configuration w = none.files w.rose
+    unopened_rose file Seed w = w
+    unopened_rose file Control w = w
+    unopened_rose file Core w = w
+    unopened_rose file (Access number) w = w
+    unopened_rose file Auth w = w
+    unopened_rose file Acct w = w
+    unopened_rose file Tunnel w = w
+    unopened_rose file Coa w = w
 
-    unchecked_done : (refusal : Refusal) → IsUnchecked old.files new.files old.out new.out refusal → Told old.err new.err refusal status → Done
-    unchecked_done Usage w t = absurd w
-    unchecked_done (Refused fault) w t = absurd (sound w.0.text fault w.0.opens.content w.0.broken)
-    unchecked_done (CannotOpen what) w t = absurd (unopened_rose what w.0)
-    unchecked_done OutOfMemory w t = want_done t
-    unchecked_done TraceFailed w t = absurd w
-    unchecked_done OutputFailed w t = absurd (none.out w.fails.rose)
+    unchecked_done : (file : List ℕ) (refusal : Refusal) → IsUnchecked file old.files new.files old.out new.out refusal → Told old.err new.err refusal status → Done
+    unchecked_done file Usage w t = absurd w
+    unchecked_done file (Refused fault) w t = absurd (sound file w.0.text fault w.0.opens.content w.0.broken)
+    unchecked_done file (CannotOpen what) w t = absurd (unopened_rose file what w.0)
+    unchecked_done file OutOfMemory w t = want_done t
+    unchecked_done file TraceFailed w t = absurd w
+    unchecked_done file OutputFailed w t = absurd (none.out w.fails.rose)
 
-    check_done : Checks old.files new.files old.out new.out old.err new.err status → Done
-    check_done (inl c) = inl c.0
-    check_done (inr c) = unchecked_done c.0 c.1 c.2
+    check_done : (file : List ℕ) → Checks file old.files new.files old.out new.out old.err new.err status → Done
+    check_done file (inl c) = inl c.0
+    check_done file (inr c) = unchecked_done file c.0 c.1 c.2
 
     concluded_done : (d : Desk) → Concludes d old.err new.err status → Done
     concluded_done d (inl c) = inl c.0
@@ -222,9 +223,9 @@ module _ (old new : World) (status : ℕ) where
     exercise_done subscribers workers (inr e) = unplayed_done workers e.0 e.1 e.3
 
     command_done : (m : Meaning) → IsCarriedOut m → CommandEnds m old new status → Done
-    command_done (serve file None rounds) is e = serving.complete rounds old new status e sound none
+    command_done (serve file None rounds) is e = serving.complete file rounds old new status e sound none
     command_done (serve file (Some trace) rounds) is e = absurd is
-    command_done (check file) is e = check_done e.checks
+    command_done (check file) is e = check_done file e.checks
     command_done (exercise subscribers workers) is e = exercise_done subscribers workers e.exercises
     command_done (audit file) is e = absurd is
 
@@ -247,11 +248,11 @@ module _ (words : List (List ℕ)) (old new : World) (status : ℕ) where
   no_command (inr (inr o)) none = absurd (o.0 none)
 
   pub served : Outcome words old new status → (file : List ℕ) (rounds : ℕ) → Says words (serve file None rounds) → (status ≡ 0) ⊎ (status ≡ 6)
-      → (config : Config) × Prepares old.files new.files config × Headline config rounds status old new
-  served o file rounds says s = headline rounds old new status (ends o (serve file None rounds) says) s
+      → (config : Config) × Prepares file old.files new.files config × Headline config rounds status old new
+  served o file rounds says s = headline file rounds old new status (ends o (serve file None rounds) says) s
 
-  pub safely : Outcome words old new status → (file : List ℕ) (rounds : ℕ) → Says words (serve file None rounds) → (status ≡ 4) ⊎ (status ≡ 5) → IsQuiet old new ⊎ WasSafe rounds old new
-  safely o file rounds says s = safe rounds old new status (ends o (serve file None rounds) says) s
+  pub safely : Outcome words old new status → (file : List ℕ) (rounds : ℕ) → Says words (serve file None rounds) → (status ≡ 4) ⊎ (status ≡ 5) → IsQuiet old new ⊎ WasSafe file rounds old new
+  safely o file rounds says s = safe file rounds old new status (ends o (serve file None rounds) says) s
 
   pub played : Outcome words old new status → (subscribers workers : ℕ) → Says words (exercise subscribers workers) → (status ≡ 0) ⊎ (status ≡ 6) → Exercised subscribers workers status old new
   played o subscribers workers says s =
@@ -268,12 +269,12 @@ module _ (words : List (List ℕ)) (old new : World) (status : ℕ) where
   unfailed (inr (inl o)) s = left_unfailed old new status o.1.untouched
   unfailed (inr (inr o)) s = left_unfailed old new status o.1.untouched
 
-  pub faulty : Outcome words old new status → IsSome old.files.contents → (text : List ℕ) (fault : Fault) → Grows old.files.contents new.files.contents (text ∷ []) → HasFault text fault
+  pub faulty : Outcome words old new status → IsSome old.files.reads → (name text : List ℕ) (fault : Fault) → Grows old.files.reads new.files.reads (reads name text) → HasFault text fault
       → (status ≡ 2) ⊎ (status ≡ 4) ⊎ (status ≡ 5)
-  faulty (inl o) some text fault grew broken = command_faulty old new status some text fault grew broken o.0 o.2
-  faulty (inr (inl o)) some text fault grew broken = none_read old new status some text fault grew broken o.1.untouched.files
-  faulty (inr (inr o)) some text fault grew broken = none_read old new status some text fault grew broken o.1.untouched.files
+  faulty (inl o) some name text fault grew broken = command_faulty old new status some name text fault grew broken o.0 o.2
+  faulty (inr (inl o)) some name text fault grew broken = none_read old new status some name text fault grew broken o.1.untouched.files
+  faulty (inr (inr o)) some name text fault grew broken = none_read old new status some name text fault grew broken o.1.untouched.files
 
   pub complete : Outcome words old new status → (m : Meaning) → IsCarriedOut m → Says words m
-      → ((text : List ℕ) (fault : Fault) → Grows old.files.contents new.files.contents (text ∷ []) → ¬ HasFault text fault) → IsFaultless old new → (status ≡ 0) ⊎ (status ≡ 4) ⊎ (status ≡ 6)
+      → ((name text : List ℕ) (fault : Fault) → Grows old.files.reads new.files.reads (reads name text) → ¬ HasFault text fault) → IsFaultless old new → (status ≡ 0) ⊎ (status ≡ 4) ⊎ (status ≡ 6)
   complete o m is says sound none = command_done old new status sound none m is (ends o m says)

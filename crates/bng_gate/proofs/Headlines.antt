@@ -422,12 +422,12 @@ module _ (config : Config) (rules : KeepsRules config) (most status : ℕ) (seed
   }
 
 -- with status 0 or 6
-pub headline : (most : ℕ) (old new : World) (status : ℕ) → ServeEnds most old new status → (status ≡ 0) ⊎ (status ≡ 6) → (config : Config) × Prepares old.files new.files config × Headline config most status old new
-headline most old new status r (inl s) =
+pub headline : (file : List ℕ) (most : ℕ) (old new : World) (status : ℕ) → ServeEnds file most old new status → (status ≡ 0) ⊎ (status ≡ 6) → (config : Config) × Prepares file old.files new.files config × Headline config most status old new
+headline file most old new status r (inl s) =
     let x = r.served s in
     let prepares = x.run.ready.prepares in
     (x.run.config, prepares, headline_of x.run.config (read_keeps prepares.text x.run.config prepares.read) most status x.run.seed old new x.run.runs (λ _. x.acknowledged) (λ six. absurd (omega (arith, s, six))))
-headline most old new status r (inr s) =
+headline file most old new status r (inr s) =
     let x = r.unanswered s in
     let prepares = x.run.ready.prepares in
     (x.run.config, prepares, headline_of x.run.config (read_keeps prepares.text x.run.config prepares.read) most status x.run.seed old new x.run.runs (λ none. absurd (omega (arith, s, none))) (λ _. x.names))
@@ -471,23 +471,23 @@ module _ (subscribers workers : ℕ) (some : 1 ≤ workers) (few : workers ≤ 1
 
 -- Where a run came to no report, it was quiet, or its turns were safe ----------------------------------------------------------
 
-module _ (most : ℕ) (old new : World) where
+module _ (file : List ℕ) (most : ℕ) (old new : World) where
   abbrev QuietOrSafe : Type 0
-  QuietOrSafe = IsQuiet old new ⊎ WasSafe most old new
+  QuietOrSafe = IsQuiet old new ⊎ WasSafe file most old new
 
   untouched : IsUntouched old new → QuietOrSafe
   untouched u = inl (record { heard = ap (λ (p : PlantTold). p.heard) u.plant; taken = ap (λ (p : PlantTold). p.taken) u.plant; sent = ap (λ (p : PlantTold). p.sent) u.plant })
 
-  turned_safe : (config : Config) (seed : List ℕ) → IsReady old new config seed → Course config most seed (outside old) (outside new) → QuietOrSafe
+  turned_safe : (config : Config) (seed : List ℕ) → IsReady file old new config seed → Course config most seed (outside old) (outside new) → QuietOrSafe
   turned_safe config seed ready course =
       let prepares = ready.prepares in
       inr (record { config = config; prepares = prepares; seed = seed; course = course; safe = safe_of config (read_keeps prepares.text config prepares.read) most seed old new course })
 
-  wants_safe : (config : Config) (seed : List ℕ) → IsReady old new config seed → WantsToServe config most seed (outside old) (outside new) → QuietOrSafe
+  wants_safe : (config : Config) (seed : List ℕ) → IsReady file old new config seed → WantsToServe config most seed (outside old) (outside new) → QuietOrSafe
   wants_safe config seed ready (inl w) = inl (record { heard = w.0.binds.heard; taken = w.0.binds.taken; sent = w.0.binds.sent })
   wants_safe config seed ready (inr c) = turned_safe config seed ready c.course
 
-  why_safe : (refusal : Refusal) → Why most old new refusal → QuietOrSafe
+  why_safe : (refusal : Refusal) → Why file most old new refusal → QuietOrSafe
   why_safe Usage w = absurd w
   why_safe (Refused fault) w = untouched w.untouched
   why_safe (CannotOpen what) w = inl (record { heard = w.heard; taken = w.taken; sent = w.sent })
@@ -497,13 +497,13 @@ module _ (most : ℕ) (old new : World) where
   why_safe TraceFailed w = turned_safe w.config w.seed w.ready w.fails.course
   why_safe OutputFailed w = turned_safe w.config w.seed w.ready w.fails.completes.course
 
-  unwritten_safe : IsUnwritten most old new → QuietOrSafe
+  unwritten_safe : IsUnwritten file most old new → QuietOrSafe
   unwritten_safe (inl r) = why_safe TraceFailed r.why
   unwritten_safe (inr (inl r)) = why_safe OutputFailed r.why
   unwritten_safe (inr (inr (inl f))) = why_safe f.refusal f.why
   unwritten_safe (inr (inr (inr f))) = turned_safe f.run.config f.run.seed f.run.ready f.run.runs.completes.course
 
   -- with status 4 or 5
-  pub safe : (status : ℕ) → ServeEnds most old new status → (status ≡ 4) ⊎ (status ≡ 5) → IsQuiet old new ⊎ WasSafe most old new
+  pub safe : (status : ℕ) → ServeEnds file most old new status → (status ≡ 4) ⊎ (status ≡ 5) → IsQuiet old new ⊎ WasSafe file most old new
   safe status r (inl s) = why_safe OutOfMemory (r.starved s).why
   safe status r (inr s) = unwritten_safe (r.unwritten s)

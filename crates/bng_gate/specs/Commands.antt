@@ -9,9 +9,9 @@ use Rattle.bng_gate.specs.Check.{Checks}
 use Rattle.bng_gate.specs.Exercise.{Exercises}
 use Rattle.bng_gate.specs.Run.{World, ServeEnds, Told, turns_most}
 
--- a check reads a file and writes, and touches nothing else
-pub record CheckEnds (old new : World) (status : ℕ) : Type 0 where
-  pub checks : Checks old.files new.files old.out new.out old.err new.err status
+-- a check reads the file of this name and writes, and touches nothing else
+pub record CheckEnds (file : List ℕ) (old new : World) (status : ℕ) : Type 0 where
+  pub checks : Checks file old.files new.files old.out new.out old.err new.err status
   pub plant : new.plant ≡ old.plant
   pub clock : new.clock ≡ old.clock
   pub entropy : new.entropy ≡ old.entropy
@@ -46,9 +46,9 @@ pub record AsideEnds (old new : World) (status : ℕ) : Type 0 where
 
 -- How a command ends. No trace file is written or judged yet.
 abbrev pub CommandEnds : Meaning → World → World → ℕ → Type 0
-CommandEnds (serve file None rounds) old new status = ServeEnds rounds old new status
+CommandEnds (serve file None rounds) old new status = ServeEnds file rounds old new status
 CommandEnds (serve file (Some trace) rounds) old new status = AsideEnds old new status
-CommandEnds (check file) old new status = CheckEnds old new status
+CommandEnds (check file) old new status = CheckEnds file old new status
 CommandEnds (exercise subscribers workers) old new status = ExerciseEnds subscribers workers old new status
 CommandEnds (audit file) old new status = AsideEnds old new status
 

@@ -245,10 +245,10 @@ pub record IsQuiet (old new : World) : Type 0 where
   pub taken : new.plant.taken ≡ old.plant.taken
   pub sent : new.plant.sent ≡ old.plant.sent
 
--- the configuration was read, and these turns were made of it
-pub record WasSafe (most : ℕ) (old new : World) : Type 0 where
+-- the configuration was read in the file of this name, and these turns were made of it
+pub record WasSafe (file : List ℕ) (most : ℕ) (old new : World) : Type 0 where
   pub config : Config
-  pub prepares : Prepares old.files new.files config
+  pub prepares : Prepares file old.files new.files config
   pub seed : List ℕ
   pub course : Course config most seed (outside old) (outside new)
   pub safe : IsSafe config most seed old new course

@@ -7,10 +7,11 @@ use Rattle.bng_base.specs.declared.outside.Role.TheVariants.{Access, Auth, Acct,
 use Rattle.bng_base.specs.declared.outside.ClockAnswer.TheVariants.{Now, Wall}
 use Rattle.bng_base.specs.declared.outside.Bind.{Bind}
 use Rattle.bng_base.specs.Causes.{Rose}
-use Rattle.bng_base.specs.Told.{PlantTold, ClockTold, EntropyTold, FilesTold, TraceTold, SinkTold, Grows, GrowsIfTold}
+use Rattle.bng_base.specs.Told.{FilesTold, PlantTold, ClockTold, EntropyTold, TraceTold, SinkTold, Grows, GrowsIfTold}
 use Rattle.bng_base.specs.Stretch.{Outside, joined, Extends}
 use Rattle.bng_base.specs.declared.settings.AccessPort.{AccessPort}
 use Rattle.bng_base.specs.declared.settings.CoaPart.{CoaPart}
+use Rattle.bng_plant.specs.Calls.{reads}
 use Rattle.bng_config.specs.declared.config.Config.{Config}
 use Rattle.bng_config.specs.declared.fault.Fault.{Fault}
 use Rattle.bng_config.specs.Configuration.{IsRead, HasFault}
@@ -43,49 +44,49 @@ turns_most = 2 ^ 40
 
 -- The configuration ---------------------------------------------------------------------------------------------------------
 
--- a file with this text was read
-pub record Opens (old new : FilesTold) (text : List ℕ) : Type 0 where
-  pub content : Grows old.contents new.contents (text ∷ [])
+-- the file of this name was read, once, with this text
+pub record Opens (file : List ℕ) (old new : FilesTold) (text : List ℕ) : Type 0 where
+  pub content : Grows old.reads new.reads (reads file text)
   pub unfailed : new.faults ≡ old.faults
 
 -- its text is this configuration
-pub record Prepares (old new : FilesTold) (config : Config) : Type 0 where
+pub record Prepares (file : List ℕ) (old new : FilesTold) (config : Config) : Type 0 where
   pub text : List ℕ
-  pub opens : Opens old new text
+  pub opens : Opens file old new text
   pub read : IsRead text config
 
--- a file could not be read
+-- no file could be read
 pub record FailsToRead (old new : FilesTold) : Type 0 where
   pub rose : Rose old.faults new.faults
-  pub contents : new.contents ≡ old.contents
+  pub contents : new.reads ≡ old.reads
 
--- a file was read, and its text has this fault
-pub record IsFaulty (old new : FilesTold) (fault : Fault) : Type 0 where
+-- the file of this name was read, and its text has this fault
+pub record IsFaulty (file : List ℕ) (old new : FilesTold) (fault : Fault) : Type 0 where
   pub text : List ℕ
-  pub opens : Opens old new text
+  pub opens : Opens file old new text
   pub broken : HasFault text fault
 
--- memory was wanted for the text of a file, or for what the text says; no read failed
-pub record WantsToRead (old new : FilesTold) : Type 0 where
-  pub contents : (new.contents ≡ old.contents) ⊎ ((text : List ℕ) × Grows old.contents new.contents (text ∷ []))
+-- memory was wanted for the text of the file of this name, or for what the text says; no read failed
+pub record WantsToRead (file : List ℕ) (old new : FilesTold) : Type 0 where
+  pub contents : (new.reads ≡ old.reads) ⊎ ((text : List ℕ) × Grows old.reads new.reads (reads file text))
   pub unfailed : new.faults ≡ old.faults
 
 -- why no configuration was read
-abbrev pub IsUnprepared : FilesTold → FilesTold → Refusal → Type 0
-IsUnprepared old new Usage = ⊥
-IsUnprepared old new (Refused fault) = IsFaulty old new fault
-IsUnprepared old new (CannotOpen Configuration) = FailsToRead old new
-IsUnprepared old new (CannotOpen Seed) = ⊥
-IsUnprepared old new (CannotOpen ControlOpening) = ⊥
-IsUnprepared old new (CannotOpen CoreOpening) = ⊥
-IsUnprepared old new (CannotOpen (AccessOpening number)) = ⊥
-IsUnprepared old new (CannotOpen AuthOpening) = ⊥
-IsUnprepared old new (CannotOpen AcctOpening) = ⊥
-IsUnprepared old new (CannotOpen TunnelOpening) = ⊥
-IsUnprepared old new (CannotOpen CoaOpening) = ⊥
-IsUnprepared old new OutOfMemory = WantsToRead old new
-IsUnprepared old new TraceFailed = ⊥
-IsUnprepared old new OutputFailed = ⊥
+abbrev pub IsUnprepared : List ℕ → FilesTold → FilesTold → Refusal → Type 0
+IsUnprepared file old new Usage = ⊥
+IsUnprepared file old new (Refused fault) = IsFaulty file old new fault
+IsUnprepared file old new (CannotOpen Configuration) = FailsToRead old new
+IsUnprepared file old new (CannotOpen Seed) = ⊥
+IsUnprepared file old new (CannotOpen ControlOpening) = ⊥
+IsUnprepared file old new (CannotOpen CoreOpening) = ⊥
+IsUnprepared file old new (CannotOpen (AccessOpening number)) = ⊥
+IsUnprepared file old new (CannotOpen AuthOpening) = ⊥
+IsUnprepared file old new (CannotOpen AcctOpening) = ⊥
+IsUnprepared file old new (CannotOpen TunnelOpening) = ⊥
+IsUnprepared file old new (CannotOpen CoaOpening) = ⊥
+IsUnprepared file old new OutOfMemory = WantsToRead file old new
+IsUnprepared file old new TraceFailed = ⊥
+IsUnprepared file old new OutputFailed = ⊥
 
 -- The binds -----------------------------------------------------------------------------------------------------------------
 
@@ -207,9 +208,9 @@ pub record FailsToSeed (old new : EntropyTold) : Type 0 where
   pub seeds : new.seeds ≡ old.seeds
 
 -- why there is nothing to serve: no configuration was read, and no seed asked for; or one was read, and no seed was given
-abbrev pub IsUnready : FilesTold → FilesTold → EntropyTold → EntropyTold → Refusal → Type 0
-IsUnready old new entropy entropy' refusal =
-    (IsUnprepared old new refusal × (entropy' ≡ entropy)) ⊎ ((refusal ≡ CannotOpen Seed) × ((config : Config) × Prepares old new config × FailsToSeed entropy entropy'))
+abbrev pub IsUnready : List ℕ → FilesTold → FilesTold → EntropyTold → EntropyTold → Refusal → Type 0
+IsUnready file old new entropy entropy' refusal =
+    (IsUnprepared file old new refusal × (entropy' ≡ entropy)) ⊎ ((refusal ≡ CannotOpen Seed) × ((config : Config) × Prepares file old new config × FailsToSeed entropy entropy'))
 
 -- The turns -----------------------------------------------------------------------------------------------------------------
 
@@ -375,39 +376,39 @@ pub record IsUntouched (old new : World) : Type 0 where
   pub out : new.out ≡ old.out
 
 -- the configuration was read, and a seed was given
-pub record IsReady (old new : World) (config : Config) (seed : List ℕ) : Type 0 where
-  pub prepares : Prepares old.files new.files config
+pub record IsReady (file : List ℕ) (old new : World) (config : Config) (seed : List ℕ) : Type 0 where
+  pub prepares : Prepares file old.files new.files config
   pub seeds : Seeds old.entropy new.entropy seed
 
 -- the configuration was read, and the run was its turns and its report
-pub record IsRun (most : ℕ) (old new : World) : Type 0 where
+pub record IsRun (file : List ℕ) (most : ℕ) (old new : World) : Type 0 where
   pub config : Config
   pub seed : List ℕ
-  pub ready : IsReady old new config seed
+  pub ready : IsReady file old new config seed
   pub runs : Runs config most seed (outside old) (outside new) old.out new.out
 
-abbrev pub last_of : (most : ℕ) (old new : World) → IsRun most old new → Desk
-last_of most old new run = run.runs.completes.course.last
+abbrev pub last_of : (file : List ℕ) (most : ℕ) (old new : World) → IsRun file most old new → Desk
+last_of file most old new run = run.runs.completes.course.last
 
 -- and each Stop was acknowledged
-pub record IsServed (most : ℕ) (old new : World) : Type 0 where
-  pub run : IsRun most old new
-  pub acknowledged : unanswered_of (last_of most old new run) ≡ []
+pub record IsServed (file : List ℕ) (most : ℕ) (old new : World) : Type 0 where
+  pub run : IsRun file most old new
+  pub acknowledged : unanswered_of (last_of file most old new run) ≡ []
   pub silent : new.err ≡ old.err
 
 -- or some Stop was not, and the lines of those were written
-pub record IsUnanswered (most : ℕ) (old new : World) : Type 0 where
-  pub run : IsRun most old new
-  pub names : NamesStops (last_of most old new run) old.err new.err
+pub record IsUnanswered (file : List ℕ) (most : ℕ) (old new : World) : Type 0 where
+  pub run : IsRun file most old new
+  pub names : NamesStops (last_of file most old new run) old.err new.err
 
 -- or a front of these lines
-pub record IsUnnamed (most : ℕ) (old new : World) : Type 0 where
-  pub run : IsRun most old new
-  pub fails : FailsToName (last_of most old new run) old.err new.err
+pub record IsUnnamed (file : List ℕ) (most : ℕ) (old new : World) : Type 0 where
+  pub run : IsRun file most old new
+  pub fails : FailsToName (last_of file most old new run) old.err new.err
 
 -- the configuration breaks a rule, and this is the first
-pub record IsRefused (old new : World) (fault : Fault) : Type 0 where
-  pub faulty : IsFaulty old.files new.files fault
+pub record IsRefused (file : List ℕ) (old new : World) (fault : Fault) : Type 0 where
+  pub faulty : IsFaulty file old.files new.files fault
   pub untouched : IsUntouched old new
   pub unseeded : new.entropy ≡ old.entropy
 
@@ -418,108 +419,108 @@ pub record IsUnread (old new : World) : Type 0 where
   pub unseeded : new.entropy ≡ old.entropy
 
 -- no seed was given
-pub record IsUnseeded (old new : World) : Type 0 where
+pub record IsUnseeded (file : List ℕ) (old new : World) : Type 0 where
   pub config : Config
-  pub prepares : Prepares old.files new.files config
+  pub prepares : Prepares file old.files new.files config
   pub fails : FailsToSeed old.entropy new.entropy
   pub untouched : IsUntouched old new
 
 -- a role could not be bound, by what is asked of the binds
-pub record IsUnbound (old new : World) (Fails : Config → PlantTold → PlantTold → Type 0) : Type 0 where
+pub record IsUnbound (file : List ℕ) (old new : World) (Fails : Config → PlantTold → PlantTold → Type 0) : Type 0 where
   pub config : Config
   pub seed : List ℕ
-  pub ready : IsReady old new config seed
+  pub ready : IsReady file old new config seed
   pub fails : Fails config old.plant new.plant
   pub clock : new.clock ≡ old.clock
   pub trace : new.trace ≡ old.trace
   pub out : new.out ≡ old.out
 
 -- what is named could not be opened
-abbrev pub Fails : World → World → Unopened → Type 0
-Fails old new Configuration = IsUnread old new
-Fails old new Seed = IsUnseeded old new
-Fails old new ControlOpening = IsUnbound old new (λ config p p'. FailsToBind config 0 p p')
-Fails old new CoreOpening = IsUnbound old new (λ config p p'. FailsToBind config 1 p p')
-Fails old new (AccessOpening number) = IsUnbound old new (λ config p p'. FailsToBindPort config number p p')
-Fails old new AuthOpening = IsUnbound old new (λ config p p'. FailsToBind config (2 + length config.access) p p')
-Fails old new AcctOpening = IsUnbound old new (λ config p p'. FailsToBind config (3 + length config.access) p p')
-Fails old new TunnelOpening = IsUnbound old new (λ config p p'. FailsToBindTunnel config p p')
-Fails old new CoaOpening = IsUnbound old new (λ config p p'. FailsToBindCoa config p p')
+abbrev pub Fails : List ℕ → World → World → Unopened → Type 0
+Fails file old new Configuration = IsUnread old new
+Fails file old new Seed = IsUnseeded file old new
+Fails file old new ControlOpening = IsUnbound file old new (λ config p p'. FailsToBind config 0 p p')
+Fails file old new CoreOpening = IsUnbound file old new (λ config p p'. FailsToBind config 1 p p')
+Fails file old new (AccessOpening number) = IsUnbound file old new (λ config p p'. FailsToBindPort config number p p')
+Fails file old new AuthOpening = IsUnbound file old new (λ config p p'. FailsToBind config (2 + length config.access) p p')
+Fails file old new AcctOpening = IsUnbound file old new (λ config p p'. FailsToBind config (3 + length config.access) p p')
+Fails file old new TunnelOpening = IsUnbound file old new (λ config p p'. FailsToBindTunnel config p p')
+Fails file old new CoaOpening = IsUnbound file old new (λ config p p'. FailsToBindCoa config p p')
 
 -- what is named could not be opened, and no receive, send or wait was made
-pub record IsUnopened (old new : World) (what : Unopened) : Type 0 where
-  pub fails : Fails old new what
+pub record IsUnopened (file : List ℕ) (old new : World) (what : Unopened) : Type 0 where
+  pub fails : Fails file old new what
   pub heard : new.plant.heard ≡ old.plant.heard
   pub taken : new.plant.taken ≡ old.plant.taken
   pub sent : new.plant.sent ≡ old.plant.sent
   pub out : new.out ≡ old.out
 
 -- memory was wanted for the configuration, which alone was asked for
-pub record WantsConfiguration (old new : World) : Type 0 where
-  pub wants : WantsToRead old.files new.files
+pub record WantsConfiguration (file : List ℕ) (old new : World) : Type 0 where
+  pub wants : WantsToRead file old.files new.files
   pub untouched : IsUntouched old new
   pub unseeded : new.entropy ≡ old.entropy
 
 -- the configuration was read, and memory was wanted for the desk, or once the turns had come to their end
-pub record WantsService (most : ℕ) (old new : World) : Type 0 where
+pub record WantsService (file : List ℕ) (most : ℕ) (old new : World) : Type 0 where
   pub config : Config
   pub seed : List ℕ
-  pub ready : IsReady old new config seed
+  pub ready : IsReady file old new config seed
   pub wants : WantsToServe config most seed (outside old) (outside new)
   pub out : new.out ≡ old.out
 
 -- the trace did not take a round, and no report was written
-pub record IsUnnoted (most : ℕ) (old new : World) : Type 0 where
+pub record IsUnnoted (file : List ℕ) (most : ℕ) (old new : World) : Type 0 where
   pub config : Config
   pub seed : List ℕ
-  pub ready : IsReady old new config seed
+  pub ready : IsReady file old new config seed
   pub fails : FailsToNote config most seed (outside old) (outside new)
   pub out : new.out ≡ old.out
 
 -- the report could not be written
-pub record IsUnprinted (most : ℕ) (old new : World) : Type 0 where
+pub record IsUnprinted (file : List ℕ) (most : ℕ) (old new : World) : Type 0 where
   pub config : Config
   pub seed : List ℕ
-  pub ready : IsReady old new config seed
+  pub ready : IsReady file old new config seed
   pub fails : FailsToPrint config most seed (outside old) (outside new) old.out new.out
 
 -- why a run came to no report, or for want of memory not to the lines after it
-abbrev pub Why : ℕ → World → World → Refusal → Type 0
-Why most old new Usage = ⊥
-Why most old new (Refused fault) = IsRefused old new fault
-Why most old new (CannotOpen what) = IsUnopened old new what
-Why most old new OutOfMemory = WantsConfiguration old new ⊎ (WantsService most old new ⊎ IsRun most old new)
-Why most old new TraceFailed = IsUnnoted most old new
-Why most old new OutputFailed = IsUnprinted most old new
+abbrev pub Why : List ℕ → ℕ → World → World → Refusal → Type 0
+Why file most old new Usage = ⊥
+Why file most old new (Refused fault) = IsRefused file old new fault
+Why file most old new (CannotOpen what) = IsUnopened file old new what
+Why file most old new OutOfMemory = WantsConfiguration file old new ⊎ (WantsService file most old new ⊎ IsRun file most old new)
+Why file most old new TraceFailed = IsUnnoted file most old new
+Why file most old new OutputFailed = IsUnprinted file most old new
 
 -- so it was, and the line that says so was written
-pub record Refuses (most : ℕ) (old new : World) (refusal : Refusal) : Type 0 where
-  pub why : Why most old new refusal
+pub record Refuses (file : List ℕ) (most : ℕ) (old new : World) (refusal : Refusal) : Type 0 where
+  pub why : Why file most old new refusal
   pub told : Grows old.err.bytes new.err.bytes (refusal_text refusal)
 
 -- so it was, and the line that says so could not be written whole
-pub record FailsToTell (most : ℕ) (old new : World) : Type 0 where
+pub record FailsToTell (file : List ℕ) (most : ℕ) (old new : World) : Type 0 where
   pub refusal : Refusal
-  pub why : Why most old new refusal
+  pub why : Why file most old new refusal
   pub fails : FailsToSay old.err new.err (refusal_text refusal)
 
 -- Status 5: the trace, `out` or `err` failed.
-abbrev pub IsUnwritten : ℕ → World → World → Type 0
-IsUnwritten most old new = Refuses most old new TraceFailed ⊎ (Refuses most old new OutputFailed ⊎ (FailsToTell most old new ⊎ IsUnnamed most old new))
+abbrev pub IsUnwritten : List ℕ → ℕ → World → World → Type 0
+IsUnwritten file most old new = Refuses file most old new TraceFailed ⊎ (Refuses file most old new OutputFailed ⊎ (FailsToTell file most old new ⊎ IsUnnamed file most old new))
 
 -- at most one seed was asked for
 abbrev pub SeedsOnce : EntropyTold → EntropyTold → Type 0
 SeedsOnce old new = (new ≡ old) ⊎ (FailsToSeed old new ⊎ ((seed : List ℕ) × Seeds old new seed))
 
 -- What each status says of a run.
-pub record ServeEnds (most : ℕ) (old new : World) (status : ℕ) : Type 0 where
-  pub served : status ≡ 0 → IsServed most old new
+pub record ServeEnds (file : List ℕ) (most : ℕ) (old new : World) (status : ℕ) : Type 0 where
+  pub served : status ≡ 0 → IsServed file most old new
   pub no_usage : ¬ (status ≡ 1)
-  pub refused : status ≡ 2 → (fault : Fault) × Refuses most old new (Refused fault)
-  pub unopened : status ≡ 3 → (what : Unopened) × Refuses most old new (CannotOpen what)
-  pub starved : status ≡ 4 → Refuses most old new OutOfMemory
-  pub unwritten : status ≡ 5 → IsUnwritten most old new
-  pub unanswered : status ≡ 6 → IsUnanswered most old new
+  pub refused : status ≡ 2 → (fault : Fault) × Refuses file most old new (Refused fault)
+  pub unopened : status ≡ 3 → (what : Unopened) × Refuses file most old new (CannotOpen what)
+  pub starved : status ≡ 4 → Refuses file most old new OutOfMemory
+  pub unwritten : status ≡ 5 → IsUnwritten file most old new
+  pub unanswered : status ≡ 6 → IsUnanswered file most old new
   pub no_other : status ≤ 6
   pub seeds : SeedsOnce old.entropy new.entropy
 

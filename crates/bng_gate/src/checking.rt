@@ -15,8 +15,8 @@ fn approve<F: Files, O: Sink>(
     files: &mut F,
     out: &mut O,
 ) -> Result<(), Refusal>
-    ensures right { OnOk result (IsRight (F.told files.old) (F.told files.new) (O.told out.old) (O.told out.new)) }
-    ensures refused { IfErr result (λ refusal. IsUnchecked (F.told files.old) (F.told files.new) (O.told out.old) (O.told out.new) refusal) }
+    ensures right { OnOk result (IsRight name.now (F.told files.old) (F.told files.new) (O.told out.old) (O.told out.new)) }
+    ensures refused { IfErr result (λ refusal. IsUnchecked name.now (F.told files.old) (F.told files.new) (O.told out.old) (O.told out.new) refusal) }
 {
     match prepare(alloc, name, files) {
         Ok(_) => {}
@@ -37,7 +37,7 @@ pub(crate) fn check<F: Files, O: Sink, X: Sink>(
     out: &mut O,
     err: &mut X,
 ) -> u8
-    ensures { Checks (F.told files.old) (F.told files.new) (O.told out.old) (O.told out.new) (X.told err.old) (X.told err.new) result }
+    ensures { Checks name.now (F.told files.old) (F.told files.new) (O.told out.old) (O.told out.new) (X.told err.old) (X.told err.new) result }
 {
     match approve(alloc, name, files, out) {
         Ok(()) => DONE,

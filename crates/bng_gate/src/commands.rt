@@ -1,6 +1,7 @@
 //! The top call.
-ghost use Rattle.std.specs.Prelude.{◌≡◌, ◌≤◌, ◌⊎◌, ℕ, List, [], ◌∷◌, IsSome, None};
+ghost use Rattle.std.specs.Prelude.{◌≡◌, ◌≤◌, ◌⊎◌, ℕ, List, IsSome, None};
 ghost use Rattle.bng_base.specs.Told.{Grows};
+ghost use Rattle.bng_plant.specs.Calls.{reads};
 ghost use Rattle.bng_config.specs.declared.config.Config.{Config as Settings};
 ghost use Rattle.bng_config.specs.declared.fault.Fault.{Fault as Rule};
 ghost use Rattle.bng_config.specs.Configuration.{HasFault};
@@ -142,7 +143,7 @@ where
     R: Threads + Wait + Sync,
     G: Gate + Sync,
 
-    // How the command ends that the words are: what each status says of it.
+    // How the command ends that the words are: what each status says of it. A configuration is read once, in the file that the words name.
     ensures ends { (command : Meaning) → Says (words_of words.now.items) command → CommandEnds command
         (record { files = F.told files.old; plant = P.told plant.old; clock = C.told clock.old; entropy = E.told entropy.old; trace = T.told trace.old; out = O.told out.old; err = X.told err.old })
         (record { files = F.told files.new; plant = P.told plant.new; clock = C.told clock.new; entropy = E.told entropy.new; trace = T.told trace.new; out = O.told out.new; err = X.told err.new })
@@ -158,7 +159,7 @@ where
     // addresses; each term has its Stop, and the Stops say exactly what was sent; and the octets and drops printed. With status 0 each Stop
     // was acknowledged; with status 6 the lines of those that were not were written.
     ensures headline { (file : List ℕ) (rounds : ℕ) → Says (words_of words.now.items) (serving file None rounds) → (result ≡ 0) ⊎ (result ≡ 6)
-        → (config : Settings) × Prepares (F.told files.old) (F.told files.new) config × Headline config rounds result
+        → (config : Settings) × Prepares file (F.told files.old) (F.told files.new) config × Headline config rounds result
         (record { files = F.told files.old; plant = P.told plant.old; clock = C.told clock.old; entropy = E.told entropy.old; trace = T.told trace.old; out = O.told out.old; err = X.told err.old })
         (record { files = F.told files.new; plant = P.told plant.new; clock = C.told clock.new; entropy = E.told entropy.new; trace = T.told trace.new; out = O.told out.new; err = X.told err.new }) }
 
@@ -166,7 +167,7 @@ where
     ensures safe { (file : List ℕ) (rounds : ℕ) → Says (words_of words.now.items) (serving file None rounds) → (result ≡ 4) ⊎ (result ≡ 5) → IsQuiet
         (record { files = F.told files.old; plant = P.told plant.old; clock = C.told clock.old; entropy = E.told entropy.old; trace = T.told trace.old; out = O.told out.old; err = X.told err.old })
         (record { files = F.told files.new; plant = P.told plant.new; clock = C.told clock.new; entropy = E.told entropy.new; trace = T.told trace.new; out = O.told out.new; err = X.told err.new })
-        ⊎ WasSafe rounds
+        ⊎ WasSafe file rounds
         (record { files = F.told files.old; plant = P.told plant.old; clock = C.told clock.old; entropy = E.told entropy.old; trace = T.told trace.old; out = O.told out.old; err = X.told err.old })
         (record { files = F.told files.new; plant = P.told plant.new; clock = C.told clock.new; entropy = E.told entropy.new; trace = T.told trace.new; out = O.told out.new; err = X.told err.new }) }
 
@@ -188,13 +189,13 @@ where
         (record { files = F.told files.new; plant = P.told plant.new; clock = C.told clock.new; entropy = E.told entropy.new; trace = T.told trace.new; out = O.told out.new; err = X.told err.new }) }
 
     // A configuration that was read and has a fault gives status 2, if there is memory and the line can be written.
-    ensures faulty { IsSome (F.told files.old).contents → (text : List ℕ) (fault : Rule) → Grows (F.told files.old).contents (F.told files.new).contents (text ∷ []) → HasFault text fault
+    ensures faulty { IsSome (F.told files.old).reads → (name text : List ℕ) (fault : Rule) → Grows (F.told files.old).reads (F.told files.new).reads (reads name text) → HasFault text fault
         → (result ≡ 2) ⊎ (result ≡ 4) ⊎ (result ≡ 5) }
 
     // Where no count rose, a command of a configuration without a fault gives status 0, or 6 where a Stop was not acknowledged, if there is
     // memory.
     ensures complete { (command : Meaning) → IsCarriedOut command → Says (words_of words.now.items) command
-        → ((text : List ℕ) (fault : Rule) → Grows (F.told files.old).contents (F.told files.new).contents (text ∷ []) → ¬ HasFault text fault)
+        → ((name text : List ℕ) (fault : Rule) → Grows (F.told files.old).reads (F.told files.new).reads (reads name text) → ¬ HasFault text fault)
         → IsFaultless
         (record { files = F.told files.old; plant = P.told plant.old; clock = C.told clock.old; entropy = E.told entropy.old; trace = T.told trace.old; out = O.told out.old; err = X.told err.old })
         (record { files = F.told files.new; plant = P.told plant.new; clock = C.told clock.new; entropy = E.told entropy.new; trace = T.told trace.new; out = O.told out.new; err = X.told err.new })

@@ -28,9 +28,9 @@ const UNANSWERED: u8 = 6;
 
 /// Reads the configuration of the file of this name.
 pub(crate) fn prepare<F: Files>(alloc: Global, name: &str, files: &mut F) -> Result<Config, Refusal>
-    ensures prepared { IfOk result (λ config. Prepares (F.told files.old) (F.told files.new) config) }
+    ensures prepared { IfOk result (λ config. Prepares name.now (F.told files.old) (F.told files.new) config) }
     ensures keeps { IfOk result (λ config. KeepsRules config) }
-    ensures refused { IfErr result (λ refusal. IsUnprepared (F.told files.old) (F.told files.new) refusal) }
+    ensures refused { IfErr result (λ refusal. IsUnprepared name.now (F.told files.old) (F.told files.new) refusal) }
 {
     let text = match files.read(alloc, name) {
         Ok(text) => text,
@@ -194,11 +194,11 @@ fn make_ready<E: Entropy, F: Files>(
     files: &mut F,
     entropy: &mut E,
 ) -> Result<Ready, Refusal>
-    ensures prepared { IfOk result (λ ready. Prepares (F.told files.old) (F.told files.new) ready.config) }
+    ensures prepared { IfOk result (λ ready. Prepares name.now (F.told files.old) (F.told files.new) ready.config) }
     ensures seeded { IfOk result (λ ready. Seeds (E.told entropy.old) (E.told entropy.new) ready.seed) }
     ensures rounds { IfOk result (λ ready. ready.rounds ≡ rounds) }
     ensures keeps { IfOk result (λ ready. KeepsRules ready.config) }
-    ensures refused { IfErr result (λ refusal. IsUnready (F.told files.old) (F.told files.new) (E.told entropy.old) (E.told entropy.new) refusal) }
+    ensures refused { IfErr result (λ refusal. IsUnready name.now (F.told files.old) (F.told files.new) (E.told entropy.old) (E.told entropy.new) refusal) }
 {
     let config = match prepare(alloc, name, files) {
         Ok(config) => config,
@@ -394,7 +394,7 @@ where
     G: Gate + Sync,
     requires some_round { 1 ≤ rounds }
     requires few_rounds { rounds ≤ turns_most }
-    ensures { ServeEnds rounds
+    ensures { ServeEnds name.now rounds
         (record { files = F.told files.old; plant = P.told plant.old; clock = C.told clock.old; entropy = E.told entropy.old; trace = T.told trace.old; out = O.told out.old; err = X.told err.old })
         (record { files = F.told files.new; plant = P.told plant.new; clock = C.told clock.new; entropy = E.told entropy.new; trace = T.told trace.new; out = O.told out.new; err = X.told err.new })
         result }

@@ -19,7 +19,7 @@ use Rattle.bng_plant.specs.declared.answers.Noted.{Noted}
 use Rattle.bng_plant.specs.declared.answers.Noted.TheVariants.{Ok as NotedOk, Failed as NotedFailed}
 use Rattle.bng_plant.specs.declared.answers.Wrote.{Wrote}
 use Rattle.bng_plant.specs.declared.answers.Wrote.TheVariants.{Ok as WroteOk, Failed as WroteFailed}
-use Rattle.bng_base.specs.Told.{Grows}
+use Rattle.bng_base.specs.Told.{FileRead, Grows}
 
 -- the most octets that a role sends: a trunk's ports have two VLAN tags more
 abbrev pub send_most : Role → ℕ
@@ -51,6 +51,10 @@ sends role to bytes SendingFailed = []
 abbrev pub seeds : Seeded → List (List ℕ)
 seeds (Seed octets) = octets ∷ []
 seeds SeededFailed = []
+
+-- what a read of a file of this name adds that answered this text
+abbrev pub reads : List ℕ → List ℕ → List FileRead
+reads name text = record { name = name; text = text } ∷ []
 
 -- what a note adds
 abbrev pub notes : RoundRecord → Noted → List RoundRecord

@@ -2,12 +2,12 @@
 use Rattle.std.specs.Prelude.{ℕ, ◌-◌, List, Option, Some, Bool, true, false, map, position, option_map, vec_len, vec_capacity}
 use Rattle.bng_base.specs.Told.{FilesTold}
 use Rattle.bng_plant.specs.Failing.{Calls, calls_of, one_more}
-use Rattle.bng_plant.specs.MemoryFile.{is_named, contents_at}
+use Rattle.bng_plant.specs.MemoryFile.{is_named, contents_at, read_at}
 use Rattle.bng_plant.specs.declared.memory_file.MemoryFile.{MemoryFile}
 use Rattle.bng_plant.specs.declared.memory_files.MemoryFiles.{MemoryFiles}
 
 abbrev pub told_by : MemoryFiles → FilesTold
-told_by f = record { contents = Some (map (contents_at f.files.items) f.reads.items); faults = f.failing.faults }
+told_by f = record { reads = Some (map (read_at f.files.items) f.reads.items); faults = f.failing.faults }
 
 -- its calls, its files, and for how many reads more it has room
 pub record FilesHeld : Type 0 where

@@ -1,8 +1,9 @@
-ghost use Rattle.std.specs.Prelude.{◌≡◌, ◌<◌, ◌≤◌, ◌-◌, [], ◌∷◌, Some, ◌&&◌, ◌↔◌, not, nat_lt, length, position, is_some, is_ok, IfOk, OnErr, IsErrOf, IsTrue, IsSome};
+ghost use Rattle.std.specs.Prelude.{◌≡◌, ◌<◌, ◌≤◌, ◌-◌, [], ◌∷◌, Some, ◌&&◌, ◌↔◌, not, nat_lt, length, position, is_some, is_ok, IfOk, IfSome, OnErr, IsErrOf, IsTrue, IsSome};
 ghost use Rattle.bng_base.specs.Causes.{HasCause};
 ghost use Rattle.bng_base.specs.Told.{Grows};
 ghost use Rattle.bng_plant.specs.Failing.{goes_on, fresh};
-ghost use Rattle.bng_plant.specs.MemoryFile.{is_named, contents_at};
+ghost use Rattle.bng_plant.specs.MemoryFile.{is_named, name_at, contents_at};
+ghost use Rattle.bng_plant.specs.Calls.{reads};
 
 use crate::answers::FileError;
 use crate::failing::{Failing, has_room};
@@ -29,7 +30,7 @@ impl MemoryFiles {
         fail_at: Vec<u64>,
         room: usize,
     ) -> Result<MemoryFiles, AllocError>
-        ensures told { IfOk result (λ f. told_by f ≡ record { contents = Some []; faults = 0 }) }
+        ensures told { IfOk result (λ f. told_by f ≡ record { reads = Some []; faults = 0 }) }
         ensures held { IfOk result (λ f. held_by f ≡ record { calls = fresh fail_at.items; files = files.items; reads = room }) }
     {
         Ok(MemoryFiles {
@@ -47,11 +48,20 @@ impl MemoryFiles {
     }
 }
 
-/// The place of the first file of this name.
-fn place_of(files: &[MemoryFile], name: &str) -> Option<usize>
+/// Looks for the first file of this name.
+fn first_named(files: &[MemoryFile], name: &str) -> Option<usize>
     ensures { result ≡ position (is_named name.now) files.now }
 {
     files.iter().position(|file| file.name.as_str() == name)
+}
+
+/// The place of the first file of this name.
+#[tactic(auto, using(crate::proofs::FileLaws::named_there))]
+fn place_of(files: &[MemoryFile], name: &str) -> Option<usize>
+    ensures found { result ≡ position (is_named name.now) files.now }
+    ensures named { IfSome result (λ place. name_at files.now place ≡ name.now) }
+{
+    first_named(files, name)
 }
 
 /// What the file at this place contains.
@@ -70,8 +80,8 @@ impl Files for MemoryFiles {
 
     #[tactic(auto, using(std::proofs::lemmas::List::map_push))]
     fn read(&mut self, alloc: Global, name: &str) -> Result<Vec<u8>, FileError>
-        ensures contents { IfOk result (λ text. Grows (told_by self.old).contents (told_by self.new).contents (text.items ∷ [])) }
-        ensures kept { OnErr result ((told_by self.new).contents ≡ (told_by self.old).contents) }
+        ensures reads { IfOk result (λ text. Grows (told_by self.old).reads (told_by self.new).reads (reads name.now text.items)) }
+        ensures kept { OnErr result ((told_by self.new).reads ≡ (told_by self.old).reads) }
         ensures cause { HasCause (told_by self.old).faults (told_by self.new).faults (IsErrOf result FileError.Failed) }
         // The text of the first file of this name.
         ensures text { IfOk result (λ text. text_of (held_by self.old) name.now ≡ Some text.items) }

@@ -2,8 +2,8 @@ ghost use Rattle.std.specs.Prelude.{◌≡◌, ◌<◌, ◌≤◌, ◌^◌, [], 
 ghost use Rattle.bng_base.specs.declared.outside.Heard.TheVariants.{Receive, Wait};
 ghost use Rattle.bng_base.specs.declared.outside.ClockAnswer.TheVariants.{Now, Wall};
 ghost use Rattle.bng_base.specs.Causes.{HasCause};
-ghost use Rattle.bng_base.specs.Told.{PlantTold, ClockTold, EntropyTold, FilesTold, TraceTold, SinkTold, Grows, GrowsIfTold, taken_by};
-ghost use Rattle.bng_plant.specs.Calls.{send_most, IsFilled, binds, sends, seeds, notes, writes};
+ghost use Rattle.bng_base.specs.Told.{FilesTold, PlantTold, ClockTold, EntropyTold, TraceTold, SinkTold, Grows, GrowsIfTold, taken_by};
+ghost use Rattle.bng_plant.specs.Calls.{send_most, IsFilled, binds, sends, seeds, reads, notes, writes};
 
 use crate::answers::{Bound, FileError, Noted, Seeded, Sending, Wrote};
 use bng_base::{Frame, Peer, Received, Role, RoundRecord};
@@ -80,10 +80,10 @@ pub trait Entropy {
 pub trait Files {
     ghost told: { Self → FilesTold };
 
-    /// The whole content of a file.
+    /// The whole content of the file of this name.
     fn read(&mut self, alloc: Global, name: &str) -> Result<Vec<u8>, FileError>
-        ensures contents { IfOk result (λ text. Grows (told self.old).contents (told self.new).contents (text.items ∷ [])) }
-        ensures kept { OnErr result ((told self.new).contents ≡ (told self.old).contents) }
+        ensures reads { IfOk result (λ text. Grows (told self.old).reads (told self.new).reads (reads name.now text.items)) }
+        ensures kept { OnErr result ((told self.new).reads ≡ (told self.old).reads) }
         ensures cause { HasCause (told self.old).faults (told self.new).faults (IsErrOf result FileError.Failed) }
         ensures uncounted { ¬ IsErrOf result FileError.Failed → (told self.new).faults ≡ (told self.old).faults };
 }

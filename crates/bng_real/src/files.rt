@@ -37,7 +37,7 @@ impl<'a, F: SystemFiles> RealFiles<'a, F> {
 }
 
 impl<F: SystemFiles> Files for RealFiles<'_, F> {
-    ghost told = { λ files. record { contents = None; faults = files.faults } };
+    ghost told = { λ files. record { reads = None; faults = files.faults } };
 
     fn read(&mut self, alloc: Global, name: &str) -> Result<Vec<u8>, FileError> {
         match read_front(self.files, alloc, name, self.most) {
