@@ -82,3 +82,5 @@ pub mod ClaimedTerms
 pub mod Numbered
 pub mod TermYeses
 pub mod NoFrames
+pub mod Noting
+pub mod Colours

@@ -30,6 +30,7 @@ pub mod Reader
 pub mod Due
 pub mod Hearing
 pub mod Protocol
+pub mod Course
 pub mod Lasting
 pub mod Wished
 pub mod Running

@@ -12,6 +12,7 @@
 mod answering;
 mod calls;
 mod changes;
+mod course;
 mod cutting;
 mod data;
 mod destination;
@@ -55,6 +56,7 @@ mod wish;
 mod young;
 
 pub use crate::changes::Answer;
+pub use crate::course::{meters_colour_what_is_offered, shards_stand};
 pub use crate::data::hear_core;
 pub use crate::destination::{Destination, destination_of};
 pub use crate::error::ShardError;
