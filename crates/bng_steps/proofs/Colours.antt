@@ -152,11 +152,11 @@ module _ (r : Rules) (s : State) (limited : Bool) (d : Deed) (input : Bool) (n :
       ap (meter input n) is ∙ elim (cases_eq x.number.0 n) [
         | inr differ ↦ ap (one_of input) (elsewhere k x (spent_by way ms now v.total) at differ)
         | inl same ↦ elim (which_way way input) [
-            | inl e ↦ absurd (none (now, v.total) false (subst (λ (b : Bool). Asks b n r s d (now, v.total) false) e (subst (λ (m : ℕ). Asks way m r s d (now, v.total) false) same asks)))
-            | inr e ↦
-                ap (one_of input) (here x (spent_by way ms now v.total) same) ∙ ap (λ (b : Bool). one_of input (spent_by b ms now v.total)) e ∙ other_way input ms now v.total
-                ∙ ap (λ (m : ℕ). one_of input (slice_index_or s.meters (m % 1024) no_meters)) same
-          ]
+          | inl e ↦ absurd (none (now, v.total) false (subst (λ (b : Bool). Asks b n r s d (now, v.total) false) e (subst (λ (m : ℕ). Asks way m r s d (now, v.total) false) same asks)))
+          | inr e ↦
+              ap (one_of input) (here x (spent_by way ms now v.total) same) ∙ ap (λ (b : Bool). one_of input (spent_by b ms now v.total)) e ∙ other_way input ms now v.total
+              ∙ ap (λ (m : ℕ). one_of input (slice_index_or s.meters (m % 1024) no_meters)) same
+        ]
       ]
   unasked_noted none stays (Starts k x plan term at session profile is same) =
       ap (λ (p : List Meters × (List ℕ × List Tenure)). one_of input (slice_index_or p.0 (n % 1024) no_meters)) same ∙ elim (cases_eq x.number.0 n) [
@@ -205,10 +205,10 @@ module _ (r : Rules) (s : State) (limited : Bool) (d : Deed) (input : Bool) (n p
       let where_ : plan.profile ≡ place = sym under ∙ ap (λ (t : Tenure). t.profile) one ∙ profile in (
         subst (IsNumberOf s.sessions.shard) its (number_is s k x stands at),
         ap (λ (p : List Meters × (List ℕ × List Tenure)). one_of input (slice_index_or p.0 (n % 1024) no_meters)) same
-        ∙ ap (λ (m : ℕ). one_of input (slice_index_or (slice_set s.meters (place_in x.number) (meters_of plan d.entry.moment)) (m % 1024) no_meters)) (sym its)
-        ∙ ap (one_of input) (get_or-set_same s.meters (place_in x.number) (meters_of plan d.entry.moment) no_meters (omega (arith, stands.meters)))
-        ∙ ap (λ (q : Plan). one_of input (meters_of q d.entry.moment)) (is ∙ ap (plan_at r.profiles) where_)
-        ∙ rate_is input r.profiles place d.entry.moment,
+            ∙ ap (λ (m : ℕ). one_of input (slice_index_or (slice_set s.meters (place_in x.number) (meters_of plan d.entry.moment)) (m % 1024) no_meters)) (sym its)
+            ∙ ap (one_of input) (get_or-set_same s.meters (place_in x.number) (meters_of plan d.entry.moment) no_meters (omega (arith, stands.meters)))
+            ∙ ap (λ (q : Plan). one_of input (meters_of q d.entry.moment)) (is ∙ ap (plan_at r.profiles) where_)
+            ∙ rate_is input r.profiles place d.entry.moment,
       )
 
   recast_does : (rec : Recasts r s d n place) → HearsChange r s d.entry d → d ≡ handled s d.entry [] (changed_by r s d.entry rec.packet rec.found)
@@ -233,11 +233,11 @@ module _ (r : Rules) (s : State) (limited : Bool) (d : Deed) (input : Bool) (n p
       let fresh = slice_set s.meters (place_in f.session.number) (meters_of (plan_at r.profiles new) d.entry.moment) in (
         subst (IsNumberOf s.sessions.shard) own (number_is s f.term.term.session.0 f.session stands at),
         ap (λ (g : Deed). meter input n g.next) does
-        ∙ ap (λ (b : Bool). one_of input (slice_index_or (if b then s.meters else fresh) (n % 1024) no_meters)) (ne_eqb f.term.profile new (λ e. rec.other (e ∙ rec.wants)))
-        ∙ ap (λ (m : ℕ). one_of input (slice_index_or fresh (m % 1024) no_meters)) (sym own)
-        ∙ ap (one_of input) (get_or-set_same s.meters (place_in f.session.number) (meters_of (plan_at r.profiles new) d.entry.moment) no_meters (omega (arith, stands.meters)))
-        ∙ ap (λ (k : ℕ). one_of input (meters_of (plan_at r.profiles k) d.entry.moment)) rec.wants
-        ∙ rate_is input r.profiles place d.entry.moment,
+            ∙ ap (λ (b : Bool). one_of input (slice_index_or (if b then s.meters else fresh) (n % 1024) no_meters)) (ne_eqb f.term.profile new (λ e. rec.other (e ∙ rec.wants)))
+            ∙ ap (λ (m : ℕ). one_of input (slice_index_or fresh (m % 1024) no_meters)) (sym own)
+            ∙ ap (one_of input) (get_or-set_same s.meters (place_in f.session.number) (meters_of (plan_at r.profiles new) d.entry.moment) no_meters (omega (arith, stands.meters)))
+            ∙ ap (λ (k : ℕ). one_of input (meters_of (plan_at r.profiles k) d.entry.moment)) rec.wants
+            ∙ rate_is input r.profiles place d.entry.moment,
       )
 
   renewed_fresh : Step r s limited d → Renews r s d n place → Fresh
@@ -458,7 +458,7 @@ module _ (r : Rules) (input : Bool) (n : ℕ) where
   along_none : (ms : List Move) (s : State) (offers : List Offer) (reds : List Bool) → Stands s → IsNumberOf s.sessions.shard n → meter input n s ≡ None → Course r s ms → NoneRenews r n s ms → Offers input n r s ms offers reds
       → reds ≡ map (λ o. false) offers
   along_none [] s offers reds stands number none course stays (o, b) = b ∙ sym (ap (map (λ (x : Offer). false)) o)
-  along_none (Settles ∷ ms) s offers reds stands number none course stays (inl (offer, red, asks, rest)) = absurd asks
+  along_none (Settles ∷ ms) s offers reds stands number none course stays (inl (offer, red, asks, more, more_reds, rest, o, c)) = absurd asks
   along_none (Settles ∷ ms) s offers reds stands number none course stays (inr (unasked, more)) = along_none ms (settled s) offers reds (settled_stands s stands) number none course.1 stays more
   along_none (Handles limited d ∷ ms) s offers reds stands number none course stays (inr (unasked, more)) =
       along_none ms d.next offers reds (step_stands r s limited d course.0 stands) (subst (λ (k : ℕ). IsNumberOf k n) (sym (shard_kept r s limited d course.0)) number)
@@ -477,7 +477,7 @@ module _ (r : Rules) (input : Bool) (n : ℕ) where
   along_some : (ms : List Move) (s : State) (floor : ℕ) (b : Buckets) (offers : List Offer) (reds : List Bool) → Stands s → IsNumberOf s.sessions.shard n → meter input n s ≡ Some b → b.last ≤ floor → Course r s ms → Rises floor ms
       → NoneRenews r n s ms → Offers input n r s ms offers reds → (reds ≡ map is_red (colours_kept b offers)) × Rise floor offers
   along_some [] s floor b offers reds stands number has low course rises stays (o, c) = (c ∙ sym (ap (λ (os : List Offer). map is_red (colours_kept b os)) o), subst (Rise floor) (sym o) tt)
-  along_some (Settles ∷ ms) s floor b offers reds stands number has low course rises stays (inl (offer, red, asks, rest)) = absurd asks
+  along_some (Settles ∷ ms) s floor b offers reds stands number has low course rises stays (inl (offer, red, asks, more, more_reds, rest, o, c)) = absurd asks
   along_some (Settles ∷ ms) s floor b offers reds stands number has low course rises stays (inr (unasked, more)) =
       along_some ms (settled s) floor b offers reds (settled_stands s stands) number has low course.1 rises stays more
   along_some (Handles limited d ∷ ms) s floor b offers reds stands number has low course rises stays (inr (unasked, more)) =
@@ -498,10 +498,9 @@ module _ (r : Rules) (input : Bool) (n : ℕ) where
             not_red (colour_of (filled b now) octets) (λ e. passes (b, has, ap (λ (m : ℕ). colour_of (filled b m) octets) at ∙ e)) in
             let its : meter input n d.next ≡ Some after_it = takes ∙ ap (λ (m : Option Buckets). spent m now octets) has ∙ ap (λ (m : ℕ). Some (taken b (m, octets))) at in
             let later = along_some ms d.next now after_it more more_reds next moved its (omega (arith, without_last (filled b now) octets)) course.1 rises.1 stays.1 rest in
-            let keeps : kept b (now, octets) ≡ after_it = ap (λ (g : Bool). if g then b else after_it) colour in
-            (
+            let keeps : kept b (now, octets) ≡ after_it = ap (λ (g : Bool). if g then b else after_it) colour in (
               c ∙ ap (λ (g : Bool). g ∷ more_reds) (green ∙ sym colour) ∙ ap (λ (gs : List Bool). is_red (colour_of (filled b now) octets) ∷ gs) later.0
-              ∙ ap (λ (k : Buckets). is_red (colour_of (filled b now) octets) ∷ map is_red (colours_kept k more)) (sym keeps) ∙ sym (ap (λ (os : List Offer). map is_red (colours_kept b os)) whole),
+                  ∙ ap (λ (k : Buckets). is_red (colour_of (filled b now) octets) ∷ map is_red (colours_kept k more)) (sym keeps) ∙ sym (ap (λ (os : List Offer). map is_red (colours_kept b os)) whole),
               subst (Rise floor) (sym whole) (rises.0, later.1),
             )
         | inr (its_red, stands_still, exceeds) ↦
@@ -511,10 +510,9 @@ module _ (r : Rules) (input : Bool) (n : ℕ) where
             ap (λ (m : ℕ). colour_of (filled b m) octets) (sym at) ∙ ap (λ (k : Buckets). colour_of (filled k (max now k.last)) octets) (sym one) ∙ reds_it in
             let colour : is_red (colour_of (filled b now) octets) ≡ true = ap is_red at_it in
             let later = along_some ms d.next now b more more_reds next moved (stands_still ∙ has) (omega (arith, low, rises.0)) course.1 rises.1 stays.1 rest in
-            let keeps : kept b (now, octets) ≡ b = ap (λ (g : Bool). if g then b else taken b (now, octets)) colour in
-            (
+            let keeps : kept b (now, octets) ≡ b = ap (λ (g : Bool). if g then b else taken b (now, octets)) colour in (
               c ∙ ap (λ (g : Bool). g ∷ more_reds) (its_red ∙ sym colour) ∙ ap (λ (gs : List Bool). is_red (colour_of (filled b now) octets) ∷ gs) later.0
-              ∙ ap (λ (k : Buckets). is_red (colour_of (filled b now) octets) ∷ map is_red (colours_kept k more)) (sym keeps) ∙ sym (ap (λ (os : List Offer). map is_red (colours_kept b os)) whole),
+                  ∙ ap (λ (k : Buckets). is_red (colour_of (filled b now) octets) ∷ map is_red (colours_kept k more)) (sym keeps) ∙ sym (ap (λ (os : List Offer). map is_red (colours_kept b os)) whole),
               subst (Rise floor) (sym whole) (rises.0, later.1),
             )
       ]

@@ -51,7 +51,6 @@ use Rattle.bng_steps.specs.Timers.{Ends, HearsEnd, HearsTick, IsTimed, LooksAt, 
 use Rattle.bng_steps.specs.L2tp.{tunnels_most}
 use Rattle.bng_steps.specs.Verdicts.{HearsVerdict, Judges, next_term, settled_by}
 use Rattle.bng_steps.specs.Wishes.{Decides, refused_with, told_if, told_of}
-
 use Rattle.bng_steps.proofs.Changing.{IsFound, found_is}
 use Rattle.bng_steps.proofs.Naming.{at_number, call_number}
 use Rattle.bng_steps.proofs.Planning.{in_plan}
