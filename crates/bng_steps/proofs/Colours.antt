@@ -1,9 +1,10 @@
 -- The colours of the packets for which a session's meter is asked, between two entries that begin its term or change its profile.
 use Rattle.std.proofs.Common.{◌≡◌, ◌≢◌, ◌⊎◌, inl, inr, ℕ, zero, suc, ◌+◌, ◌-◌, ◌*◌, ◌%◌, ◌<◌, ◌≤◌, Bool, true, false, not, cond, List, [], ◌∷◌, ◌++◌, length, map, max, Option, Some, None, refl, sym, ap, subst, ◌∙◌, arith}
 use Rattle.std.specs.Prelude.{IsSome, nat_le, if◌then◌else◌, option_map, slice_get, slice_index_or, slice_set}
-use Rattle.std.specs.List.{All, AllPairs, range_with_len}
+use Rattle.std.specs.List.{All, AllPairs, Contains, range_with_len}
 use Rattle.std.proofs.lemmas.Bool.{cases_eq, ne_eqb}
-use Rattle.std.proofs.lemmas.List.FromFn.{length-range_with_len}
+use Rattle.std.proofs.lemmas.List.FromFn.{get_or-map-range_with_len, length-range_with_len}
+use Rattle.std.proofs.lemmas.List.Elements.{All-contains}
 use Rattle.std.proofs.lemmas.List.{get_or-set_same, get_or-set_other, length-set, length-append, length-map, length-replicate}
 use Rattle.bng_base.specs.declared.address.SessionNo.{SessionNo}
 use Rattle.bng_base.specs.declared.book.Profile.{Profile}
@@ -53,6 +54,7 @@ use Rattle.bng_steps.specs.Tenures.{Tenure}
 use Rattle.bng_steps.proofs.Changing.{found_is}
 use Rattle.bng_steps.proofs.ClaimedTerms.{step_by_claims}
 use Rattle.bng_steps.proofs.GrantLaws.{settled_sound, step_sound}
+use Rattle.bng_steps.proofs.InOrder.{apart_of, its_circuit}
 use Rattle.bng_steps.proofs.Noting.{Noted, Stays, Passes, Starts, Changes, notes, spent_by, step_noted}
 use Rattle.bng_steps.proofs.SoundOpening.{opened_sound}
 use Rattle.bng_steps.proofs.Tunnelling.{not_both}
@@ -517,15 +519,42 @@ module _ (r : Rules) (input : Bool) (n : ℕ) where
             )
       ]
 
+-- a meter that starts full marks what it is asked about from then on
+fresh_marks : (r : Rules) (s : State) (n place : ℕ) (input : Bool) (now : ℕ) (moves : List Move) (offers : List Offer) (reds : List Bool) → Stands s → IsNumberOf s.sessions.shard n
+    → meter input n s ≡ option_map (λ (q : Rate). started q now) (rate_of input (slice_get r.profiles place))
+    → Course r s moves → Rises now moves → NoneRenews r n s moves → Offers input n r s moves offers reds → reds ≡ marked (rate_of input (slice_get r.profiles place)) now offers
+fresh_marks r s n place input now moves offers reds stands number fresh course rises stays offered = by_rate (rate_of input (slice_get r.profiles place)) fresh
+  where
+    by_rate : (o : Option Rate) → meter input n s ≡ option_map (λ (q : Rate). started q now) o → reds ≡ marked o now offers
+    by_rate None none = along_none r input n moves s offers reds stands number none course stays offered
+    by_rate (Some rate) has =
+        let along = along_some r input n moves s now (started rate now) offers reds stands number has (omega arith) course rises stays offered in
+        along.0 ∙ ap (map is_red) (colours_stay (started rate now) offers along.1)
+
 pub renewed_marks : (r : Rules) (s : State) (limited : Bool) (d : Deed) (n place : ℕ) (input : Bool) (moves : List Move) (offers : List Offer) (reds : List Bool) → Stands s → Step r s limited d → Renews r s d n place
     → Course r d.next moves → Rises d.entry.moment moves → NoneRenews r n d.next moves → Offers input n r d.next moves offers reds
     → reds ≡ marked (rate_of input (slice_get r.profiles place)) d.entry.moment offers
 renewed_marks r s limited d n place input moves offers reds stands h renews course rises stays offered =
     let (number, fresh) = renewed_fresh r s limited d input n place stands h renews in
-    by_rate (rate_of input (slice_get r.profiles place)) (subst (λ (k : ℕ). IsNumberOf k n) (sym (shard_kept r s limited d h)) number) fresh
-  where
-    by_rate : (o : Option Rate) → IsNumberOf d.next.sessions.shard n → meter input n d.next ≡ option_map (λ (q : Rate). started q d.entry.moment) o → reds ≡ marked o d.entry.moment offers
-    by_rate None number none = along_none r input n moves d.next offers reds (step_stands r s limited d h stands) number none course stays offered
-    by_rate (Some rate) number has =
-        let along = along_some r input n moves d.next d.entry.moment (started rate d.entry.moment) offers reds (step_stands r s limited d h stands) number has (omega arith) course rises stays offered in
-        along.0 ∙ ap (map is_red) (colours_stay (started rate d.entry.moment) offers along.1)
+    fresh_marks r d.next n place input d.entry.moment moves offers reds (step_stands r s limited d h stands) (subst (λ (k : ℕ). IsNumberOf k n) (sym (shard_kept r s limited d h)) number) fresh course rises stays offered
+
+-- The opening --------------------------------------------------------------------------------------------------------------
+
+opened_meter : (shard : ℕ) (profiles : List Profile) (circuits : List Static) (now n : ℕ) → IsNumberOf shard n
+    → slice_index_or (opened_meters shard profiles circuits now) (n % 1024) no_meters ≡ circuit_meters profiles now (circuit_at circuits n)
+unfolding opened_meters
+opened_meter shard profiles circuits now n of_shard =
+    get_or-map-range_with_len (λ (k : ℕ). circuit_meters profiles now (circuit_at circuits k)) (shard * 1024) 1024 (n % 1024) n no_meters (omega arith) (omega (arith, of_shard.0, of_shard.1))
+
+pub opened_marks : (r : Rules) (number : ℕ) (circuits : List Static) (now : ℕ) (c : Static) (input : Bool) (moves : List Move) (offers : List Offer) (reds : List Bool) → number < 64
+    → All (λ c. IsNumberOf number c.session.0) circuits → AllPairs (λ a b. a.session ≢ b.session) circuits → Contains circuits c
+    → Course r (opened_slots number r.profiles circuits now) moves → Rises now moves → NoneRenews r c.session.0 (opened_slots number r.profiles circuits now) moves
+    → Offers input c.session.0 r (opened_slots number r.profiles circuits now) moves offers reds → reds ≡ marked (rate_of input (slice_get r.profiles c.profile)) now offers
+opened_marks r number circuits now c input moves offers reds low own apart there course rises stays offered =
+    let s = opened_slots number r.profiles circuits now in
+    let of_shard : IsNumberOf number c.session.0 = All-contains (λ (d : Static). IsNumberOf number d.session.0) circuits c own there in
+    let fresh : meter input c.session.0 s ≡ option_map (λ (q : Rate). started q now) (rate_of input (slice_get r.profiles c.profile)) =
+    ap (one_of input) (opened_meter number r.profiles circuits now c.session.0 of_shard)
+    ∙ ap (λ (found : List Static). one_of input (circuit_meters r.profiles now found)) (its_circuit c circuits (apart_of circuits apart) there)
+    ∙ rate_is input r.profiles c.profile now in
+    fresh_marks r s c.session.0 c.profile input now moves offers reds (opened_stands number r.profiles circuits now low own apart) of_shard fresh course rises stays offered

@@ -1,6 +1,6 @@
 //! The laws of a shard's journal.
 ghost use Rattle.std.specs.Prelude.{◌≡◌, ◌≢◌, ◌<◌, ℕ, Bool, List, slice_get};
-ghost use Rattle.std.specs.List.{All, AllPairs};
+ghost use Rattle.std.specs.List.{All, AllPairs, Contains};
 ghost use Rattle.bng_base.specs.declared.book.Profile.{Profile};
 ghost use Rattle.bng_base.specs.declared.settings.Static.{Static};
 ghost use Rattle.bng_meter.specs.Bucket.{Offer};
@@ -23,9 +23,14 @@ pub fn shards_stand()
 
 /// From an entry that begins a term of a session, or changes its profile, on, until another entry does, the meter of a direction marks the
 /// packets for which it is asked as RFC 2697 has it, by a meter of the profile's rate that started full at that entry: those that are Red are
-/// dropped as Exceeded, and the others go on. Where the profile has no rate, all go on. The moments of the entries never fall.
+/// dropped as Exceeded, and the others go on. Where the profile has no rate, all go on. It is so too of the term of a provisioned circuit from
+/// the opening on. The moments of the entries never fall.
 pub fn meters_colour_what_is_offered()
-    ensures { (r : Rules) (s : State) (limited : Bool) (d : Deed) (n place : ℕ) (input : Bool) (moves : List Move) (offers : List Offer) (reds : List Bool) → Stands s → Step r s limited d → Renews r s d n place
+    ensures renewed { (r : Rules) (s : State) (limited : Bool) (d : Deed) (n place : ℕ) (input : Bool) (moves : List Move) (offers : List Offer) (reds : List Bool) → Stands s → Step r s limited d → Renews r s d n place
         → Course r d.next moves → Rises d.entry.moment moves → NoneRenews r n d.next moves → Offers input n r d.next moves offers reds
         → reds ≡ marked (rate_of input (slice_get r.profiles place)) d.entry.moment offers }
+    ensures opened { (r : Rules) (number : ℕ) (circuits : List Static) (now : ℕ) (c : Static) (input : Bool) (moves : List Move) (offers : List Offer) (reds : List Bool) → number < 64
+        → All (λ c. IsNumberOf number c.session.0) circuits → AllPairs (λ a b. a.session ≢ b.session) circuits → Contains circuits c
+        → Course r (opened_slots number r.profiles circuits now) moves → Rises now moves → NoneRenews r c.session.0 (opened_slots number r.profiles circuits now) moves
+        → Offers input c.session.0 r (opened_slots number r.profiles circuits now) moves offers reds → reds ≡ marked (rate_of input (slice_get r.profiles c.profile)) now offers }
 {}
