@@ -98,15 +98,15 @@ opened_stands number profiles circuits now low own apart = record {
 -- Places -------------------------------------------------------------------------------------------------------------------
 
 -- a session's number is one of the shard's
-number_is : (s : State) (k : ℕ) (x : Session) → Stands s → value_at s.sessions k ≡ Some x → IsNumberOf s.sessions.shard x.number.0
+pub number_is : (s : State) (k : ℕ) (x : Session) → Stands s → value_at s.sessions k ≡ Some x → IsNumberOf s.sessions.shard x.number.0
 number_is s k x stands at =
     subst (IsNumberOf s.sessions.shard) (sym (stands.sound.own k x at)) (stands.sound.of_shard k (subst IsSome (sym at) refl))
 
 -- two numbers of a shard have two places
-apart_places : (shard m n : ℕ) → IsNumberOf shard m → IsNumberOf shard n → m ≢ n → m % 1024 ≢ n % 1024
+pub apart_places : (shard m n : ℕ) → IsNumberOf shard m → IsNumberOf shard n → m ≢ n → m % 1024 ≢ n % 1024
 apart_places shard m n a b differ same = differ (omega (arith, a.0, a.1, b.0, b.1, same))
 
-shard_kept : (r : Rules) (s : State) (limited : Bool) (d : Deed) → Step r s limited d → d.next.sessions.shard ≡ s.sessions.shard
+pub shard_kept : (r : Rules) (s : State) (limited : Bool) (d : Deed) → Step r s limited d → d.next.sessions.shard ≡ s.sessions.shard
 shard_kept r s limited d h = (step_by_claims r s limited d h).shard
 
 -- the meter of a direction
@@ -392,7 +392,7 @@ module _ (r : Rules) (s : State) (limited : Bool) (d : Deed) (n : ℕ) (stands :
   frame_data number p x info carries there (inr (inl (names, none, h))) = absurd (none info carries)
   frame_data number p x info carries there (inr (inr (before, h))) = absurd (before (inl carries.session))
 
-  data_of : (kind : ItemKind) (x : Session) (info : List ℕ) → IsFrom kind r s d.entry x info → Hears kind r s limited d.entry d → HearsData r s d.entry (Some x) info d
+  pub data_of : (kind : ItemKind) (x : Session) (info : List ℕ) → IsFrom kind r s d.entry x info → Hears kind r s limited d.entry d → HearsData r s d.entry (Some x) info d
   data_of (Access number) x info (p, is, carries, there) (inl (none, h)) = absurd (none p is)
   data_of (Access number) x info (p, is, carries, there) (inr (q, is', h)) =
       frame_data number p x info carries there (subst (λ (w : PppoeFrame). HearsFrame r s d.entry number w d) (one_frame r.access number (arrival_in d.entry) q p is' is) h)
@@ -412,7 +412,7 @@ module _ (r : Rules) (s : State) (limited : Bool) (d : Deed) (n : ℕ) (stands :
   data_of Tick x info from h = absurd from
   data_of End x info from h = absurd from
 
-  packet_of : (kind : ItemKind) (x : Session) (v : Ipv4) → IsTo kind r s d.entry x v → Hears kind r s limited d.entry d → IsIpv4 v d.entry.item.frame.payload × (holder_of s v.dst ≡ Some x) × HearsPacket r s d.entry v d
+  pub packet_of : (kind : ItemKind) (x : Session) (v : Ipv4) → IsTo kind r s d.entry x v → Hears kind r s limited d.entry d → IsIpv4 v d.entry.item.frame.payload × (holder_of s v.dst ≡ Some x) × HearsPacket r s d.entry v d
   packet_of (Access number) x v to h = absurd to
   packet_of Core x v (is, held) (inl (none, h)) = absurd (none v is)
   packet_of Core x v (is, held) (inr (w, is', h)) = (is.packet, held, subst (λ (u : Ipv4). HearsPacket r s d.entry u d) (one_header w v (arrival_in d.entry).octets is'.packet is.packet) h)

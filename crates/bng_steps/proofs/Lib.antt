@@ -84,3 +84,8 @@ pub mod TermYeses
 pub mod NoFrames
 pub mod Noting
 pub mod Colours
+pub mod Silent
+pub mod Limiting
+pub mod Ticking
+pub mod Overdue
+pub mod Spacing

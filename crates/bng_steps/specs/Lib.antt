@@ -31,6 +31,7 @@ pub mod Due
 pub mod Hearing
 pub mod Protocol
 pub mod Course
+pub mod Silence
 pub mod Lasting
 pub mod Wished
 pub mod Running
