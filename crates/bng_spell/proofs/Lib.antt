@@ -1,9 +1,7 @@
-pub mod Plain
-pub mod Codes
-pub mod FieldNames
-pub mod Addresses
-pub mod LineCodes
-pub mod OneForm
 pub mod Spellings
 pub mod Repeats
 pub mod Turns
+pub mod Decimals
+pub mod LineCodes
+pub mod OneForm
+pub mod Reading

@@ -18,10 +18,10 @@ use Rattle.bng_base.specs.declared.fate.Fate.{Fate}
 use Rattle.bng_spell.specs.Fields.{kind_text, peer_text, flag_text, role_text, claim_text, fate_text, octets_text}
 use Rattle.bng_spell.specs.Lines.{entry_line, loose_line, refused_line, out_line}
 use Rattle.bng_spell.specs.Kept.{AreOctets, IsKind, IsRole, IsPeer, IsClaim, IsSet, IsItem, IsEntry, IsLoose, IsOut}
-use Rattle.bng_spell.proofs.Plain.{is_separator}
-use Rattle.bng_spell.proofs.Codes.{until_once, pair_once}
-use Rattle.bng_spell.proofs.FieldNames.{decimal_plain, encoded_plain, encoded_same, octets_plain, octets_same, frame_same, flag_plain, flag_same, kind_plain, kind_same, role_plain, role_same, fate_plain, fate_same}
-use Rattle.bng_spell.proofs.Addresses.{peer_once, claim_once}
+use Rattle.bng_spell.specs.Plain.{is_separator}
+use Rattle.bng_spell.specs.Codes.{until_once, pair_once}
+use Rattle.bng_spell.specs.FieldNames.{decimal_plain, encoded_plain, encoded_same, octets_plain, octets_same, frame_same, flag_plain, flag_same, kind_plain, kind_same, role_plain, role_same, fate_plain, fate_same}
+use Rattle.bng_spell.specs.Addresses.{peer_once, claim_once}
 
 -- texts of which none begins another
 pub record Code (A : Type 0) : Type 1 where

@@ -18,9 +18,9 @@ use Rattle.bng_spell.specs.Fields.{numbers_text, octets_text}
 use Rattle.bng_spell.specs.Lines.{head_line, entry_line, entry_lines, loose_line, refused_line, out_line}
 use Rattle.bng_spell.specs.Texts.{OpeningView, opening_text, round_text, trace_text, uncharged, as_read}
 use Rattle.bng_spell.specs.Kept.{IsEntry, IsLoose, IsItem, IsOut, IsKept, IsKeptOpening}
-use Rattle.bng_spell.proofs.Plain.{is_plain, is_separator, ArePlain}
-use Rattle.bng_spell.proofs.Codes.{some_suc}
-use Rattle.bng_spell.proofs.FieldNames.{decimal_plain}
+use Rattle.bng_spell.specs.Plain.{is_plain, is_separator, ArePlain}
+use Rattle.bng_spell.specs.Codes.{some_suc}
+use Rattle.bng_spell.specs.FieldNames.{decimal_plain}
 use Rattle.bng_spell.proofs.LineCodes.{Code, both, number, digits, octets, entry_once, loose_once, refused_once, out_once}
 
 head_same : (a b : ℕ) (xs ys : List ℕ) → a ∷ xs ≡ b ∷ ys → a ≡ b

@@ -10,9 +10,9 @@ use Rattle.bng_base.specs.declared.item.Claim.{Claim}
 use Rattle.bng_base.specs.declared.item.Claim.TheVariants.{NoClaim, Claimed, Held, Exhausted}
 use Rattle.bng_spell.specs.Fields.{address_text, peer_text, claim_text}
 use Rattle.bng_spell.specs.Kept.{IsAddress, IsPeer, IsClaim}
-use Rattle.bng_spell.proofs.Plain.{is_separator}
-use Rattle.bng_spell.proofs.Codes.{until_once}
-use Rattle.bng_spell.proofs.FieldNames.{decimal_plain}
+use Rattle.bng_spell.specs.Plain.{is_separator}
+use Rattle.bng_spell.specs.Codes.{until_once}
+use Rattle.bng_spell.specs.FieldNames.{decimal_plain}
 
 -- a number up to its separator
 number_once : (stop m n : ℕ) (x y : List ℕ) → IsTrue (is_separator stop) → m < 2 ^ 64 → n < 2 ^ 64 → (decimal m ++ stop ∷ []) ++ x ≡ (decimal n ++ stop ∷ []) ++ y → (m ≡ n) × (x ≡ y)

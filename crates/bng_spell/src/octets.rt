@@ -1,0 +1,114 @@
+//! Octets as fields.
+ghost use Rattle.std.specs.Prelude.{◌≡◌, ◌≢◌, ◌<◌, ◌≤◌, ◌+◌, ◌*◌, ◌^◌, ◌↔◌, ℕ, List, length, IfSome, IfNone, IsTrue};
+ghost use Rattle.hex.specs.Hex.{encode_lower};
+ghost use Rattle.bng_spell.specs.Fields.{octets_text};
+ghost use Rattle.bng_spell.specs.Kept.{AreOctets, IsSet};
+ghost use Rattle.bng_spell.specs.FieldNames.{encoded_plain, encoded_same, octets_plain, octets_same, frame_same};
+
+use crate::token::Token;
+use bng_base::{Frame, HEADROOM, LONGEST, Octets, ROOM};
+
+/// How many octets are compared at once.
+const AT_ONCE: usize = 1024;
+
+/// Whether these are the digits of these octets.
+pub(crate) fn are_digits(field: &[u8], octets: &[u8]) -> bool
+    ensures { IsTrue result ↔ (field.now ≡ encode_lower octets.now) }
+{
+    if field.len() / 2 != octets.len() || field.len() % 2 != 0 {
+        return false;
+    }
+    let mut digits = [0; 2048];
+    let mut at = 0;
+    while at < octets.len() {
+        let next = octets.len().min(at + AT_ONCE);
+        let length = 2 * (next - at);
+        let _ = hex::encode_to_slice(&octets[at..next], &mut digits[..length]);
+        if field[2 * at..2 * next] != digits[..length] {
+            return false;
+        }
+        at = next;
+    }
+    true
+}
+
+// Reads digits of as many octets, and says whether they are.
+fn read_digits(field: &[u8], octets: &mut [u8]) -> bool
+    ensures found { IsTrue result → field.now ≡ encode_lower octets.new }
+    ensures all { (bytes : List ℕ) → AreOctets bytes → length bytes ≡ length octets.old → field.now ≡ encode_lower bytes → IsTrue result }
+{
+    hex::decode_to_slice(field, octets).is_ok() && are_digits(field, octets)
+}
+
+/// So many octets.
+#[derive(Clone, Copy)]
+pub(crate) struct Fixed<const N: usize>(pub(crate) [u8; N]);
+
+impl<const N: usize> Token for Fixed<N> {
+    ghost fits = { λ f. AreOctets f.0 × (length f.0 ≡ N) };
+
+    ghost name = { λ f. encode_lower f.0 };
+
+    ghost plain = { λ v f. encoded_plain v.0 f.0 };
+
+    ghost injective = { λ v w f g e. let same = encoded_same v.0 w.0 f.0 g.0 e in λ i. record { 0 = same i } };
+
+    fn of(field: &[u8]) -> Option<Fixed<N>> {
+        let mut octets = [0; N];
+        if read_digits(field, &mut octets) {
+            Some(Fixed(octets))
+        } else {
+            None
+        }
+    }
+}
+
+impl Token for Frame {
+    ghost fits = { IsSet };
+
+    ghost name = { λ f. octets_text f.payload };
+
+    ghost plain = { λ v f. octets_plain v.payload f.octets };
+
+    ghost injective = { frame_same };
+
+    fn of(field: &[u8]) -> Option<Frame> {
+        let mut frame = Frame::new();
+        if field == b"-".as_slice() {
+            return Some(frame);
+        }
+        let length = field.len() / 2;
+        let mut octets = [0; 4096];
+        if length == 0 || length > LONGEST || !read_digits(field, &mut octets[..length]) {
+            return None;
+        }
+        frame.set(&octets[..length]);
+        Some(frame)
+    }
+}
+
+impl Token for Octets {
+    ghost fits = { λ o. AreOctets o × (length o ≤ 4160) };
+
+    ghost name = { octets_text };
+
+    ghost plain = { λ v f. octets_plain v f.0 };
+
+    ghost injective = { λ v w f g. octets_same v w f.0 g.0 };
+
+    fn of(field: &[u8]) -> Option<Octets> {
+        let mut frame = Frame::new();
+        if field == b"-".as_slice() {
+            return Some(Octets::of(frame));
+        }
+        let length = field.len() / 2;
+        let mut octets = [0; 4160];
+        if length == 0 || length > ROOM || !read_digits(field, &mut octets[..length]) {
+            return None;
+        }
+        let front = length.min(HEADROOM);
+        frame.set(&octets[front..length]);
+        frame.put_front(&octets[..front]);
+        Some(Octets::of(frame))
+    }
+}
