@@ -5,3 +5,7 @@ pub mod Decimals
 pub mod LineCodes
 pub mod OneForm
 pub mod Reading
+pub mod Digits
+pub mod FieldReading
+pub mod Rounds
+pub mod NumberLines

@@ -114,3 +114,21 @@ literal_short d word rest h e = omega (arith, h, ap length e, length-append word
 
 pub literal_other : (d word rest : List ℕ) → (take (length word) d ≡ word → ⊥) → d ≢ word ++ rest
 literal_other d word rest no e = no (ap (take (length word)) e ∙ take_at word rest (length word) refl)
+
+-- how far a text reaches
+pub stands_on : (whole text : List ℕ) (at next : ℕ) → at ≤ length whole → Stands whole at text next → next ≡ at + length text
+stands_on whole text at next h s =
+    let within = s.within in
+    omega (arith, h, within, ap length s.is, length-drop at whole, length-drop next whole, length-append text (drop next whole))
+
+-- no line was read yet
+pub lines_none : {X : Type 0} (text : X → List ℕ) (whole : List ℕ) (at : ℕ) → at ≤ length whole → Stands whole at (flat_map text []) at
+lines_none text whole at h = record { is = refl; within = h }
+
+-- one more line was read
+pub lines_more : {X : Type 0} (Fits : X → Type 0) (text : X → List ℕ) (whole : List ℕ) (at mid next : ℕ) (lines : List X) (x : X) → Stands whole at (flat_map text lines) mid → Stands whole mid (text x) next
+    → Stands whole at (flat_map text (lines ++ x ∷ [])) next
+lines_more Fits text whole at mid next lines x p q = record {
+  is = p.is ∙ ap (λ (t : List ℕ). flat_map text lines ++ t) q.is ∙ sym (flat_map-push Fits text lines x (drop next whole));
+  within = q.within;
+}

@@ -20,7 +20,7 @@ number_once stop m n x y s f g e =
     let r = until_once stop (decimal m) (decimal n) x y s (decimal_plain m f) (decimal_plain n g) e in (decimal_injective m n f g r.0, r.1)
 
 -- an address and its separator, number by number
-pub address_parts : ℕ → Ip4 → List ℕ
+unfoldable pub address_parts : ℕ → Ip4 → List ℕ
 address_parts stop a =
     (decimal (a.0 / 2 ^ 24) ++ 46 ∷ [])
     ++ ((decimal (a.0 / 2 ^ 16 % 256) ++ 46 ∷ []) ++ ((decimal (a.0 / 2 ^ 8 % 256) ++ 46 ∷ []) ++ (decimal (a.0 % 256) ++ stop ∷ [])))
@@ -64,7 +64,7 @@ peer_once p q x y f g e =
     let two = number_once 32 p.port q.port x y refl (omega arith) (omega arith) one.1 in
     (λ i. record { ip = one.0 i; port = two.0 i }, two.1)
 
-first_same : (s t : List ℕ) → s ≡ t → get_or s 0 0 ≡ get_or t 0 0
+pub first_same : (s t : List ℕ) → s ≡ t → get_or s 0 0 ≡ get_or t 0 0
 first_same s t e = ap (λ (x : List ℕ). get_or x 0 0) e
 
 pub claim_once : (c d : Claim) (x y : List ℕ) → IsClaim c → IsClaim d → (claim_text c ++ 10 ∷ []) ++ x ≡ (claim_text d ++ 10 ∷ []) ++ y → (c ≡ d) × (x ≡ y)

@@ -11,20 +11,28 @@ use bng_base::{Frame, HEADROOM, LONGEST, Octets, ROOM};
 /// How many octets are compared at once.
 const AT_ONCE: usize = 1024;
 
+// Whether these are the digits of a few octets.
+fn are_few_digits(field: &[u8], octets: &[u8]) -> bool
+    requires { length octets.now ≤ AT_ONCE }
+    ensures { IsTrue result ↔ (field.now ≡ encode_lower octets.now) }
+{
+    let mut digits = [0; 2048];
+    let part = &mut digits[..2 * octets.len()];
+    let _ = hex::encode_to_slice(octets, part);
+    field == &digits[..2 * octets.len()]
+}
+
 /// Whether these are the digits of these octets.
 pub(crate) fn are_digits(field: &[u8], octets: &[u8]) -> bool
     ensures { IsTrue result ↔ (field.now ≡ encode_lower octets.now) }
 {
-    if field.len() / 2 != octets.len() || field.len() % 2 != 0 {
+    if field.len() % 2 != 0 || field.len() / 2 != octets.len() {
         return false;
     }
-    let mut digits = [0; 2048];
     let mut at = 0;
     while at < octets.len() {
         let next = octets.len().min(at + AT_ONCE);
-        let length = 2 * (next - at);
-        let _ = hex::encode_to_slice(&octets[at..next], &mut digits[..length]);
-        if field[2 * at..2 * next] != digits[..length] {
+        if !are_few_digits(&field[2 * at..2 * next], &octets[at..next]) {
             return false;
         }
         at = next;
