@@ -1,10 +1,12 @@
 -- Decimal numbers, as they are read.
-use Rattle.std.proofs.Common.{◌≡◌, ◌≢◌, ℕ, zero, suc, ◌<◌, ◌≤◌, ◌^◌, List, length, get_or, Option, Result, Ok, Err, MatchResult, IfSome, IfNone, sym, ap, ◌∙◌, arith}
+use Rattle.std.proofs.Common.{◌≡◌, ◌≢◌, ℕ, zero, suc, ◌<◌, ◌≤◌, ◌^◌, List, ◌++◌, length, get_or, drop, refl, Option, Result, Ok, Err, MatchResult, IfSome, IfNone, sym, ap, ◌∙◌, arith}
+use Rattle.std.specs.Prelude.{codes}
 use Rattle.std.specs.Fmt.{decimal}
 use Rattle.std.specs.Result.{result_ok}
 use Rattle.std.specs.Str.Parse.{AllDigits, digits_value, ParsesUnsigned}
 use Rattle.std.proofs.lemmas.Str.Parse.{IsNumeralModel, numerals_by_value, tells_digits, parse_plain, not_in_digits}
-use Rattle.std.proofs.lemmas.Fmt.{digits_decimal, decimal_digit, decimal_nonempty, first_decimal, parse-decimal, decimal-digits_value}
+use Rattle.std.proofs.lemmas.List.{drop_at}
+use Rattle.std.proofs.lemmas.Fmt.{decimal_injective, digits_decimal, decimal_digit, decimal_nonempty, first_decimal, parse-decimal, decimal-digits_value}
 use Rattle.bng_spell.specs.Pieces.{IsUnsigned}
 
 own : IsNumeralModel (AllDigits 10) (digits_value 10)
@@ -34,3 +36,9 @@ pub reads_number : {E : Type 0} (bs : List ℕ) (r : Result ℕ E) (o : Option �
     → IfSome o (λ n. bs ≡ decimal n) × IfNone o ((n : ℕ) → n < 2 ^ 64 → bs ≢ decimal n)
 reads_number {E} bs (Ok n) o is plain h = rw is (reads_unsigned {E = E} 64 bs (Ok n) (omega arith) plain h, tt)
 reads_number {E} bs (Err e) o is plain h = rw is (tt, reads_unsigned {E = E} 64 bs (Err e) (omega arith) plain h)
+
+-- the number of an access port is no other one
+pub port_other : (field : List ℕ) (number n : ℕ) → number < 2 ^ 64 → n < 256 → 256 ≤ number → drop 6 field ≡ decimal number → field ≡ codes "access" ++ decimal n → ⊥
+port_other field number n small f big found e =
+    let same = decimal_injective number n small (omega (arith, f)) (sym found ∙ ap (λ (t : List ℕ). drop 6 t) e ∙ drop_at (codes "access") (decimal n) 6 refl) in
+    omega (arith, same, f, big)

@@ -1,5 +1,5 @@
 -- Addresses, peers, claims and lines, as they are read.
-use Rattle.std.proofs.Common.{◌≡◌, ◌≢◌, ℕ, ◌/◌, ◌%◌, ◌^◌, ◌<◌, List, [], ◌∷◌, ◌++◌, drop, refl, sym, ap, subst, ◌∙◌, append_assoc, arith}
+use Rattle.std.proofs.Common.{◌≡◌, ◌≢◌, ℕ, ◌/◌, ◌%◌, ◌^◌, ◌<◌, ◌≤◌, List, [], ◌∷◌, ◌++◌, drop, refl, sym, ap, subst, ◌∙◌, append_assoc, arith}
 use Rattle.std.specs.Prelude.{codes}
 use Rattle.std.specs.Fmt.{decimal}
 use Rattle.std.proofs.lemmas.List.{append_cancel_left}
@@ -33,8 +33,8 @@ address_stands stop a p q r s whole at next e f g h stands =
 pub no_address : (stop : ℕ) (whole : List ℕ) (at : ℕ)
     → ((p q r s : ℕ) (rest : List ℕ) → p < 256 → q < 256 → r < 256 → s < 256 → drop at whole ≢ four_numbers stop p q r s ++ rest)
     → (a : Ip4) (rest : List ℕ) → IsAddress a → drop at whole ≢ (address_text a ++ stop ∷ []) ++ rest
-no_address stop whole at no a rest f e =
-    no (a.0 / 2 ^ 24) (a.0 / 2 ^ 16 % 256) (a.0 / 2 ^ 8 % 256) (a.0 % 256) rest (omega (arith, f)) (omega arith) (omega arith) (omega arith)
+no_address stop whole at never a rest f e =
+    never (a.0 / 2 ^ 24) (a.0 / 2 ^ 16 % 256) (a.0 / 2 ^ 8 % 256) (a.0 % 256) rest (omega (arith, f)) (omega arith) (omega arith) (omega arith)
     (e ∙ ap (λ (t : List ℕ). t ++ rest) (address_numbers stop a))
 
 pub peer_stands : (p : Peer) (whole : List ℕ) (at next : ℕ) → Stands whole at ((address_text p.ip ++ 58 ∷ []) ++ (decimal p.port ++ 32 ∷ [])) next → Stands whole at (peer_text p ++ 32 ∷ []) next
@@ -58,24 +58,24 @@ no_claim whole at dash claimed held exhausted (Exhausted n) rest f e = exhausted
 -- behind the word of a claim stands no address
 pub no_claimed : (whole : List ℕ) (at mid : ℕ) → Stands whole at (codes "claimed:") mid → ((a : Ip4) (rest : List ℕ) → IsAddress a → drop mid whole ≢ (address_text a ++ 10 ∷ []) ++ rest)
     → Lacks IsClaim (λ (c : Claim). claim_text c ++ 10 ∷ []) whole at
-no_claimed whole at mid s no NoClaim rest f e = absurd (omega (arith, first_same _ _ (sym s.is ∙ e)))
-no_claimed whole at mid s no (Claimed a) rest f e = no a rest f (behind whole (codes "claimed:") ((address_text a ++ 10 ∷ []) ++ rest) at mid s e)
-no_claimed whole at mid s no (Held a) rest f e = absurd (omega (arith, first_same _ _ (sym s.is ∙ e)))
-no_claimed whole at mid s no (Exhausted n) rest f e = absurd (omega (arith, first_same _ _ (sym s.is ∙ e)))
+no_claimed whole at mid s never NoClaim rest f e = absurd (omega (arith, first_same _ _ (sym s.is ∙ e)))
+no_claimed whole at mid s never (Claimed a) rest f e = never a rest f (behind whole (codes "claimed:") ((address_text a ++ 10 ∷ []) ++ rest) at mid s e)
+no_claimed whole at mid s never (Held a) rest f e = absurd (omega (arith, first_same _ _ (sym s.is ∙ e)))
+no_claimed whole at mid s never (Exhausted n) rest f e = absurd (omega (arith, first_same _ _ (sym s.is ∙ e)))
 
 pub no_held : (whole : List ℕ) (at mid : ℕ) → Stands whole at (codes "held:") mid → ((a : Ip4) (rest : List ℕ) → IsAddress a → drop mid whole ≢ (address_text a ++ 10 ∷ []) ++ rest)
     → Lacks IsClaim (λ (c : Claim). claim_text c ++ 10 ∷ []) whole at
-no_held whole at mid s no NoClaim rest f e = absurd (omega (arith, first_same _ _ (sym s.is ∙ e)))
-no_held whole at mid s no (Claimed a) rest f e = absurd (omega (arith, first_same _ _ (sym s.is ∙ e)))
-no_held whole at mid s no (Held a) rest f e = no a rest f (behind whole (codes "held:") ((address_text a ++ 10 ∷ []) ++ rest) at mid s e)
-no_held whole at mid s no (Exhausted n) rest f e = absurd (omega (arith, first_same _ _ (sym s.is ∙ e)))
+no_held whole at mid s never NoClaim rest f e = absurd (omega (arith, first_same _ _ (sym s.is ∙ e)))
+no_held whole at mid s never (Claimed a) rest f e = absurd (omega (arith, first_same _ _ (sym s.is ∙ e)))
+no_held whole at mid s never (Held a) rest f e = never a rest f (behind whole (codes "held:") ((address_text a ++ 10 ∷ []) ++ rest) at mid s e)
+no_held whole at mid s never (Exhausted n) rest f e = absurd (omega (arith, first_same _ _ (sym s.is ∙ e)))
 
 pub no_exhausted : (whole : List ℕ) (at mid : ℕ) → Stands whole at (codes "exhausted:") mid → ((n : ℕ) (rest : List ℕ) → n < 256 → drop mid whole ≢ (decimal n ++ 10 ∷ []) ++ rest)
     → Lacks IsClaim (λ (c : Claim). claim_text c ++ 10 ∷ []) whole at
-no_exhausted whole at mid s no NoClaim rest f e = absurd (omega (arith, first_same _ _ (sym s.is ∙ e)))
-no_exhausted whole at mid s no (Claimed a) rest f e = absurd (omega (arith, first_same _ _ (sym s.is ∙ e)))
-no_exhausted whole at mid s no (Held a) rest f e = absurd (omega (arith, first_same _ _ (sym s.is ∙ e)))
-no_exhausted whole at mid s no (Exhausted n) rest f e = no n rest f (behind whole (codes "exhausted:") ((decimal n ++ 10 ∷ []) ++ rest) at mid s e)
+no_exhausted whole at mid s never NoClaim rest f e = absurd (omega (arith, first_same _ _ (sym s.is ∙ e)))
+no_exhausted whole at mid s never (Claimed a) rest f e = absurd (omega (arith, first_same _ _ (sym s.is ∙ e)))
+no_exhausted whole at mid s never (Held a) rest f e = absurd (omega (arith, first_same _ _ (sym s.is ∙ e)))
+no_exhausted whole at mid s never (Exhausted n) rest f e = never n rest f (behind whole (codes "exhausted:") ((decimal n ++ 10 ∷ []) ++ rest) at mid s e)
 
 -- a line that is a word and the fields behind it stands where these do
 pub line_stands : (whole word fields line : List ℕ) (at mid next : ℕ) → ((x : List ℕ) → line ++ x ≡ word ++ (fields ++ x)) → Stands whole at word mid → Stands whole mid fields next → Stands whole at line next
@@ -83,3 +83,10 @@ line_stands whole word fields line at mid next parted p q = record {
   is = p.is ∙ ap (λ (t : List ℕ). word ++ t) q.is ∙ sym (parted (drop next whole));
   within = q.within;
 }
+
+-- a number of 16 bits is one of those that are read
+pub short_fits : (n : ℕ) → n < 2 ^ 16 → (n ≤ 65535) × (n < 2 ^ 64)
+short_fits n h = (omega arith, omega arith)
+
+pub long_fits : (n : ℕ) → n < 2 ^ 64 → (n ≤ 18446744073709551615) × (n < 2 ^ 64)
+long_fits n h = (omega arith, h)

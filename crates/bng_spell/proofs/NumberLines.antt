@@ -75,12 +75,12 @@ no_comma l rest f n next g e =
 -- numbers do not stand where their last one does not
 pub no_numbers_line : (whole : List ℕ) (at mid : ℕ) (ns : List ℕ) → ((rest : List ℕ) → drop at whole ≢ codes "-\n" ++ rest) → AreLines IsShort comma_behind whole at ns mid
     → ((n : ℕ) (rest : List ℕ) → n < 2 ^ 32 → drop mid whole ≢ (decimal n ++ 10 ∷ []) ++ rest) → Lacks AreNumbers (λ (all : List ℕ). numbers_text all ++ 10 ∷ []) whole at
-no_numbers_line whole at mid ns dash a no [] rest f e = dash rest e
-no_numbers_line whole at mid ns dash a no (n ∷ all) rest f e =
+no_numbers_line whole at mid ns dash a never [] rest f e = dash rest e
+no_numbers_line whole at mid ns dash a never (n ∷ all) rest f e =
     let parts = last_of n all in
     let fits = short_parts parts.front parts.last (subst AreNumbers parts.are f) in
     let text : drop at whole ≡ flat_map comma_behind parts.front ++ ((decimal parts.last ++ 10 ∷ []) ++ rest) =
     e ∙ ap (λ (t : List ℕ). (numbers_text t ++ 10 ∷ []) ++ rest) parts.are ∙ ap (λ (t : List ℕ). t ++ rest) (sym (numbers_turned parts.front parts.last))
     ∙ append_assoc (flat_map comma_behind parts.front) (decimal parts.last ++ 10 ∷ []) rest in
     let once = lines_once IsShort comma_behind numbers_code whole at mid ns parts.front ((decimal parts.last ++ 10 ∷ []) ++ rest) a fits.0 (no_comma parts.last rest fits.1) text in
-    no parts.last rest fits.1 once.1
+    never parts.last rest fits.1 once.1

@@ -56,10 +56,10 @@ until_no_stop FV name stop plain d none v rest s f e =
 -- what stands before the first separator is no field
 pub until_no_value : {V : Type 0} (FV : V → Type 0) (name : V → List ℕ) (stop : ℕ) → ((v : V) → FV v → ArePlain (name v)) → (d : List ℕ) (n : ℕ) → Some n ≡ position (λ (c : ℕ). c == stop) d
     → ((v : V) → FV v → take n d ≢ name v) → (v : V) (rest : List ℕ) → IsTrue (is_separator stop) → FV v → d ≢ (name v ++ stop ∷ []) ++ rest
-until_no_value FV name stop plain d n some no v rest s f e =
+until_no_value FV name stop plain d n some never v rest s f e =
     let parted = e ∙ until_is stop (name v) rest in
     let at = some_same n (length (name v)) (some ∙ ap (position (λ (c : ℕ). c == stop)) parted ∙ position_stop stop (name v) rest (plain_are_not stop (name v) s (plain v f))) in
-    no v f (ap (take n) parted ∙ take_at (name v) (stop ∷ rest) n (sym at))
+    never v f (ap (take n) parted ∙ take_at (name v) (stop ∷ rest) n (sym at))
 
 -- the octets up to the first of one, and that one
 abbrev Parts : ℕ → ℕ → List ℕ → Type 0
@@ -113,7 +113,7 @@ pub literal_short : (d word rest : List ℕ) → length d < length word → d �
 literal_short d word rest h e = omega (arith, h, ap length e, length-append word rest)
 
 pub literal_other : (d word rest : List ℕ) → (take (length word) d ≡ word → ⊥) → d ≢ word ++ rest
-literal_other d word rest no e = no (ap (take (length word)) e ∙ take_at word rest (length word) refl)
+literal_other d word rest never e = never (ap (take (length word)) e ∙ take_at word rest (length word) refl)
 
 -- how far a text reaches
 pub stands_on : (whole text : List ℕ) (at next : ℕ) → at ≤ length whole → Stands whole at text next → next ≡ at + length text

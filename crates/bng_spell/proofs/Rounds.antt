@@ -106,22 +106,22 @@ Behind whole next r rest = drop next whole ≡ entry_lines 0 r.journals ++ after
 
 -- a round does not stand where its first word does not
 pub no_word : (whole : List ℕ) (at : ℕ) → ((rest : List ℕ) → drop at whole ≢ codes "round " ++ rest) → Lacks IsKept round_text whole at
-no_word whole at no r rest f e = no _ (e ∙ round_is r rest)
+no_word whole at never r rest f e = never _ (e ∙ round_is r rest)
 
 -- where its numbers do not
 pub no_fields : (whole : List ℕ) (at mid : ℕ) → Stands whole at (codes "round ") mid
     → ((n m w : ℕ) (rest : List ℕ) → n < 2 ^ 64 → m < 2 ^ 64 → w < 2 ^ 64 → drop mid whole ≢ ((decimal n ++ 32 ∷ []) ++ ((decimal m ++ 32 ∷ []) ++ (decimal w ++ 32 ∷ []))) ++ rest)
     → Lacks IsKept round_text whole at
-no_fields whole at mid s no r rest f e = no r.number r.moment r.wall _ f.number f.moment f.wall (behind whole (codes "round ") _ at mid s (e ∙ round_is r rest))
+no_fields whole at mid s never r rest f e = never r.number r.moment r.wall _ f.number f.moment f.wall (behind whole (codes "round ") _ at mid s (e ∙ round_is r rest))
 
 -- where its allowances do not
 pub no_numbers : (whole : List ℕ) (at mid next : ℕ) (n m w : ℕ) → n < 2 ^ 64 → m < 2 ^ 64 → w < 2 ^ 64 → Stands whole at (codes "round ") mid
     → Stands whole mid ((decimal n ++ 32 ∷ []) ++ ((decimal m ++ 32 ∷ []) ++ (decimal w ++ 32 ∷ []))) next
     → Lacks AreNumbers (λ (ns : List ℕ). numbers_text ns ++ 10 ∷ []) whole next → Lacks IsKept round_text whole at
-no_numbers whole at mid next n m w fn fm fw s t no r rest f e =
+no_numbers whole at mid next n m w fn fm fw s t never r rest f e =
     let fields = behind whole (codes "round ") _ at mid s (e ∙ round_is r rest) in
     let head = head_code.once (n, (m, w)) (r.number, (r.moment, r.wall)) (drop next whole) _ (fn, (fm, fw)) (f.number, (f.moment, f.wall)) (sym t.is ∙ fields) in
-    no r.allowances _ f.allowances head.1
+    never r.allowances _ f.allowances head.1
 
 -- the head is that of each round that stands there
 head_once : (whole : List ℕ) (at next : ℕ) (n m w : ℕ) (ns : List ℕ) (r : RoundRecord) (rest : List ℕ) → Head whole at next n m w ns → IsKept r → drop at whole ≡ round_text r ++ rest
@@ -153,18 +153,18 @@ body_once whole at next m ns js l a o r rest b few same numbers f e =
 -- a round does not stand where its end does not
 pub no_end : (whole : List ℕ) (at mid next : ℕ) (n m w : ℕ) (ns : List ℕ) (js : List (List Entry)) (l : List Loose) (a : List Item) (o : List OutRecord) → Head whole at mid n m w ns
     → Body whole mid next m ns js l a o → ((rest : List ℕ) → drop next whole ≢ codes "end\n" ++ rest) → Lacks IsKept round_text whole at
-no_end whole at mid next n m w ns js l a o h b no r rest f e =
+no_end whole at mid next n m w ns js l a o h b never r rest f e =
     let head = head_once whole at mid n m w ns r rest h f e in
     let body = body_once whole mid next m ns js l a o r rest b h.few head.0 head.1 f head.2 in
-    no rest body.1
+    never rest body.1
 
 -- where its loose items are not in order
 pub no_order : (whole : List ℕ) (at mid next : ℕ) (n m w : ℕ) (ns : List ℕ) (js : List (List Entry)) (l : List Loose) (a : List Item) (o : List OutRecord) → Head whole at mid n m w ns
     → Body whole mid next m ns js l a o → (AreInOrder l → ⊥) → Lacks IsKept round_text whole at
-no_order whole at mid next n m w ns js l a o h b no r rest f e =
+no_order whole at mid next n m w ns js l a o h b never r rest f e =
     let head = head_once whole at mid n m w ns r rest h f e in
     let body = body_once whole mid next m ns js l a o r rest b h.few head.0 head.1 f head.2 in
-    no (subst AreInOrder (sym body.0) f.order)
+    never (subst AreInOrder (sym body.0) f.order)
 
 -- a round whose parts stand one behind the other stands there
 pub round_stands : (r : RoundRecord) (whole : List ℕ) (at mid last next : ℕ) → Head whole at mid r.number r.moment r.wall r.allowances → mid ≤ length whole

@@ -99,7 +99,11 @@ fn port_of(field: &[u8]) -> Option<u8>
         return None;
     }
     let number = number_of(&field[6..])?;
-    u8::try_from(number).ok()
+    if number < 256 {
+        Some(number as u8)
+    } else {
+        None
+    }
 }
 
 impl Token for ItemKind {
