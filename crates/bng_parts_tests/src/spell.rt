@@ -371,8 +371,33 @@ fn reads(rt: &impl Abort, alloc: Global, text: &str) -> Result<(), Fail> {
 
 #[test]
 fn rounds_are_read(rt: HostRuntime) -> Result<(), Fail> {
-    reads(&rt, rt.alloc(), ROUND)?;
-    reads(&rt, rt.alloc(), REFUSED)
+    for text in [ROUND, REFUSED, KINDS, FATES, ROLES] {
+        reads(&rt, rt.alloc(), text)?;
+    }
+    Ok(())
+}
+
+// The first entry of the second shard.
+fn entry_of(round: &RoundRecord) -> Option<&Entry> {
+    round.journals.as_slice().get(1)?.as_slice().first()
+}
+
+#[test]
+fn a_round_is_read_as_it_stands(rt: HostRuntime) -> Result<(), Fail> {
+    let read = read_round(rt.alloc(), ROUND.as_bytes(), 0)?;
+    let (round, _) = read.ok_or("no round")?;
+    assert_same(&rt, &round.number, &7);
+    assert_same(&rt, &round.wall, &1_700_000_000);
+    assert_count(&rt, round.allowances.as_slice().len(), 2);
+    assert_count(&rt, round.loose.as_slice().len(), 1);
+    assert_count(&rt, round.outs.as_slice().len(), 1);
+    let entry = entry_of(&round).ok_or("no entry")?;
+    assert_same(&rt, &entry.moment, &600);
+    assert_same(&rt, &entry.item.kind, &ItemKind::Access(2));
+    assert_same(&rt, &entry.item.from, &SUBSCRIBER);
+    assert_same(&rt, &entry.claim, &Claim::Claimed(Ip4(0x0a00_0002)));
+    assert_octets(&rt, entry.item.frame.payload(), &[0x1f, 0xab]);
+    Ok(())
 }
 
 // At this place of the text stands no round.

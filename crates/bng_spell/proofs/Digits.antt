@@ -1,12 +1,16 @@
 -- Hexadecimal digits, as they are read.
 use Rattle.std.proofs.Common.{◌≡◌, ℕ, zero, suc, ◌+◌, ◌-◌, ◌*◌, ◌<◌, ◌≤◌, List, [], ◌∷◌, ◌++◌, length, take, drop, get_or, slice_index, refl, sym, ap, subst, ◌∙◌, arith}
-use Rattle.std.specs.Prelude.{Result, Ok}
+use Rattle.std.specs.Prelude.{Result, Ok, Err, codes, true}
+use Rattle.std.specs.Result.{is_ok, MatchResult}
+use Rattle.std.proofs.lemmas.Bool.{false≢true}
 use Rattle.std.specs.List.{between, AllByRecursion}
 use Rattle.std.proofs.lemmas.List.{take-append-drop, take-take, length-take, take_at, drop_at}
 use Rattle.std.proofs.lemmas.List.Edits.{split_between, length-between}
 use Rattle.std.proofs.lemmas.Slice.{between_is}
-use Rattle.hex.specs.Hex.{encode_lower, encode_with, lower_digits, decode_sized}
-use Rattle.hex.proofs.HexLemmas.{length-encode_with, decode_sized-encode_lower}
+use Rattle.hex.specs.Hex.{encode_lower, encode_with, lower_digits, decode_sized, decode_of}
+use Rattle.hex.proofs.HexLemmas.{length-encode_with, decode_sized-encode_lower, decode_sized-ok, decode_sized-twice, decode_of-ok}
+use Rattle.hex.specs.declared.error.FromHexError.{FromHexError}
+use Rattle.bng_spell.specs.Fields.{octets_text}
 use Rattle.bng_spell.specs.Kept.{AreOctets}
 use Rattle.bng_spell.specs.FieldNames.{are_bytes}
 use Rattle.bng_spell.proofs.Spellings.{encode_append}
@@ -45,3 +49,26 @@ decoded field octets n p len e = ap (λ (t : List ℕ). decode_sized t n) e ∙ 
 pub are_octets : (octets : List ℕ) → ((i : ℕ) → slice_index octets i < 256) → AreOctets octets
 are_octets [] h = tt
 are_octets (b ∷ octets) h = (h 0, are_octets octets (λ i. h (suc i)))
+
+-- no octets have no digits
+pub no_digits : ◌≡◌ {A = List ℕ} [] (encode_lower [])
+unfolding encode_with
+no_digits = refl
+
+-- what is decoded are octets
+pub decoded_octets : (field out : List ℕ) (n : ℕ) (r : Result Unit FromHexError) (d : Result (List ℕ) FromHexError) → decode_sized field n ≡ d
+    → MatchResult d (λ (bytes : List ℕ). (r ≡ Ok tt) × (out ≡ bytes)) (λ (e : FromHexError). r ≡ Err e) → is_ok r ≡ true → AreOctets out
+decoded_octets field out n r (Ok bytes) e m t =
+    let twice = decode_sized-ok field n bytes e in
+    let whole = decode_of-ok field bytes (sym (decode_sized-twice field n twice) ∙ e) in
+    subst AreOctets (sym m.1) (are_octets bytes whole.3)
+decoded_octets field out n r (Err x) e m t = absurd (false≢true (sym (ap (λ (s : Result Unit FromHexError). is_ok s) m) ∙ t))
+
+-- octets that are no dash are their digits
+pub octets_are_digits : (field bytes : List ℕ) → (field ≡ codes "-" → ⊥) → field ≡ octets_text bytes → (field ≡ encode_lower bytes) × (length field ≡ 2 * length bytes) × (0 < length bytes)
+octets_are_digits field [] differ e = absurd (differ e)
+octets_are_digits field (b ∷ bytes) differ e = (e, ap length e ∙ digits_length (b ∷ bytes), omega arith)
+
+pub digits_are_octets : (bytes : List ℕ) → 0 < length bytes → encode_lower bytes ≡ octets_text bytes
+digits_are_octets [] h = absurd (omega arith)
+digits_are_octets (b ∷ bytes) h = refl

@@ -103,17 +103,12 @@ until_found stop name whole at n h some e =
     sum_is : (a m : ℕ) → a + suc m ≡ a + m + 1
     sum_is a m = omega arith
 
-pub literal_found : (whole word : List ℕ) (at : ℕ) → at ≤ length whole → length word ≤ length (drop at whole) → take (length word) (drop at whole) ≡ word → Stands whole at word (at + length word)
-literal_found whole word at h l e = record {
-  is = sym (take-append-drop (length word) (drop at whole)) ∙ ap (λ (x : List ℕ). x ++ drop (length word) (drop at whole)) e ∙ ap (λ (x : List ℕ). word ++ x) (drop-drop (length word) at whole);
-  within = omega (arith, l, length-drop at whole);
+-- a word with which the rest begins stands there
+pub literal_found : (whole word rest : List ℕ) (at : ℕ) → at ≤ length whole → rest ≡ drop at whole → length word ≤ length rest → rest ≡ word ++ drop (length word) rest → Stands whole at word (at + length word)
+literal_found whole word rest at h is l e = record {
+  is = sym is ∙ e ∙ ap (λ (x : List ℕ). word ++ drop (length word) x) is ∙ ap (λ (x : List ℕ). word ++ x) (drop-drop (length word) at whole);
+  within = omega (arith, l, ap length is, length-drop at whole);
 }
-
-pub literal_short : (d word rest : List ℕ) → length d < length word → d ≢ word ++ rest
-literal_short d word rest h e = omega (arith, h, ap length e, length-append word rest)
-
-pub literal_other : (d word rest : List ℕ) → (take (length word) d ≡ word → ⊥) → d ≢ word ++ rest
-literal_other d word rest never e = never (ap (take (length word)) e ∙ take_at word rest (length word) refl)
 
 -- how far a text reaches
 pub stands_on : (whole text : List ℕ) (at next : ℕ) → at ≤ length whole → Stands whole at text next → next ≡ at + length text

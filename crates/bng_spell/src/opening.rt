@@ -8,7 +8,7 @@ ghost use Rattle.bng_spell.specs.Texts.{opening_text};
 
 use crate::fields::Long;
 use crate::octets::{Fixed, are_digits};
-use crate::piece::{Piece, Until, literal, place_of};
+use crate::piece::{Piece, Until, literal, place_of, rest_of};
 use hex::FromHexError;
 use std::alloc::{AllocError, Global};
 
@@ -44,7 +44,7 @@ fn octets_line(
     ensures found { IfOk result (λ r. IfSome r (λ p. AreOctets p.0.items × Stands whole.now at (octets_line_text p.0.items) p.1)) }
     ensures none { IfOk result (λ r. IfNone r (Lacks AreOctets octets_line_text whole.now at)) }
 {
-    let rest = &whole[at..];
+    let rest = rest_of(whole, at);
     let Some(length) = place_of(rest, 10) else {
         return Ok(None);
     };

@@ -38,11 +38,19 @@ impl<T: Token, const STOP: u8> Piece for Until<T, STOP> {
         if !is_separator(STOP) {
             return None;
         }
-        let rest = &whole[at..];
+        let rest = rest_of(whole, at);
         let length = place_of(rest, STOP)?;
         let value = T::of(&rest[..length])?;
         Some((Until(value), at + length + 1))
     }
+}
+
+/// What stands from this place on.
+pub(crate) fn rest_of(whole: &[u8], at: usize) -> &[u8]
+    requires { at ≤ length whole.now }
+    ensures { result.now ≡ drop at whole.now }
+{
+    &whole[at..]
 }
 
 /// The place of the first of this octet.
@@ -81,11 +89,8 @@ pub(crate) fn literal(whole: &[u8], at: usize, text: &[u8]) -> Option<usize>
     ensures found { IfSome result (λ next. Stands whole.now at text.now next) }
     ensures none { IfNone result ((rest : List ℕ) → drop at whole.now ≢ text.now ++ rest) }
 {
-    let rest = &whole[at..];
-    if rest.len() < text.len() {
-        return None;
-    }
-    if &rest[..text.len()] == text {
+    let rest = rest_of(whole, at);
+    if rest.starts_with(text) {
         Some(at + text.len())
     } else {
         None

@@ -1,13 +1,16 @@
-use Rattle.std.proofs.Common.{◌≡◌, ℕ, List, length, take, drop, rules, arith}
-use Rattle.bng_spell.proofs.Reading.{literal_found, literal_other}
+use Rattle.std.proofs.Common.{sym, ◌∙◌, arith}
+use Rattle.std.proofs.lemmas.Bool.{false≢true}
+use Rattle.std.proofs.lemmas.Bool.Decides.{Decides-eqb}
+use Rattle.std.proofs.lemmas.Slice.Eq.{starts_is}
+use Rattle.bng_spell.proofs.Reading.{literal_found}
 use Rattle.bng_spell.proofs.piece.literal.Goals as goal
 
-pub returns-then-eq-clause-found : goal.returns-then-eq-clause-found
-returns-then-eq-clause-found c =
-    let same : take (length c.args.text.now) (drop c.args.at c.args.whole.now) ≡ c.args.text.now = search (rules, c.eq.ensures, c.if-eq.true) in
-    literal_found c.args.whole.now c.args.text.now c.args.at c.requires (omega (arith, c.if-rest-text.false)) same
+pub returns-then-starts_with-clause-found : goal.returns-then-starts_with-clause-found
+returns-then-starts_with-clause-found c =
+    let starts = starts_is Decides-eqb c.rest_of-rest.result.now c.args.text.now c.starts_with.result c.starts_with.ensures.value in
+    literal_found c.args.whole.now c.args.text.now c.rest_of-rest.result.now c.args.at c.requires c.rest_of-rest.ensures (c.starts_with.ensures.bound c.if-starts_with.true) (starts.0 c.if-starts_with.true)
 
-pub returns-else-eq-clause-none : goal.returns-else-eq-clause-none
-returns-else-eq-clause-none c =
-    let differ : take (length c.args.text.now) (drop c.args.at c.args.whole.now) ≡ c.args.text.now → ⊥ = search (rules, c.eq.ensures, c.if-eq.false) in
-    λ rest e. literal_other (drop c.args.at c.args.whole.now) c.args.text.now rest differ e
+pub returns-else-starts_with-clause-none : goal.returns-else-starts_with-clause-none
+returns-else-starts_with-clause-none c =
+    let starts = starts_is Decides-eqb c.rest_of-rest.result.now c.args.text.now c.starts_with.result c.starts_with.ensures.value in
+    λ rest e. false≢true (sym c.if-starts_with.false ∙ starts.1 rest (c.rest_of-rest.ensures ∙ e))
