@@ -72,3 +72,9 @@ octets_are_digits field (b ∷ bytes) differ e = (e, ap length e ∙ digits_leng
 pub digits_are_octets : (bytes : List ℕ) → 0 < length bytes → encode_lower bytes ≡ octets_text bytes
 digits_are_octets [] h = absurd (omega arith)
 digits_are_octets (b ∷ bytes) h = refl
+
+-- octets that were put together are those that were read
+pub octets_found : (field octets made : List ℕ) (n : ℕ) → n ≤ 4160 → AreOctets (take n octets) → field ≡ octets_text (take n octets) → made ≡ take n octets
+    → (AreOctets made × (length made ≤ 4160)) × (field ≡ octets_text made)
+octets_found field octets made n most p e same =
+    ((subst AreOctets (sym same) p, omega (arith, most, ap length same, length-take n octets)), e ∙ ap (λ (t : List ℕ). octets_text t) (sym same))

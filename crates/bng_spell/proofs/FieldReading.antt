@@ -3,6 +3,7 @@ use Rattle.std.proofs.Common.{◌≡◌, ◌≢◌, ℕ, ◌/◌, ◌%◌, ◌^�
 use Rattle.std.specs.Prelude.{codes}
 use Rattle.std.specs.Fmt.{decimal}
 use Rattle.std.proofs.lemmas.List.{append_cancel_left}
+use Rattle.std.proofs.lemmas.Fmt.{decimal_injective}
 use Rattle.bng_base.specs.declared.address.Ip4.{Ip4}
 use Rattle.bng_base.specs.declared.address.Peer.{Peer}
 use Rattle.bng_base.specs.declared.item.Claim.{Claim}
@@ -10,6 +11,8 @@ use Rattle.bng_base.specs.declared.item.Claim.TheVariants.{NoClaim, Claimed, Hel
 use Rattle.bng_spell.specs.Fields.{address_text, peer_text, claim_text}
 use Rattle.bng_spell.specs.Kept.{IsAddress, IsPeer, IsClaim}
 use Rattle.bng_spell.specs.Standing.{Stands, Lacks}
+use Rattle.bng_spell.specs.Codes.{until_once}
+use Rattle.bng_spell.specs.FieldNames.{decimal_plain}
 use Rattle.bng_spell.specs.Addresses.{address_parts, address_is, peer_is, first_same}
 use Rattle.bng_spell.proofs.Reading.{stands_as, stands_both}
 
@@ -90,3 +93,13 @@ short_fits n h = (omega arith, omega arith)
 
 pub long_fits : (n : ℕ) → n < 2 ^ 64 → (n ≤ 18446744073709551615) × (n < 2 ^ 64)
 long_fits n h = (omega arith, h)
+
+pub below_short : (n : ℕ) → n ≤ 65535 → n < 2 ^ 16
+below_short n h = omega arith
+
+-- texts that begin alike with a number begin with the same one
+pub first_number : (m n : ℕ) (d s t x y : List ℕ) → m < 2 ^ 64 → n < 2 ^ 64 → d ≡ ((decimal m ++ 32 ∷ []) ++ s) ++ x → d ≡ ((decimal n ++ 32 ∷ []) ++ t) ++ y → m ≡ n
+first_number m n d s t x y f g e h =
+    let r = until_once 32 (decimal m) (decimal n) (s ++ x) (t ++ y) refl (decimal_plain m f) (decimal_plain n g)
+    (sym (append_assoc (decimal m ++ 32 ∷ []) s x) ∙ sym e ∙ h ∙ append_assoc (decimal n ++ 32 ∷ []) t y) in
+    decimal_injective m n f g r.0

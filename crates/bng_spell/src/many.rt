@@ -35,6 +35,15 @@ pub(crate) struct Within {
     pub(crate) moment: u64,
 }
 
+impl Within {
+    fn own_shard(self) -> u64
+        ensures is { result ≡ self.shard }
+        ensures small { result < 2 ^ 64 }
+    {
+        self.shard
+    }
+}
+
 /// A line that is repeated.
 pub(crate) trait Line: Drop {
     ghost use Rattle.bng_spell.specs.declared.many.Within.{Within};
@@ -79,6 +88,7 @@ impl Line for Entry {
     ghost some = { λ _ v. some_suc _ };
 
     fn read_line(within: Within, whole: &[u8], at: usize) -> Option<(Entry, usize)> {
+        let wanted = within.own_shard();
         let at = literal(whole, at, b"entry ")?;
         let (fields, next) = <(
             Long,
@@ -86,7 +96,7 @@ impl Line for Entry {
         )>::read(whole, at)?;
         let (shard, (seat, (place, fields))) = fields;
         let (kind, (from, (cut, (target, (ask, (random, (frame, claim))))))) = fields;
-        if shard.0.0 != within.shard {
+        if shard.0.0 != wanted {
             return None;
         }
         let random = random.0.0;

@@ -1,7 +1,9 @@
 use Rattle.std.proofs.Common.{refl, ◌∙◌}
 use Rattle.std.specs.Prelude.{codes}
+use Rattle.bng_base.specs.declared.item.Loose.{Loose}
+use Rattle.bng_spell.specs.Lines.{loose_line}
 use Rattle.bng_spell.proofs.LineCodes.{loose_is}
-use Rattle.bng_spell.proofs.FieldReading.{behind, short_fits, long_fits}
+use Rattle.bng_spell.proofs.FieldReading.{behind, short_fits, long_fits, below_short, line_stands}
 use Rattle.bng_spell.proofs.many.LooseLine.read_line.Goals as goal
 
 pub returns-in_err-fields-clause-none : goal.returns-in_err-fields-clause-none
@@ -31,3 +33,32 @@ returns-in_err-fields-clause-none c = rw c.from_residual-in_err-fields.ensures (
       ),
     )
     (behind c.args.whole.now (codes "loose ") _ c.args.at c.in_ok-at.at c.in_ok-at.ensures.found (q ∙ loose_is l rest)))
+
+pub returns-clause-found : goal.returns-clause-found
+returns-clause-found c =
+    let x = c.in_ok-fields.fields in
+    let f = c.in_ok-fields.ensures.found.0 in
+    let y = x.1.1 in
+    let i = f.1.1 in
+    let l : Loose = record {
+      seat = x.0.0.0;
+      place = x.1.0.0.0;
+      item = record { kind = y.0.0; from = y.1.0; frame = y.1.1.1.1.1.1.0.0; cut = y.1.1.0.0; random = y.1.1.1.1.1.0.0.0; target = y.1.1.1.0.0.0; ask = y.1.1.1.1.0.0.0 };
+      fate = y.1.1.1.1.1.1.1.0;
+    } in
+    (
+    record {
+      seat = below_short x.0.0.0 f.0.0.0;
+      place = below_short x.1.0.0.0 f.1.0.0.0;
+      item = record {
+        kind = i.0.0;
+        from = i.1.0;
+        target = below_short y.1.1.1.0.0.0 i.1.1.1.0.0.0;
+        ask = i.1.1.1.1.0.0.1;
+        random = i.1.1.1.1.1.0.0.0;
+        sixteen = i.1.1.1.1.1.0.0.1;
+        frame = i.1.1.1.1.1.1.0.0;
+      };
+    },
+    line_stands c.args.whole.now (codes "loose ") _ (loose_line l) c.args.at c.in_ok-at.at c.in_ok-fields.next (loose_is l) c.in_ok-at.ensures.found c.in_ok-fields.ensures.found.1,
+    )
