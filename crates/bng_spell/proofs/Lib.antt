@@ -8,4 +8,5 @@ pub mod Reading
 pub mod Digits
 pub mod FieldReading
 pub mod Rounds
+pub mod Openings
 pub mod NumberLines
