@@ -10,3 +10,4 @@ pub mod FieldReading
 pub mod Rounds
 pub mod Openings
 pub mod NumberLines
+pub mod OctetLines

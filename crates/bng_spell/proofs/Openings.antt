@@ -43,3 +43,13 @@ no_configuration text mid next now wall seed fn fw fs s t never o rest f e =
     let fields = behind text (codes "bng-trace 1\nopened ") _ 0 mid s (e ∙ opening_parted o rest) in
     let head = head_code.once (now, (wall, seed)) (o.now, (o.wall, o.seed)) (drop next text) _ (fn, (fw, fs)) (f.now, (f.wall, f.seed)) (sym t.is ∙ fields) in
     never o.configuration rest f.configuration head.1
+
+-- an opening whose parts stand one behind the other stands there
+pub opening_stands : (o : OpeningView) (text : List ℕ) (mid last next : ℕ) → Stands text 0 (codes "bng-trace 1\nopened ") mid → Stands text mid (head_fields o.now o.wall o.seed) last
+    → Stands text last (octets_line_text o.configuration) next → Stands text 0 (opening_text o) next
+opening_stands o text mid last next p q r = record {
+  is =
+      p.is ∙ ap (λ (t : List ℕ). codes "bng-trace 1\nopened " ++ t) (q.is ∙ ap (λ (t : List ℕ). head_fields o.now o.wall o.seed ++ t) r.is)
+      ∙ sym (opening_parted o (drop next text));
+  within = r.within;
+}
