@@ -1,11 +1,11 @@
 -- The numbers of a line, as they are read.
-use Rattle.std.proofs.Common.{◌≡◌, ◌≢◌, ℕ, ◌^◌, ◌<◌, List, [], ◌∷◌, ◌++◌, length, drop, refl, sym, ap, subst, ◌∙◌, append_assoc, append-nil, arith}
+use Rattle.std.proofs.Common.{◌≡◌, ◌≢◌, ℕ, ◌^◌, ◌<◌, ◌≤◌, List, [], ◌∷◌, ◌++◌, length, drop, refl, sym, ap, subst, ◌∙◌, append_assoc, append-nil, arith}
 use Rattle.std.specs.Prelude.{codes}
 use Rattle.std.specs.Fmt.{decimal}
 use Rattle.std.specs.List.{AllByRecursion, flat_map}
 use Rattle.std.proofs.lemmas.Fmt.{decimal_injective}
 use Rattle.bng_base.specs.Pieces.{IsCode}
-use Rattle.bng_base.proofs.PieceLaws.{Stuck}
+use Rattle.bng_base.proofs.PieceLaws.{Stuck, AllByRecursion-push}
 use Rattle.bng_spell.specs.Fields.{numbers_text}
 use Rattle.bng_spell.specs.Standing.{Stands, Lacks}
 use Rattle.bng_spell.specs.Many.{AreLines}
@@ -84,3 +84,13 @@ no_numbers_line whole at mid ns dash a never (n ∷ all) rest f e =
     ∙ append_assoc (flat_map comma_behind parts.front) (decimal parts.last ++ 10 ∷ []) rest in
     let once = lines_once IsShort comma_behind numbers_code whole at mid ns parts.front ((decimal parts.last ++ 10 ∷ []) ++ rest) a fits.0 (no_comma parts.last rest fits.1) text in
     never parts.last rest fits.1 once.1
+
+-- numbers stand where their last one does
+pub numbers_found : (whole : List ℕ) (at mid next : ℕ) (ns all : List ℕ) (l : ℕ) → all ≡ ns ++ l ∷ [] → l ≤ 4294967295 → AreLines IsShort comma_behind whole at ns mid
+    → Stands whole mid (decimal l ++ 10 ∷ []) next → AreNumbers all × Stands whole at (numbers_text all ++ 10 ∷ []) next
+numbers_found whole at mid next ns all l e most a s =
+    subst (λ (t : List ℕ). AreNumbers t × Stands whole at (numbers_text t ++ 10 ∷ []) next) (sym e)
+    (AllByRecursion-push IsShort comma_behind ns l a.fit (below most), numbers_stand whole at mid next ns l a s)
+  where
+    below : l ≤ 4294967295 → l < 2 ^ 32
+    below h = omega arith

@@ -1,6 +1,7 @@
 -- Octets up to the line's end, as they are read.
-use Rattle.std.proofs.Common.{◌≡◌, ◌≢◌, ℕ, ◌+◌, ◌<◌, ◌≤◌, ◌==◌, List, [], ◌∷◌, ◌++◌, None, Some, length, take, drop, refl, sym, ap, subst, ◌∙◌}
+use Rattle.std.proofs.Common.{◌≡◌, ◌≢◌, ℕ, ◌+◌, ◌<◌, ◌≤◌, ◌==◌, List, [], ◌∷◌, ◌++◌, Bool, true, false, None, Some, length, take, drop, refl, sym, ap, subst, ◌∙◌, arith}
 use Rattle.std.specs.Prelude.{Result, Ok, Err, codes, position}
+use Rattle.std.proofs.lemmas.Bool.{eqb-true, false≢true}
 use Rattle.hex.specs.Hex.{encode_lower, decode_of}
 use Rattle.hex.proofs.HexLemmas.{decode_of-encode_lower, decode_of-ok, decode_of-same}
 use Rattle.hex.specs.declared.error.FromHexError.{FromHexError}
@@ -53,3 +54,11 @@ octets_decoded field octets d = let all = decode_of-ok field octets d in are_oct
 
 pub octets_told : (field octets : List ℕ) → 0 < length octets → field ≡ encode_lower octets → field ≡ octets_text octets
 octets_told field octets some e = e ∙ digits_are_octets octets some
+
+-- whether there are any octets
+pub some_octets : (octets : List ℕ) (b : Bool) → b ≡ (length octets == 0) → b ≡ false → 0 < length octets
+some_octets [] b e f = absurd (false≢true (sym f ∙ e))
+some_octets (c ∷ octets) b e f = omega arith
+
+pub no_octets_left : (octets : List ℕ) (b : Bool) → b ≡ (length octets == 0) → b ≡ true → 0 < length octets → ⊥
+no_octets_left octets b e t some = let none = eqb-true (length octets) 0 (sym e ∙ t) in omega (arith, none, some)

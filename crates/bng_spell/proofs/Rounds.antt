@@ -197,3 +197,29 @@ round_fits r whole at mid last h b order = record {
   refused = b.refused_lines.fit;
   outs = b.out_lines.fit;
 }
+
+pub head_of : (whole : List ℕ) (at word_end numbers_at next number moment wall : ℕ) (allowances : List ℕ) → number < 2 ^ 64 → moment < 2 ^ 64 → wall < 2 ^ 64 → length allowances < 2 ^ 64
+    → AreNumbers allowances → Stands whole at (codes "round ") word_end
+    → Stands whole word_end ((decimal number ++ 32 ∷ []) ++ ((decimal moment ++ 32 ∷ []) ++ (decimal wall ++ 32 ∷ []))) numbers_at
+    → Stands whole numbers_at (numbers_text allowances ++ 10 ∷ []) next → Head whole at next number moment wall allowances
+head_of whole at word_end numbers_at next number moment wall allowances fn fm fw few fit word numbers last = record {
+  number_fits = fn;
+  moment_fits = fm;
+  wall_fits = fw;
+  few = few;
+  fit = fit;
+  word_end = word_end;
+  word = word;
+  numbers_at = numbers_at;
+  numbers = numbers;
+  last = last;
+}
+
+-- a round of these parts is kept and stands there
+pub round_found : (r : RoundRecord) (whole : List ℕ) (at mid last next : ℕ) (ns : List ℕ) (js : List (List Entry)) (l : List Loose) (a : List Item) (o : List OutRecord) → r.allowances ≡ ns
+    → r.journals ≡ js → r.loose ≡ l → r.refused ≡ a → r.outs ≡ o → Head whole at mid r.number r.moment r.wall ns → mid ≤ length whole → Body whole mid last r.moment ns js l a o → AreInOrder l
+    → Stands whole last (codes "end\n") next → IsKept r × Stands whole at (round_text r) next
+round_found r whole at mid last next ns js l a o en ej el ea eo h within b order s =
+    let head : Head whole at mid r.number r.moment r.wall r.allowances = rw en h in
+    let body : Body whole mid last r.moment r.allowances r.journals r.loose r.refused r.outs = rw (en, ej, el, ea, eo) b in
+    (round_fits r whole at mid last head body (subst AreInOrder (sym el) order), round_stands r whole at mid last next head within body s)
