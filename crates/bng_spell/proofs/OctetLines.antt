@@ -1,10 +1,11 @@
 -- Octets up to the line's end, as they are read.
-use Rattle.std.proofs.Common.{◌≡◌, ◌≢◌, ℕ, ◌+◌, ◌<◌, ◌≤◌, ◌==◌, List, [], ◌∷◌, ◌++◌, Bool, true, false, None, Some, length, take, drop, refl, sym, ap, subst, ◌∙◌, arith}
+use Rattle.std.proofs.Common.{◌≡◌, ◌≢◌, ℕ, ◌+◌, ◌<◌, ◌≤◌, ◌==◌, List, [], ◌∷◌, ◌++◌, Bool, true, false, None, Some, ◌⊎◌, inl, inr, length, take, drop, refl, sym, ap, subst, ◌∙◌, arith}
 use Rattle.std.specs.Prelude.{Result, Ok, Err, codes, position}
 use Rattle.std.proofs.lemmas.Bool.{eqb-true, false≢true}
 use Rattle.hex.specs.Hex.{encode_lower, decode_of}
 use Rattle.hex.proofs.HexLemmas.{decode_of-encode_lower, decode_of-ok, decode_of-same}
 use Rattle.hex.specs.declared.error.FromHexError.{FromHexError}
+use Rattle.hex.specs.declared.error.FromHexError.TheVariants.{OutOfMemory}
 use Rattle.bng_spell.specs.Fields.{octets_text}
 use Rattle.bng_spell.specs.Kept.{AreOctets}
 use Rattle.bng_spell.specs.FieldNames.{are_bytes, octets_plain}
@@ -35,9 +36,11 @@ refused_apart : (x : FromHexError) (octets : List ℕ) (r : Result (List ℕ) Fr
 refused_apart x octets r d e = cc
 
 -- what is no dash and is not decoded is no octets' line
-pub not_decoded : (field : List ℕ) (x : FromHexError) → (field ≡ codes "-" → ⊥) → decode_of field ≡ Err x → (octets : List ℕ) → AreOctets octets → field ≢ octets_text octets
-not_decoded field x differ d octets p e =
-    let digits = octets_are_digits field octets differ e in
+pub not_decoded : (field : List ℕ) (x : FromHexError) → (field ≡ codes "-" → ⊥) → (x ≡ OutOfMemory → ⊥) → (x ≡ OutOfMemory) ⊎ (decode_of field ≡ Err x) → (octets : List ℕ) → AreOctets octets
+    → field ≢ octets_text octets
+not_decoded field x differ other (inl e) octets p f = absurd (other e)
+not_decoded field x differ other (inr d) octets p f =
+    let digits = octets_are_digits field octets differ f in
     refused_apart x octets (decode_of field) d (digits_decoded field octets p digits.0)
 
 -- nor what is not the digits of what is decoded

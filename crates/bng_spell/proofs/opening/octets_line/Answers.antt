@@ -33,7 +33,7 @@ returns-then-are_digits-clause-found c =
     (
       octets_decoded field octets c.in-Ok.ensures.ok,
       octets_stand c.args.whole.now c.args.at n octets c.requires some
-      (ap (take n) (sym c.rest_of-rest.ensures) ∙ octets_told field octets (some_octets octets c.is_empty.result c.is_empty.ensures c.if-not-is_empty.true) digits),
+      (ap (take n) (sym c.rest_of-rest.ensures) ∙ octets_told field octets (some_octets octets c.is_empty.result (c.is_empty.ensures ∙ ap (λ (k : ℕ). k == 0) c.in-Ok.octets.ok.0) c.if-not-is_empty.true) digits),
     )
 
 pub returns-else-not-is_empty-clause-none : goal.returns-else-not-is_empty-clause-none
@@ -47,8 +47,23 @@ returns-else-not-is_empty-clause-none c =
     elim c.else-not-is_empty.branch [
       | else-not-is_empty-via-then-not-is_empty+else-are_digits w ↦
           λ h e. false≢true (sym w.if-are_digits.false ∙ w.are_digits.ensures.1 (e ∙ ap (λ (o : List ℕ). encode_lower o) (sym w.as_slice-then-not-is_empty.ensures.value)))
-      | else-not-is_empty-via-else-not-is_empty w ↦ λ h e. no_octets_left octets c.is_empty.result c.is_empty.ensures w.if-not-is_empty.false h
+      | else-not-is_empty-via-else-not-is_empty w ↦ λ h e. no_octets_left octets c.is_empty.result (c.is_empty.ensures ∙ ap (λ (k : ℕ). k == 0) c.in-Ok.octets.ok.0) w.if-not-is_empty.false h
     ] in
     no_octets c.args.whole.now c.args.at n some
     (λ bytes p e.
     other_digits field octets (λ h. false≢true (sym c.if-eq.false ∙ decides.1 (h ∙ sym c.as_slice.ensures))) c.in-Ok.ensures.ok never bytes p (ap (take n) c.rest_of-rest.ensures ∙ e))
+
+pub returns-in_default-error : goal.returns-in_default-error
+returns-in_default-error c =
+    let n = c.in-Some.length in
+    let field = take n c.rest_of-rest.result.now in
+    let some = sym c.in-Some.is ∙ c.place_of.ensures ∙ ap (position (λ (k : ℕ). k == 10)) c.rest_of-rest.ensures in
+    let decides = slice_eq-Decides Decides-eqb field c.as_slice.result.now c.eq.result c.eq.ensures in
+    record {
+      found = tt;
+      none =
+          no_octets c.args.whole.now c.args.at n some
+          (λ bytes p e.
+          not_decoded field c.in-Err.error (λ h. false≢true (sym c.if-eq.false ∙ decides.1 (h ∙ sym c.as_slice.ensures))) c.in_default-error.not-OutOfMemory c.in-Err.ensures.err bytes p
+          (ap (take n) c.rest_of-rest.ensures ∙ e));
+    }

@@ -30,14 +30,14 @@ returns-in_default-literal-clause-none c =
     let x = c.in-Some-read.fields in
     let found = c.in-Some-read.ensures.found in
     let numbers = rw c.in-Some-2.is at c.in_ok-allowances.ensures.found in
-    let few : length c.in-Some-2.allowances.items < 2 ^ 64 = ?few in
+    let few : length c.in-Some-2.allowances.items < 2 ^ 64 = omega (arith, c.in-Some-2.allowances.ok, c.in-Some-2.allowances.small) in
     let head = head_of c.args.text.now c.args.at c.in-Some.at c.in-Some-read.at c.in-Some-2.at x.0.0.0 x.1.0.0.0 x.1.1.0.0 c.in-Some-2.allowances.items found.0.0.0.1 found.0.1.0.0.1 found.0.1.1.0.1 few numbers.0
     c.in-Some.ensures.found found.1 numbers.1 in
     no_end c.args.text.now c.args.at c.in-Some-2.at c.in_ok-outs.at x.0.0.0 x.1.0.0.0 x.1.1.0.0 c.in-Some-2.allowances.items c.in_ok-journals.journals.items c.in_ok-loose.loose.items c.in_ok-refused.refused.items
     c.in_ok-outs.outs.items head
     (record {
       entries_end = c.in_ok-journals.at;
-      entries = (c.in_ok-journals.ensures.0 ∙ c.len.ensures, c.in_ok-journals.ensures.1);
+      entries = (c.in_ok-journals.ensures.0 ∙ c.len.ensures ∙ c.in-Some-2.allowances.ok.0, c.in_ok-journals.ensures.1);
       loose_end = c.in_ok-loose.at;
       loose_lines = c.in_ok-loose.ensures;
       refused_end = c.in_ok-refused.at;
@@ -51,14 +51,14 @@ returns-then-not-are_in_order-clause-none c =
     let x = c.in-Some-read.fields in
     let found = c.in-Some-read.ensures.found in
     let numbers = rw c.in-Some-2.is at c.in_ok-allowances.ensures.found in
-    let few : length c.in-Some-2.allowances.items < 2 ^ 64 = ?few in
+    let few : length c.in-Some-2.allowances.items < 2 ^ 64 = omega (arith, c.in-Some-2.allowances.ok, c.in-Some-2.allowances.small) in
     let head = head_of c.args.text.now c.args.at c.in-Some.at c.in-Some-read.at c.in-Some-2.at x.0.0.0 x.1.0.0.0 x.1.1.0.0 c.in-Some-2.allowances.items found.0.0.0.1 found.0.1.0.0.1 found.0.1.1.0.1 few numbers.0
     c.in-Some.ensures.found found.1 numbers.1 in
     no_order c.args.text.now c.args.at c.in-Some-2.at c.in_ok-outs.at x.0.0.0 x.1.0.0.0 x.1.1.0.0 c.in-Some-2.allowances.items c.in_ok-journals.journals.items c.in_ok-loose.loose.items c.in_ok-refused.refused.items
     c.in_ok-outs.outs.items head
     (record {
       entries_end = c.in_ok-journals.at;
-      entries = (c.in_ok-journals.ensures.0 ∙ c.len.ensures, c.in_ok-journals.ensures.1);
+      entries = (c.in_ok-journals.ensures.0 ∙ c.len.ensures ∙ c.in-Some-2.allowances.ok.0, c.in_ok-journals.ensures.1);
       loose_end = c.in_ok-loose.at;
       loose_lines = c.in_ok-loose.ensures;
       refused_end = c.in_ok-refused.at;
@@ -72,7 +72,7 @@ returns-clause-found c =
     let x = c.in-Some-read.fields in
     let found = c.in-Some-read.ensures.found in
     let numbers = rw c.in-Some-2.is at c.in_ok-allowances.ensures.found in
-    let few : length c.in-Some-2.allowances.items < 2 ^ 64 = ?few in
+    let few : length c.in-Some-2.allowances.items < 2 ^ 64 = omega (arith, c.in-Some-2.allowances.ok, c.in-Some-2.allowances.small) in
     let head = head_of c.args.text.now c.args.at c.in-Some.at c.in-Some-read.at c.in-Some-2.at x.0.0.0 x.1.0.0.0 x.1.1.0.0 c.in-Some-2.allowances.items found.0.0.0.1 found.0.1.0.0.1 found.0.1.1.0.1 few numbers.0
     c.in-Some.ensures.found found.1 numbers.1 in
     round_found
@@ -90,7 +90,7 @@ returns-clause-found c =
     c.in_ok-outs.outs.items c.of.ensures c.of-2.ensures c.of-3.ensures c.of-5.ensures c.of-4.ensures head numbers.1.within
     (record {
       entries_end = c.in_ok-journals.at;
-      entries = (c.in_ok-journals.ensures.0 ∙ c.len.ensures, c.in_ok-journals.ensures.1);
+      entries = (c.in_ok-journals.ensures.0 ∙ c.len.ensures ∙ c.in-Some-2.allowances.ok.0, c.in_ok-journals.ensures.1);
       loose_end = c.in_ok-loose.at;
       loose_lines = c.in_ok-loose.ensures;
       refused_end = c.in_ok-refused.at;
