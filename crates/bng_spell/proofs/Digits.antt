@@ -1,13 +1,12 @@
 -- Hexadecimal digits, as they are read.
-use Rattle.std.proofs.Common.{◌≡◌, ℕ, zero, suc, ◌+◌, ◌-◌, ◌*◌, ◌<◌, ◌≤◌, List, [], ◌∷◌, ◌++◌, length, take, drop, get_or, slice_index, refl, sym, ap, subst, ◌∙◌, arith}
+use Rattle.std.proofs.Common.{◌≡◌, ℕ, suc, ◌-◌, ◌*◌, ◌<◌, ◌≤◌, List, [], ◌∷◌, ◌++◌, length, take, drop, slice_index, refl, sym, ap, subst, ◌∙◌, arith}
 use Rattle.std.specs.Prelude.{Result, Ok, Err, codes, true}
 use Rattle.std.specs.Result.{is_ok, MatchResult}
 use Rattle.std.proofs.lemmas.Bool.{false≢true}
-use Rattle.std.specs.List.{between, AllByRecursion}
-use Rattle.std.proofs.lemmas.List.{take-append-drop, take-take, length-take, take_at, drop_at}
+use Rattle.std.specs.List.{between}
+use Rattle.std.proofs.lemmas.List.{length-take, take_at, drop_at}
 use Rattle.std.proofs.lemmas.List.Edits.{split_between, length-between}
-use Rattle.std.proofs.lemmas.Slice.{between_is}
-use Rattle.hex.specs.Hex.{encode_lower, encode_with, lower_digits, decode_sized, decode_of}
+use Rattle.hex.specs.Hex.{encode_lower, encode_with, lower_digits, decode_sized}
 use Rattle.hex.proofs.HexLemmas.{length-encode_with, decode_sized-encode_lower, decode_sized-ok, decode_sized-twice, decode_of-ok}
 use Rattle.hex.specs.declared.error.FromHexError.{FromHexError}
 use Rattle.bng_spell.specs.Fields.{octets_text}

@@ -1,5 +1,5 @@
 -- Addresses, peers, claims and lines, as they are read.
-use Rattle.std.proofs.Common.{◌≡◌, ◌≢◌, ℕ, ◌/◌, ◌%◌, ◌^◌, ◌<◌, ◌≤◌, List, [], ◌∷◌, ◌++◌, drop, refl, sym, ap, subst, ◌∙◌, append_assoc, arith}
+use Rattle.std.proofs.Common.{◌≡◌, ◌≢◌, ℕ, ◌/◌, ◌%◌, ◌^◌, ◌<◌, ◌≤◌, List, [], ◌∷◌, ◌++◌, drop, refl, sym, ap, ◌∙◌, append_assoc, arith}
 use Rattle.std.specs.Prelude.{codes}
 use Rattle.std.specs.Fmt.{decimal}
 use Rattle.std.proofs.lemmas.List.{append_cancel_left}
@@ -9,12 +9,12 @@ use Rattle.bng_base.specs.declared.address.Peer.{Peer}
 use Rattle.bng_base.specs.declared.item.Claim.{Claim}
 use Rattle.bng_base.specs.declared.item.Claim.TheVariants.{NoClaim, Claimed, Held, Exhausted}
 use Rattle.bng_spell.specs.Fields.{address_text, peer_text, claim_text}
-use Rattle.bng_spell.specs.Kept.{IsAddress, IsPeer, IsClaim}
+use Rattle.bng_spell.specs.Kept.{IsAddress, IsClaim}
 use Rattle.bng_spell.specs.Standing.{Stands, Lacks}
 use Rattle.bng_spell.specs.Codes.{until_once}
 use Rattle.bng_spell.specs.FieldNames.{decimal_plain}
 use Rattle.bng_spell.specs.Addresses.{address_parts, address_is, peer_is, first_same}
-use Rattle.bng_spell.proofs.Reading.{stands_as, stands_both}
+use Rattle.bng_spell.proofs.Reading.{stands_as}
 
 -- an address and its separator as four numbers
 abbrev pub four_numbers : ℕ → ℕ → ℕ → ℕ → ℕ → List ℕ

@@ -1,15 +1,13 @@
 -- What is read stands there, and what is not read stands not there.
-use Rattle.std.proofs.Common.{◌≡◌, ◌≢◌, ℕ, zero, suc, ◌+◌, ◌-◌, ◌<◌, ◌≤◌, ◌==◌, List, [], ◌∷◌, ◌++◌, Bool, true, false, not, cond, Option, Some, None, ◌⊎◌, inl, inr, length, take, drop, refl, sym, ap, subst, ◌∙◌, append_assoc, length-append, length-drop, add-one, arith}
+use Rattle.std.proofs.Common.{◌≡◌, ◌≢◌, ℕ, suc, ◌+◌, ◌<◌, ◌≤◌, ◌==◌, List, [], ◌∷◌, ◌++◌, Bool, true, false, not, cond, Some, None, inl, inr, length, take, drop, refl, sym, ap, subst, ◌∙◌, append_assoc, length-append, length-drop, arith}
 use Rattle.std.specs.Prelude.{IsTrue, position, nat_lt}
-use Rattle.std.specs.List.{AllByRecursion, flat_map, prefix_len}
+use Rattle.std.specs.List.{flat_map, prefix_len}
 use Rattle.std.proofs.lemmas.Bool.{eqb-true, ltb-true, cases_Bool, cond-true, cond-false}
-use Rattle.std.proofs.lemmas.List.{take_at, drop_at, drop-drop, take-append-drop}
-use Rattle.std.proofs.lemmas.List.Concat.{flat_map-cons}
-use Rattle.bng_base.proofs.PieceLaws.{AllByRecursion-push, flat_map-push}
+use Rattle.std.proofs.lemmas.List.{take_at, drop-drop}
+use Rattle.bng_base.proofs.PieceLaws.{flat_map-push}
 use Rattle.bng_spell.specs.Plain.{is_separator, ArePlain}
 use Rattle.bng_spell.specs.Standing.{Stands, Lacks}
-use Rattle.bng_spell.specs.Codes.{AreNot, plain_are_not, position_stop, until_is}
-use Rattle.bng_spell.specs.Many.{AreLines}
+use Rattle.bng_spell.specs.Codes.{plain_are_not, position_stop, until_is}
 
 -- one text stands behind another
 pub stands_both : (whole : List ℕ) (at mid next : ℕ) (s t : List ℕ) → Stands whole at s mid → Stands whole mid t next → Stands whole at (s ++ t) next

@@ -1,10 +1,10 @@
 -- Lines that are repeated, and the last fields of lines.
-use Rattle.std.specs.Prelude.{◌≡◌, ◌+◌, ◌<◌, ℕ, List, [], ◌∷◌, ◌++◌, codes, drop, length}
+use Rattle.std.specs.Prelude.{◌≡◌, ◌+◌, ℕ, List, [], ◌∷◌, ◌++◌, codes, length}
 use Rattle.std.specs.List.{flat_map, AllByRecursion}
 use Rattle.bng_base.specs.declared.item.Entry.{Entry}
 use Rattle.bng_spell.specs.Fields.{numbers_text, octets_text}
 use Rattle.bng_spell.specs.Kept.{IsEntry}
-use Rattle.bng_spell.specs.Lines.{entry_line, entry_lines}
+use Rattle.bng_spell.specs.Lines.{entry_line}
 use Rattle.bng_spell.specs.Standing.{Stands, Lacks}
 
 -- these lines stand from this place on, and no further one behind them

@@ -1,4 +1,4 @@
-use Rattle.std.proofs.Common.{rules, arith}
+use Rattle.std.proofs.Common.{rules}
 use Rattle.bng_spell.specs.Pieces.{IsUnsigned}
 use Rattle.bng_spell.proofs.Decimals.{decimal_unsigned, reads_number}
 use Rattle.bng_spell.proofs.numbers.number_in.Goals as goal

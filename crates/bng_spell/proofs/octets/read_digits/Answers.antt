@@ -4,12 +4,11 @@ use Rattle.bng_spell.proofs.Digits.{decoded, decoded_octets}
 use Rattle.bng_spell.proofs.octets.read_digits.Goals as goal
 
 pub returns-then-is_ok-clause-found : goal.returns-then-is_ok-clause-found
-returns-then-is_ok-clause-found c = λ t.
-    (
-      decoded_octets c.args.field.now c.decode_to_slice.new.out (length c.args.octets.now) c.decode_to_slice.result (decode_sized c.args.field.now (length c.args.octets.now)) refl c.decode_to_slice.ensures.value
+returns-then-is_ok-clause-found c = λ t. (
+  decoded_octets c.args.field.now c.decode_to_slice.new.out (length c.args.octets.now) c.decode_to_slice.result (decode_sized c.args.field.now (length c.args.octets.now)) refl c.decode_to_slice.ensures.value
       (sym c.is_ok.ensures.value ∙ c.if-is_ok.true),
-      c.are_digits.ensures.0 t,
-    )
+  c.are_digits.ensures.0 t,
+)
 
 pub returns-then-is_ok-clause-all : goal.returns-then-is_ok-clause-all
 returns-then-is_ok-clause-all c = λ bytes p len e.

@@ -1,4 +1,4 @@
-use Rattle.std.proofs.Common.{◌≡◌, ◌+◌, ◌<◌, ◌==◌, ℕ, List, [], length, take, drop, ap, sym, subst, ◌∙◌}
+use Rattle.std.proofs.Common.{◌≡◌, ◌+◌, ◌<◌, ◌==◌, ℕ, List, [], length, take, ap, sym, subst, ◌∙◌}
 use Rattle.std.specs.Prelude.{position}
 use Rattle.std.proofs.lemmas.Bool.{false≢true}
 use Rattle.std.proofs.lemmas.Bool.Decides.{Decides-eqb}
@@ -29,11 +29,10 @@ returns-then-are_digits-clause-found c =
     let field = take n c.rest_of-rest.result.now in
     let octets = c.in-Ok.octets.items in
     let some = sym c.in-Some.is ∙ c.place_of.ensures ∙ ap (position (λ (k : ℕ). k == 10)) c.rest_of-rest.ensures in
-    let digits = c.are_digits.ensures.0 c.if-are_digits.true ∙ ap (λ (o : List ℕ). encode_lower o) c.as_slice-then-not-is_empty.ensures.value in
-    (
+    let digits = c.are_digits.ensures.0 c.if-are_digits.true ∙ ap (λ (o : List ℕ). encode_lower o) c.as_slice-then-not-is_empty.ensures.value in (
       octets_decoded field octets c.in-Ok.ensures.ok,
       octets_stand c.args.whole.now c.args.at n octets c.requires some
-      (ap (take n) (sym c.rest_of-rest.ensures) ∙ octets_told field octets (some_octets octets c.is_empty.result (c.is_empty.ensures ∙ ap (λ (k : ℕ). k == 0) c.in-Ok.octets.ok.0) c.if-not-is_empty.true) digits),
+          (ap (take n) (sym c.rest_of-rest.ensures) ∙ octets_told field octets (some_octets octets c.is_empty.result (c.is_empty.ensures ∙ ap (λ (k : ℕ). k == 0) c.in-Ok.octets.ok.0) c.if-not-is_empty.true) digits),
     )
 
 pub returns-else-not-is_empty-clause-none : goal.returns-else-not-is_empty-clause-none

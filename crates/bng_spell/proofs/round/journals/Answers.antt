@@ -16,13 +16,12 @@ loop-shard-preserved c =
     let count = c.loop-shard.invariant.0.0 in
     let items = c.in_ok-push.ensures.items ∙ ap (λ (j : List Entry). journals ++ j ∷ []) c.of.ensures in
     let lines : AreLines (IsEntry c.args.moment) (entry_line c.loop-shard.shard) whole next journal after = c.in_ok-journal.ensures in
-    let here : c.loop-shard.shard ≡ 0 + length journals = omega (arith, count) in
-    (
+    let here : c.loop-shard.shard ≡ 0 + length journals = omega (arith, count) in (
       (
         omega (arith, ap length items, length-append journals (journal ∷ []), count),
         subst (λ (js : List (List Entry)). AreJournalsFrom c.args.moment 0 whole c.args.at js after) (sym items)
-        (journals_push c.args.moment 0 whole c.args.at next after journals journal c.loop-shard.invariant.0.1
-        (subst (λ (k : ℕ). AreLines (IsEntry c.args.moment) (entry_line k) whole next journal after) here lines)),
+            (journals_push c.args.moment 0 whole c.args.at next after journals journal c.loop-shard.invariant.0.1
+            (subst (λ (k : ℕ). AreLines (IsEntry c.args.moment) (entry_line k) whole next journal after) here lines)),
       ),
       lines.stand.within,
     )

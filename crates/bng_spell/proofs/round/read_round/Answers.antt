@@ -1,8 +1,8 @@
-use Rattle.std.proofs.Common.{◌<◌, ◌^◌, length, refl, sym, ap, subst, ◌∙◌, arith}
+use Rattle.std.proofs.Common.{◌<◌, ◌^◌, length, refl, sym, subst, ◌∙◌, arith}
 use Rattle.std.proofs.lemmas.Bool.{false≢true}
 use Rattle.bng_spell.specs.Kept.{AreInOrder}
 use Rattle.bng_spell.proofs.FieldReading.{long_fits}
-use Rattle.bng_spell.proofs.Rounds.{journals_stand, no_word, no_fields, no_numbers, no_end, no_order, head_of, round_found, Body}
+use Rattle.bng_spell.proofs.Rounds.{journals_stand, no_fields, no_numbers, no_end, no_order, head_of, round_found}
 use Rattle.bng_spell.proofs.round.read_round.Goals as goal
 
 pub returns-in_default-read-clause-none : goal.returns-in_default-read-clause-none

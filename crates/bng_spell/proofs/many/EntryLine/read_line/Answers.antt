@@ -1,4 +1,4 @@
-use Rattle.std.proofs.Common.{ℕ, ◌<◌, ◌^◌, List, refl, sym, subst, ◌∙◌}
+use Rattle.std.proofs.Common.{ℕ, ◌<◌, ◌^◌, refl, sym, subst, ◌∙◌}
 use Rattle.std.specs.Prelude.{codes}
 use Rattle.bng_base.specs.declared.item.Entry.{Entry}
 use Rattle.bng_spell.specs.Lines.{entry_line}
@@ -11,8 +11,7 @@ pub returns-in_err-fields-clause-none : goal.returns-in_err-fields-clause-none
 returns-in_err-fields-clause-none c = rw c.from_residual-in_err-fields.ensures (λ e rest f q.
     let i = e.item in
     let g = f.item in
-    c.in_err-fields.ensures.none
-    (
+    c.in_err-fields.ensures.none (
       record { 0 = record { 0 = c.args.within.shard } },
       (
         record { 0 = record { 0 = e.seat } },
@@ -25,8 +24,7 @@ returns-in_err-fields-clause-none c = rw c.from_residual-in_err-fields.ensures (
         ),
       ),
     )
-    rest
-    (
+    rest (
       (long_fits c.args.within.shard (subst (λ (n : ℕ). n < 2 ^ 64) c.own_shard-wanted.ensures.is c.own_shard-wanted.ensures.small), refl),
       (
         (short_fits e.seat f.seat, refl),
@@ -61,22 +59,21 @@ returns-clause-found c =
       item = record { kind = y.0.0; from = y.1.0; frame = y.1.1.1.1.1.1.0.0; cut = y.1.1.0.0; random = y.1.1.1.1.1.0.0.0; target = y.1.1.1.0.0.0; ask = y.1.1.1.1.0.0.0 };
       claim = y.1.1.1.1.1.1.1;
     } in
-    let line = line_stands c.args.whole.now (codes "entry ") _ (entry_line x.0.0.0 e) c.args.at c.in_ok-at.at c.in_ok-fields.next (entry_is x.0.0.0 e) c.in_ok-at.ensures.found c.in_ok-fields.ensures.found.1 in
-    (
-    record {
-      seat = below_short x.1.0.0.0 f.1.0.0.0;
-      place = below_short x.1.1.0.0.0 f.1.1.0.0.0;
-      at = refl;
-      item = record {
-        kind = i.0.0;
-        from = i.1.0;
-        target = below_short y.1.1.1.0.0.0 i.1.1.1.0.0.0;
-        ask = i.1.1.1.1.0.0.1;
-        random = i.1.1.1.1.1.0.0.0;
-        sixteen = i.1.1.1.1.1.0.0.1;
-        frame = i.1.1.1.1.1.1.0.0;
-      };
-      claim = i.1.1.1.1.1.1.1;
-    },
-    subst (λ (k : ℕ). Stands c.args.whole.now c.args.at (entry_line k e) c.in_ok-fields.next) (c.if-shard-wanted.false ∙ c.own_shard-wanted.ensures.is) line,
+    let line = line_stands c.args.whole.now (codes "entry ") _ (entry_line x.0.0.0 e) c.args.at c.in_ok-at.at c.in_ok-fields.next (entry_is x.0.0.0 e) c.in_ok-at.ensures.found c.in_ok-fields.ensures.found.1 in (
+      record {
+        seat = below_short x.1.0.0.0 f.1.0.0.0;
+        place = below_short x.1.1.0.0.0 f.1.1.0.0.0;
+        at = refl;
+        item = record {
+          kind = i.0.0;
+          from = i.1.0;
+          target = below_short y.1.1.1.0.0.0 i.1.1.1.0.0.0;
+          ask = i.1.1.1.1.0.0.1;
+          random = i.1.1.1.1.1.0.0.0;
+          sixteen = i.1.1.1.1.1.0.0.1;
+          frame = i.1.1.1.1.1.1.0.0;
+        };
+        claim = i.1.1.1.1.1.1.1;
+      },
+      subst (λ (k : ℕ). Stands c.args.whole.now c.args.at (entry_line k e) c.in_ok-fields.next) (c.if-shard-wanted.false ∙ c.own_shard-wanted.ensures.is) line,
     )

@@ -8,8 +8,7 @@ use Rattle.bng_spell.proofs.many.ItemLine.read_line.Goals as goal
 
 pub returns-in_err-fields-clause-none : goal.returns-in_err-fields-clause-none
 returns-in_err-fields-clause-none c = rw c.from_residual-in_err-fields.ensures (λ i rest g q.
-    c.in_err-fields.ensures.none
-    (
+    c.in_err-fields.ensures.none (
       record { 0 = i.kind },
       (i.from, (record { 0 = i.cut }, (record { 0 = record { 0 = i.target } }, (record { 0 = record { 0 = i.ask } }, (record { 0 = record { 0 = i.random } }, record { 0 = i.frame }))))),
     )
@@ -21,9 +20,8 @@ pub returns-clause-found : goal.returns-clause-found
 returns-clause-found c =
     let y = c.in_ok-fields.fields in
     let i = c.in_ok-fields.ensures.found.0 in
-    let l : Item = record { kind = y.0.0; from = y.1.0; frame = y.1.1.1.1.1.1.0; cut = y.1.1.0.0; random = y.1.1.1.1.1.0.0.0; target = y.1.1.1.0.0.0; ask = y.1.1.1.1.0.0.0 } in
-    (
-    record {
+    let l : Item = record { kind = y.0.0; from = y.1.0; frame = y.1.1.1.1.1.1.0; cut = y.1.1.0.0; random = y.1.1.1.1.1.0.0.0; target = y.1.1.1.0.0.0; ask = y.1.1.1.1.0.0.0 } in (
+      record {
         kind = i.0.0;
         from = i.1.0;
         target = below_short y.1.1.1.0.0.0 i.1.1.1.0.0.0;
@@ -32,5 +30,5 @@ returns-clause-found c =
         sixteen = i.1.1.1.1.1.0.0.1;
         frame = i.1.1.1.1.1.1.0;
       },
-    line_stands c.args.whole.now (codes "refused ") _ (refused_line l) c.args.at c.in_ok-at.at c.in_ok-fields.next (refused_is l) c.in_ok-at.ensures.found c.in_ok-fields.ensures.found.1,
+      line_stands c.args.whole.now (codes "refused ") _ (refused_line l) c.args.at c.in_ok-at.at c.in_ok-fields.next (refused_is l) c.in_ok-at.ensures.found c.in_ok-fields.ensures.found.1,
     )

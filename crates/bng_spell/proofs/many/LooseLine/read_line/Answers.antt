@@ -10,8 +10,7 @@ pub returns-in_err-fields-clause-none : goal.returns-in_err-fields-clause-none
 returns-in_err-fields-clause-none c = rw c.from_residual-in_err-fields.ensures (λ l rest f q.
     let i = l.item in
     let g = f.item in
-    c.in_err-fields.ensures.none
-    (
+    c.in_err-fields.ensures.none (
       record { 0 = record { 0 = l.seat } },
       (
         record { 0 = record { 0 = l.place } },
@@ -21,8 +20,7 @@ returns-in_err-fields-clause-none c = rw c.from_residual-in_err-fields.ensures (
         ),
       ),
     )
-    rest
-    (
+    rest (
       (short_fits l.seat f.seat, refl),
       (
         (short_fits l.place f.place, refl),
@@ -45,20 +43,19 @@ returns-clause-found c =
       place = x.1.0.0.0;
       item = record { kind = y.0.0; from = y.1.0; frame = y.1.1.1.1.1.1.0.0; cut = y.1.1.0.0; random = y.1.1.1.1.1.0.0.0; target = y.1.1.1.0.0.0; ask = y.1.1.1.1.0.0.0 };
       fate = y.1.1.1.1.1.1.1.0;
-    } in
-    (
-    record {
-      seat = below_short x.0.0.0 f.0.0.0;
-      place = below_short x.1.0.0.0 f.1.0.0.0;
-      item = record {
-        kind = i.0.0;
-        from = i.1.0;
-        target = below_short y.1.1.1.0.0.0 i.1.1.1.0.0.0;
-        ask = i.1.1.1.1.0.0.1;
-        random = i.1.1.1.1.1.0.0.0;
-        sixteen = i.1.1.1.1.1.0.0.1;
-        frame = i.1.1.1.1.1.1.0.0;
-      };
-    },
-    line_stands c.args.whole.now (codes "loose ") _ (loose_line l) c.args.at c.in_ok-at.at c.in_ok-fields.next (loose_is l) c.in_ok-at.ensures.found c.in_ok-fields.ensures.found.1,
+    } in (
+      record {
+        seat = below_short x.0.0.0 f.0.0.0;
+        place = below_short x.1.0.0.0 f.1.0.0.0;
+        item = record {
+          kind = i.0.0;
+          from = i.1.0;
+          target = below_short y.1.1.1.0.0.0 i.1.1.1.0.0.0;
+          ask = i.1.1.1.1.0.0.1;
+          random = i.1.1.1.1.1.0.0.0;
+          sixteen = i.1.1.1.1.1.0.0.1;
+          frame = i.1.1.1.1.1.1.0.0;
+        };
+      },
+      line_stands c.args.whole.now (codes "loose ") _ (loose_line l) c.args.at c.in_ok-at.at c.in_ok-fields.next (loose_is l) c.in_ok-at.ensures.found c.in_ok-fields.ensures.found.1,
     )

@@ -1,4 +1,4 @@
-use Rattle.std.proofs.Common.{◌≤◌, ℕ, List, ◌++◌, take, ap, sym, ◌∙◌, arith}
+use Rattle.std.proofs.Common.{◌≤◌, ◌++◌, take, ap, sym, ◌∙◌, arith}
 use Rattle.bng_base.specs.Packet.{Packet}
 use Rattle.bng_spell.proofs.Repeats.{take_parts}
 use Rattle.bng_spell.proofs.Digits.{octets_found}

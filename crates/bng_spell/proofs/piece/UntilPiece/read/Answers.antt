@@ -17,10 +17,9 @@ returns-in_err-value-clause-none g c = rw c.from_residual-in_err-value.ensures (
 
 pub returns-clause-found : goal.returns-clause-found
 returns-clause-found g c =
-    let stop : IsTrue (is_separator g.row.STOP) = search (rules, c.is_separator.ensures) in
-    (
+    let stop : IsTrue (is_separator g.row.STOP) = search (rules, c.is_separator.ensures) in (
       (c.in_ok-value.ensures.found.0, stop),
       until_found g.row.STOP (g.T.Token.name c.in_ok-value.value) c.args.whole.now c.args.at c.in_ok-length.length c.requires
-      (sym c.in_ok-length.was ∙ c.place_of.ensures ∙ ap (position (λ (k : ℕ). k == g.row.STOP)) c.rest_of-rest.ensures)
-      (ap (take c.in_ok-length.length) (sym c.rest_of-rest.ensures) ∙ c.in_ok-value.ensures.found.1),
+          (sym c.in_ok-length.was ∙ c.place_of.ensures ∙ ap (position (λ (k : ℕ). k == g.row.STOP)) c.rest_of-rest.ensures)
+          (ap (take c.in_ok-length.length) (sym c.rest_of-rest.ensures) ∙ c.in_ok-value.ensures.found.1),
     )
