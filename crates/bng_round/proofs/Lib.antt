@@ -1,0 +1,13 @@
+pub mod Places
+pub mod Answering
+pub mod Tellings
+pub mod Holding
+pub mod Lightness
+pub mod Journals
+pub mod Following
+pub mod Stepping
+pub mod Entering
+pub mod Lists
+pub mod Standings
+pub mod Work
+pub mod Due
