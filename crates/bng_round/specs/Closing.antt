@@ -1,22 +1,13 @@
--- How a round ends, and what it was.
-use Rattle.std.specs.Prelude.{◌≡◌, ℕ, ◌+◌, ◌<◌, ◌≤◌, List, [], ◌∷◌, Some, length, map, slice_get, slice_index_or}
-use Rattle.std.specs.List.{All, AllZip}
-use Rattle.bng_base.specs.declared.item.Entry.{Entry}
-use Rattle.bng_base.specs.declared.item.Item.{Item}
-use Rattle.bng_pool.specs.OneHand.{table_of}
-use Rattle.bng_pool.specs.Seats.{SeatView as Hold}
-use Rattle.bng_pool.specs.Tables.{Table, entry}
+-- How a round ends.
+use Rattle.std.specs.Prelude.{◌≡◌, ℕ, ◌+◌, ◌<◌, ◌≤◌, false, List, [], ◌∷◌, ◌++◌, Option, Some, length, map, slice_get}
+use Rattle.bng_pool.specs.Seats.{PoolView}
 use Rattle.bng_round.specs.declared.mark.Mark.{Mark}
-use Rattle.bng_round.specs.Booking.{without_claim, of_seat, Follows}
-use Rattle.bng_round.specs.Dealing.{entries_in}
-use Rattle.bng_round.specs.Rounds.{RoundView, WorkerView}
+use Rattle.bng_round.specs.Booking.{Follows}
+use Rattle.bng_round.specs.Looking.{IsGround, IsLooker}
+use Rattle.bng_round.specs.Rounds.{RoundView, WorkerView, IsOpen}
 use Rattle.bng_round.specs.Telling.{EachKnowsMore, AreAgreed}
-use Rattle.bng_round.specs.Views.{PlacedView, Sight}
+use Rattle.bng_round.specs.Views.{PlacedView}
 use Rattle.bng_round.specs.Working.{HasWorked}
-use Rattle.bng_steps.specs.declared.rules.Rules.{Rules}
-use Rattle.bng_steps.specs.declared.whose.Whose.{Whose}
-use Rattle.bng_steps.specs.Protocol.{Handled}
-use Rattle.bng_steps.specs.Whose.{IsWhose}
 use Rattle.bng_turn.specs.Marks.{marks_of}
 use Rattle.bng_turn.specs.Views.{TurnView, SeatView}
 
@@ -28,43 +19,67 @@ pub record Ends (workers : List WorkerView) (s : ℕ) (t : TurnView PlacedView) 
   pub own : (k : ℕ) (v : WorkerView) (q : SeatView PlacedView Mark) → slice_get workers k ≡ Some v → slice_get v.turns s ≡ Some q → marks_of k list ≡ q.own
   pub others : (k : ℕ) → length workers ≤ k → marks_of k list ≡ []
 
+-- these are the workers of a round, in the order of their numbers, before and after they handled all of their lists
+pub record AreAllDone (p : PoolView) (round : RoundView) (before workers : List WorkerView) : Type 0 where
+  pub count : (length workers ≡ round.workers) × (length before ≡ round.workers)
+  pub some : 1 ≤ round.workers
+  pub worked : (k : ℕ) (v v' : WorkerView) → slice_get before k ≡ Some v → slice_get workers k ≡ Some v' → (v.number ≡ k) × HasWorked round v v'
+  pub lookers : (k : ℕ) (v : WorkerView) → slice_get workers k ≡ Some v → IsLooker round.turns p v.looker
+
 -- A round that ended: each shard as its turn ended, and what its seat knew more in the end; each worker handled its list; and what was noted
 -- of the addresses is so.
-pub record IsClosed (round : RoundView) (before workers : List WorkerView) (shards : List PlacedView) : Type 0 where
+pub record IsClosed (p : PoolView) (round : RoundView) (before workers : List WorkerView) (shards : List PlacedView) : Type 0 where
+  pub is_open : IsOpen round
+  pub ground : IsGround round.turns p
+  pub done : AreAllDone p round before workers
   pub ended : List PlacedView
   pub count : length ended ≡ length round.turns
   pub ends : (s : ℕ) (t : TurnView PlacedView) (g : PlacedView) → slice_get round.turns s ≡ Some t → slice_get ended s ≡ Some g → Ends workers s t g
-  pub workers_count : (length workers ≡ round.workers) × (length before ≡ round.workers)
-  pub worked : (k : ℕ) (v v' : WorkerView) → slice_get before k ≡ Some v → slice_get workers k ≡ Some v' → (v.number ≡ k) × HasWorked round v v'
   pub shards_count : length shards ≡ length ended
   pub more : EachKnowsMore ended shards
   pub agreed : AreAgreed ended shards (map (λ (v : WorkerView). v.looker) workers)
 
--- who held which address when the round opened, and in the end
-abbrev pub opening_table : RoundView → Table
-opening_table round = table_of (map (λ (t : TurnView PlacedView). t.opening.hold) round.turns)
+-- What the parts of a close do -------------------------------------------------------------------------------------------------
 
-abbrev pub last_table : List PlacedView → Table
-last_table shards = table_of (map (λ (g : PlacedView). g.hold) shards)
+-- a worker gave back its last seat at a turn
+pub record Gives (v : WorkerView) (after : Option WorkerView) (given : Option (SeatView PlacedView Mark)) : Type 0 where
+  pub left : WorkerView
+  pub seat : SeatView PlacedView Mark
+  pub after_is : after ≡ Some left
+  pub given_is : given ≡ Some seat
+  pub was : v ≡ record left { turns = left.turns ++ seat ∷ [] }
 
--- the one table has what the other has
-abbrev pub HasAll : Table → Table → Type 0
-HasAll table table' = (a k : ℕ) → entry table a ≡ Some k → entry table' a ≡ Some k
+-- each of the workers did
+pub record AllGive (workers workers' : List WorkerView) (row : List (SeatView PlacedView Mark)) : Type 0 where
+  pub count : length workers' ≡ length workers
+  pub long : length row ≡ length workers
+  pub each : (k : ℕ) (v : WorkerView) → slice_get workers k ≡ Some v → Gives v (slice_get workers' k) (slice_get row k)
 
--- An item is for this by who held which address at some moment of a round, between its opening and its last entry.
-pub record IsWhoseIn (r : Rules) (opening last : Table) (item : Item) (whose : Whose) : Type 0 where
-  pub table : Table
-  pub since : HasAll opening table
-  pub until : HasAll table last
-  pub is : IsWhose r (entry table) item whose
+-- the worker's last seat at a turn is this turn's, outside, with this number
+pub record IsLast (t : TurnView PlacedView) (k : ℕ) (v : WorkerView) : Type 0 where
+  pub some : 0 < length v.turns
+  pub last : (front : List (SeatView PlacedView Mark)) (q : SeatView PlacedView Mark) → v.turns ≡ front ++ q ∷ [] → (q.turn ≡ Some t) × (q.inside ≡ false) × (q.number ≡ k)
 
--- In a shard's journal the entries of each worker are the items of its list that stand in this shard, each once, in their order and with
--- its place. There are no others. Nothing is said of the order of the workers among each other.
-pub record IsPart (lists : List (List Item)) (whose : List (List Whose)) (shard moment : ℕ) (journal : List Entry) : Type 0 where
-  pub each : (seat : ℕ) → seat < length lists → of_seat seat journal ≡ entries_in seat shard 0 moment (slice_index_or lists seat []) (slice_index_or whose seat [])
-  pub seats : All (λ (e : Entry). e.seat < length lists) journal
+-- a turn ended with this state: by a list that has the marks of each seat, and no others
+pub record EndsOne (workers workers' : List WorkerView) (t : TurnView PlacedView) (g : PlacedView) : Type 0 where
+  pub row : List (SeatView PlacedView Mark)
+  pub gave : AllGive workers workers' row
+  pub list : List (ℕ × Mark)
+  pub follows : Follows t.opening list g
+  pub own : (k : ℕ) (q : SeatView PlacedView Mark) → slice_get row k ≡ Some q → marks_of k list ≡ q.own
+  pub others : (k : ℕ) → length workers ≤ k → marks_of k list ≡ []
 
--- so in each shard, from the first shard on, its entries taken without their claims
-abbrev pub AreParts : List (List Item) → List (List Whose) → ℕ → ℕ → List Sight → Type 0
-AreParts lists whose shard moment [] = Unit {0}
-AreParts lists whose shard moment (v ∷ vs) = IsPart lists whose shard moment (map without_claim (map (λ (h : Handled). h.deed.entry) v.journal)) × AreParts lists whose (shard + 1) moment vs
+-- the turns from this number on ended
+abbrev pub EndFrom : List WorkerView → ℕ → List (TurnView PlacedView) → List PlacedView → Type 0
+EndFrom workers s [] [] = Unit {0}
+EndFrom workers s [] (g ∷ gs) = ⊥
+EndFrom workers s (t ∷ ts) [] = ⊥
+EndFrom workers s (t ∷ ts) (g ∷ gs) = Ends workers s t g × EndFrom workers (s + 1) ts gs
+
+-- a worker that gave back its seats at the turns from this number on
+pub record IsCut (v : WorkerView) (now : Option WorkerView) (m : ℕ) : Type 0 where
+  pub left : WorkerView
+  pub rest : List (SeatView PlacedView Mark)
+  pub now_is : now ≡ Some left
+  pub was : v ≡ record left { turns = left.turns ++ rest }
+  pub long : length left.turns ≡ m

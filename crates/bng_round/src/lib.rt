@@ -6,17 +6,23 @@
 //! was noted as the holder of an address holds it, and no two shards hold one address.
 #![tactic(auto)]
 
+mod closing;
 mod finding;
 mod handling;
+mod laws;
 mod mark;
+mod opening;
 mod placed;
 mod round;
 mod seated;
 mod telling;
 
+pub use closing::Closed;
 pub use handling::Gate;
+pub use laws::closed_rounds_are_rounds;
 pub use mark::{Done, Mark};
+pub use opening::HandedBack;
 pub use placed::Placed;
-pub use round::{Floor, Worker};
+pub use round::{Floor, Round, Worker};
 pub use seated::Seated;
 pub use telling::{agree, agree_in, brief, brief_in, debrief};

@@ -1,9 +1,10 @@
 //! A shard in its place in a round.
-ghost use Rattle.std.specs.Prelude.{◌≡◌, ◌≤◌, ◌<◌, ◌+◌, ◌^◌, [], true, OnOk, sum};
+ghost use Rattle.std.specs.Prelude.{◌≡◌, ◌≤◌, ◌<◌, ◌+◌, ◌^◌, [], ℕ, true, OnOk, sum};
 ghost use Rattle.bng_engine.specs.Calls.{IsReady, Kept};
 ghost use Rattle.bng_engine.specs.Terms.{keys};
 ghost use Rattle.bng_engine.specs.Views.{row_keys};
-ghost use Rattle.bng_pool.specs.Seats.{IsInRound, IsLearned, told};
+ghost use Rattle.bng_pool.specs.Ranges.{HasAddress};
+ghost use Rattle.bng_pool.specs.Seats.{Holds, IsInRound, IsLearned, told};
 ghost use Rattle.bng_round.specs.Asking.{AreHeldBy, IsAskedFor, IsHold};
 ghost use Rattle.bng_round.specs.Booking.{CanHandle, IsNext, IsSet, Steps};
 ghost use Rattle.bng_steps.specs.Protocol.{entry_of, sessions_of, terms_of};
@@ -125,10 +126,12 @@ impl<S: Seated> Placed<S> {
         ensures ready { OnOk result (IsReady items allowance self.new.shard × (self.new.lists ≡ lists.now) × (self.new.moment ≡ now)) }
         ensures kept { Kept self.old.shard self.new.shard }
         ensures hold { self.new.hold ≡ self.old.hold }
+        ensures within { (a : ℕ) → Holds self.new.hold.held a → HasAddress self.new.hold.pool.ranges a }
         ensures empty { (self.new.shard.journal ≡ []) × (self.new.shard.outs ≡ []) }
         ensures fit { row_keys self.new.shard.rows ≡ keys (terms_of self.new.shard.state) }
         ensures few { sessions_of self.new.shard.state ≤ 1022 }
     {
+        self.hold.holds_within();
         let room = self.shard.prepare(alloc, items, allowance);
         let Ok(lengths) = Vec::from_slice(alloc, lists) else {
             return Err(ShardError::OutOfMemory);

@@ -43,6 +43,33 @@ impl<S: Seated> Model for Floor<S> {
     ghost invariant = { λ a. IsOpen (floor_seen a) };
 }
 
+/// A round that is open. Contracts see its floor.
+pub struct Round<S: Seated> {
+    pub(crate) floor: Floor<S>,
+    // What the close needs: for each turn a list that its seats come back to, and room for what is answered.
+    pub(crate) rows: Vec<Vec<TurnSeat<Placed<S>>>>,
+    pub(crate) shards: Vec<Placed<S>>,
+    pub(crate) lookers: Vec<PoolSeat>,
+    pub(crate) loose: Vec<Loose>,
+    pub(crate) tallies: Vec<Book>,
+}
+
+impl<S: Seated> Model for Round<S> {
+    ghost use Rattle.std.specs.Coded.{codes};
+    ghost use Rattle.bng_steps.specs.Codes.{state_code};
+    ghost use Rattle.bng_round.specs.Rounds.{RoundView};
+
+    ghost Value = { RoundView };
+
+    ghost coded = { Prim.hlevel (codes, state_code) };
+
+    ghost use Rattle.bng_round.specs.Kept.{round_seen, IsKept};
+
+    ghost view = { round_seen };
+
+    ghost invariant = { IsKept };
+}
+
 /// A worker of a round. Contracts see its number, its seats at the turns and at the words of the addresses, the loose items of those that it
 /// handled, and its tally.
 #[derive(Drop)]
@@ -66,6 +93,15 @@ impl<S: Seated> Model for Worker<S> {
     ghost use Rattle.bng_round.specs.Kept.{worker_seen};
 
     ghost view = { worker_seen };
+}
+
+impl<S: Seated> Round<S> {
+    /// What its workers share.
+    pub fn floor(&self) -> &Floor<S>
+        ensures { result.now ≡ self.now }
+    {
+        &self.floor
+    }
 }
 
 impl<S: Seated> Floor<S> {
