@@ -3,6 +3,7 @@ use mathlib.Core.Logic.{dite}
 use native.Mathlib.Decide.{ℕ_discrete}
 use Rattle.std.proofs.Common.{◌≡◌, ℕ, zero, suc, ◌+◌, ◌<◌, List, [], ◌∷◌, length, set, slice_get, slice_index_or, Some, refl, sym, ap, ◌∙◌, subst, arith}
 use Rattle.std.proofs.lemmas.Option.{slice_get_within}
+use Rattle.bng_pool.specs.Ranges.{HasAddress}
 use Rattle.bng_pool.specs.Seats.{PoolView, SeatView as Hold, Holds, Notes, IsLearned, told}
 use Rattle.bng_round.specs.Asking.{Goes, IsNoted}
 use Rattle.bng_round.specs.Views.{PlacedView}
@@ -35,6 +36,9 @@ module _ (p : PoolView) (phase : ℕ) (h : Hold) (shards shards' : List PlacedVi
       let heard : Notes g'.hold.notes a j g'.hold.phase = subst (λ (z : ℕ). Notes g'.hold.notes a j z) (sym is.1) (b.2.heard a j phase note) in
       sym (b.2.learned.alone a j mine heard ∙ is.0)
 
+  pub held_within : (s a : ℕ) (g' : PlacedView) → slice_get shards' s ≡ Some g' → Holds g'.hold.held a → HasAddress g'.hold.pool.ranges a
+  held_within s a g' e held = let b = before s g' e in b.2.within a held
+
   pub of_shards : length shards ≡ p.shards → (s a : ℕ) (g : PlacedView) → slice_get shards s ≡ Some g → IsNoted g.hold a → IsHeldBySome shards' a
   of_shards all s a g e n =
       let here = at.holds s g e in
@@ -58,8 +62,10 @@ goes_told to from = record { pool = refl; number = refl; phase = refl; full = re
 pub knows_told : (to from : Hold) → Knows (told to from) from
 knows_told to from = record { held = λ a h. told_held to from a h; notes = λ a k p n. told_note to from a k p n }
 
-pub is_told : (h : Hold) (g g' : PlacedView) → g' ≡ record g { hold = told g.hold h } → IsLearned (told g.hold h) → IsTold h g g'
-is_told h g g' e learned = subst (λ (z : PlacedView). IsTold h g z) (sym e) (record { rest = refl; held = refl; goes = goes_told g.hold h; heard = λ a k p n. told_note g.hold h a k p n; learned = learned })
+pub is_told : (h : Hold) (g g' : PlacedView) → g' ≡ record g { hold = told g.hold h } → IsLearned (told g.hold h) → ((a : ℕ) → Holds g'.hold.held a → HasAddress g'.hold.pool.ranges a) → IsTold h g g'
+is_told h g g' e learned within =
+    let held : (a : ℕ) → Holds g.hold.held a → HasAddress g.hold.pool.ranges a = subst (λ (z : PlacedView). (a : ℕ) → Holds z.hold.held a → HasAddress z.hold.pool.ranges a) e within in
+    subst (λ (z : PlacedView). IsTold h g z) (sym e) (record { rest = refl; held = refl; goes = goes_told g.hold h; heard = λ a k p n. told_note g.hold h a k p n; learned = learned; within = held })
 
 pub knows_on : (h h' q : Hold) → Goes h h' → Knows h q → Knows h' q
 knows_on h h' q g k = record { held = λ a held. g.notes a q.number q.phase (k.held a held); notes = λ a j p n. g.notes a j p (k.notes a j p n) }

@@ -19,6 +19,13 @@ pub record Ends (workers : List WorkerView) (s : ℕ) (t : TurnView PlacedView) 
   pub own : (k : ℕ) (v : WorkerView) (q : SeatView PlacedView Mark) → slice_get workers k ≡ Some v → slice_get v.turns s ≡ Some q → marks_of k list ≡ q.own
   pub others : (k : ℕ) → length workers ≤ k → marks_of k list ≡ []
 
+-- the turns of the shards from this number on ended with these states
+abbrev pub EndFrom : List WorkerView → ℕ → List (TurnView PlacedView) → List PlacedView → Type 0
+EndFrom workers s [] [] = Unit {0}
+EndFrom workers s [] (g ∷ gs) = ⊥
+EndFrom workers s (t ∷ ts) [] = ⊥
+EndFrom workers s (t ∷ ts) (g ∷ gs) = Ends workers s t g × EndFrom workers (s + 1) ts gs
+
 -- these are the workers of a round, in the order of their numbers, before and after they handled all of their lists
 pub record AreAllDone (p : PoolView) (round : RoundView) (before workers : List WorkerView) : Type 0 where
   pub count : (length workers ≡ round.workers) × (length before ≡ round.workers)
@@ -33,8 +40,7 @@ pub record IsClosed (p : PoolView) (round : RoundView) (before workers : List Wo
   pub ground : IsGround round.turns p
   pub done : AreAllDone p round before workers
   pub ended : List PlacedView
-  pub count : length ended ≡ length round.turns
-  pub ends : (s : ℕ) (t : TurnView PlacedView) (g : PlacedView) → slice_get round.turns s ≡ Some t → slice_get ended s ≡ Some g → Ends workers s t g
+  pub ends : EndFrom workers 0 round.turns ended
   pub shards_count : length shards ≡ length ended
   pub more : EachKnowsMore ended shards
   pub agreed : AreAgreed ended shards (map (λ (v : WorkerView). v.looker) workers)
@@ -68,13 +74,6 @@ pub record EndsOne (workers workers' : List WorkerView) (t : TurnView PlacedView
   pub follows : Follows t.opening list g
   pub own : (k : ℕ) (q : SeatView PlacedView Mark) → slice_get row k ≡ Some q → marks_of k list ≡ q.own
   pub others : (k : ℕ) → length workers ≤ k → marks_of k list ≡ []
-
--- the turns from this number on ended
-abbrev pub EndFrom : List WorkerView → ℕ → List (TurnView PlacedView) → List PlacedView → Type 0
-EndFrom workers s [] [] = Unit {0}
-EndFrom workers s [] (g ∷ gs) = ⊥
-EndFrom workers s (t ∷ ts) [] = ⊥
-EndFrom workers s (t ∷ ts) (g ∷ gs) = Ends workers s t g × EndFrom workers (s + 1) ts gs
 
 -- a worker that gave back its seats at the turns from this number on
 pub record IsCut (v : WorkerView) (now : Option WorkerView) (m : ℕ) : Type 0 where

@@ -1,5 +1,6 @@
 -- What the seats at the words of the addresses tell each other when a round is opened and when it is closed.
 use Rattle.std.specs.Prelude.{◌≡◌, ℕ, List, Some, slice_get}
+use Rattle.bng_pool.specs.Ranges.{HasAddress}
 use Rattle.bng_pool.specs.Seats.{PoolView, SeatView as Hold, Holds, Notes, IsInRound, IsLearned}
 use Rattle.bng_round.specs.Asking.{Goes, IsNoted}
 use Rattle.bng_round.specs.Views.{PlacedView}
@@ -45,6 +46,7 @@ pub record IsTold (h : Hold) (g g' : PlacedView) : Type 0 where
   pub goes : Goes g.hold g'.hold
   pub heard : (a k p : ℕ) → Notes h.notes a k p → Notes g'.hold.notes a k p
   pub learned : IsLearned g'.hold
+  pub within : (a : ℕ) → Holds g'.hold.held a → HasAddress g'.hold.pool.ranges a
 
 abbrev pub AllTold : Hold → List PlacedView → List PlacedView → Type 0
 AllTold h shards shards' = (s : ℕ) (g g' : PlacedView) → slice_get shards s ≡ Some g → slice_get shards' s ≡ Some g' → IsTold h g g'
@@ -70,8 +72,9 @@ pub record KnowsMore (g g' : PlacedView) : Type 0 where
 abbrev pub EachKnowsMore : List PlacedView → List PlacedView → Type 0
 EachKnowsMore shards shards' = (s : ℕ) (g g' : PlacedView) → slice_get shards s ≡ Some g → slice_get shards' s ≡ Some g' → KnowsMore g g'
 
--- what each shard noted, and what each worker's seat noted, is so
+-- What each shard noted, and what each worker's seat noted, is so. What a shard holds has words.
 pub record AreAgreed (shards shards' : List PlacedView) (lookers : List Hold) : Type 0 where
   pub apart : AreApart shards'
+  pub within : (s a : ℕ) (g : PlacedView) → slice_get shards' s ≡ Some g → Holds g.hold.held a → HasAddress g.hold.pool.ranges a
   pub of_shards : (s a : ℕ) (g : PlacedView) → slice_get shards s ≡ Some g → IsNoted g.hold a → IsHeldBySome shards' a
   pub of_lookers : (j : ℕ) (q : Hold) → slice_get lookers j ≡ Some q → HolderHolds shards' q

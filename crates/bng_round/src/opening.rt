@@ -98,8 +98,9 @@ fn prepare_all<S: Seated>(
 {
     for s in 0..shards.len() {
         let shard = &mut shards[s];
-        if shard.prepare(alloc, lengths, items, allowances[s], now).is_err() {
-            return false;
+        match shard.prepare(alloc, lengths, items, allowances[s], now) {
+            Ok(()) => {}
+            Err(_) => return false,
         }
     }
     true

@@ -183,8 +183,10 @@ impl<S: Seated> Placed<S> {
         ensures from { from.new ≡ from.old }
         ensures hold { self.new ≡ record self.old { hold = told self.old.hold from.old } }
         ensures learned { IsLearned (told self.old.hold from.old) }
+        ensures within { (a : ℕ) → Holds self.new.hold.held a → HasAddress self.new.hold.pool.ranges a }
     {
         pool.tell(from, &mut self.hold);
         pool.learn(&mut self.hold);
+        self.hold.holds_within();
     }
 }

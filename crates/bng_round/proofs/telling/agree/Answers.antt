@@ -1,7 +1,7 @@
 use Rattle.std.proofs.Common.{rules, ◌≡◌, suc, List, ◌∷◌, length, slice_get, sym, ap, ◌∙◌}
 use Rattle.bng_pool.specs.Seats.{SeatView as Hold}
 use Rattle.bng_round.specs.Telling.{IsAt, HolderHolds}
-use Rattle.bng_round.proofs.Tellings.{apart, of_shards, of_looker, of_first, more_of, first_goes, first_holds}
+use Rattle.bng_round.proofs.Tellings.{apart, held_within, of_shards, of_looker, of_first, more_of, first_goes, first_holds}
 use Rattle.bng_round.proofs.telling.agree.Goals as goal
 
 pub debrief-requires : goal.debrief-requires
@@ -28,6 +28,7 @@ returns-clause-agreed g c =
     let first : IsAt c.args.pool.now at.0 c.in-Some.first.now = at.2 0 c.in-Some.first.now (ap (λ (l : List Hold). slice_get l 0) all) in
     record {
       apart = apart c.args.pool.now at.0 c.debrief.new.first c.args.shards.now c.debrief.new.shards at.1 did.knows.0 did.told did.count;
+      within = held_within c.args.pool.now at.0 c.debrief.new.first c.args.shards.now c.debrief.new.shards at.1 did.knows.0 did.told did.count;
       of_shards = of_shards c.args.pool.now at.0 c.debrief.new.first c.args.shards.now c.debrief.new.shards at.1 did.knows.0 did.told did.count c.requires.count;
       of_lookers = first_holds c.args.lookers.now c.in-Some.others.now c.in-Some.first.now (HolderHolds c.debrief.new.shards) all
           (of_first c.args.pool.now at.0 c.debrief.new.first c.args.shards.now c.debrief.new.shards at.1 did.knows.0 did.told did.count c.in-Some.first.now did.goes first.phase_is)
