@@ -11,3 +11,7 @@ pub mod Lists
 pub mod Standings
 pub mod Work
 pub mod Due
+pub mod Openings
+pub mod Assembling
+pub mod Closings
+pub mod Ended

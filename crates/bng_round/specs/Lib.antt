@@ -11,3 +11,4 @@ pub mod Working
 pub mod Kept
 pub mod Opening
 pub mod Closing
+pub mod Was
