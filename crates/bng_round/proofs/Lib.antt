@@ -15,3 +15,8 @@ pub mod Openings
 pub mod Assembling
 pub mod Closings
 pub mod Ended
+pub mod Claims
+pub mod Listed
+pub mod Tracing
+pub mod WorkedParts
+pub mod Was

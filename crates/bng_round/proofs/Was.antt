@@ -1,5 +1,7 @@
 -- A closed round is a round as a trace holds it.
 use Rattle.std.proofs.Common.{◌≡◌, ◌⊎◌, inl, inr, ⊎_elim, ℕ, zero, suc, ◌+◌, ◌%◌, ◌<◌, ◌≤◌, ◌==◌, Bool, true, false, cond, eqb, List, [], ◌∷◌, ◌++◌, Option, Some, None, map, filter, length, length-append, count_by, sum_by, get_or, slice_get, slice_index_or, refl, sym, ap, ◌∙◌, subst, arith, eq-eqb, ne_eqb}
+use mathlib.Core.Logic.{dite}
+use native.Mathlib.Decide.{ℕ_discrete}
 use Rattle.std.specs.Prelude.{IsSome}
 use Rattle.std.specs.List.{All, AllByRecursion, AllZip, Contains, flat_map, range_with_len}
 use Rattle.std.proofs.lemmas.Bool.Decides.{nat_tests}
@@ -32,7 +34,7 @@ use Rattle.bng_pool.specs.Tables.{Table, entry}
 use Rattle.bng_pool.proofs.Entries.{free_in, holder_in, in_table}
 use Rattle.bng_round.specs.declared.mark.Mark.{Mark}
 use Rattle.bng_round.specs.Asking.{Goes, IsNoted}
-use Rattle.bng_round.specs.Booking.{mark_of, of_seat, without_claim}
+use Rattle.bng_round.specs.Booking.{Runs, mark_of, of_seat, without_claim}
 use Rattle.bng_round.specs.Closing.{AreAllDone, Ends, IsClosed}
 use Rattle.bng_round.specs.Dealing.{StandsWithin, all_loose, entries_in, loose_in, loose_item, stands_in}
 use Rattle.bng_round.specs.Entering.{entries_in_marks}
@@ -342,3 +344,354 @@ module _ (p : PoolView) (round : RoundView) (before workers : List WorkerView) (
       (λ k ws f.
       let w = worker_at k (omega (arith, slice_get_within whose_is.whose k ws f, whose_is.long, closed.done.count.0)) in
       subst (λ (l : List Whose). AllByRecursion (StandsWithin (length round.turns)) l) (w.same ∙ same_some w.whose ws (slice_get whose_is.whose k) w.its_whose f) w.worked.worked.inside)
+
+  -- Claims --------------------------------------------------------------------------------------------------------------------------
+
+  abbrev journals : List (List Handled)
+  journals = journals_of (rounds_in seen_is.seen)
+
+  journal_at : (s : ℕ) (es : List Handled) → slice_get journals s ≡ Some es → (g' : PlacedView) × (slice_get shards s ≡ Some g') × (x : ShardAt s g') × (x.ends.follows.effects ≡ es)
+  journal_at s es e =
+      let r = un_map (λ (r : ShardRound Handled). r.journal) (rounds_in seen_is.seen) s es e in
+      let v = un_map (λ (v : Sight). record { allowance = v.allowance; journal = v.journal }) seen_is.seen s r.0 r.1 in
+      let g = some_at shards s (omega (arith, slice_get_within seen_is.seen s v.0 v.1, seen_is.long, shards_long)) in
+      let x = shard_at s g.0 g.1 in
+      let same : x.view ≡ v.0 = same_some x.view v.0 (slice_get seen_is.seen s) x.view_at v.1 in
+      (g.0, g.1, x, ap (λ (z : Sight). z.journal) (sym x.view_is) ∙ (ap (λ (z : Sight). z.journal) same ∙ (ap (λ (z : ShardRound Handled). z.journal) v.2 ∙ r.2)))
+
+  claims_at : (s a : ℕ) (es : List Handled) → slice_get journals s ≡ Some es → Claims a es → entry (last_table shards) a ≡ Some s
+  claims_at s a es e some =
+      let j = journal_at s es e in
+      at_last s a j.0 j.1 (claims_hold s a j.0 j.2 (subst (λ (l : List Handled). Claims a l) (sym j.3) some))
+
+  -- an address that is claimed is claimed by one shard, once
+  claimer : (a : ℕ) (js : List (List Handled)) → 1 ≤ claimed_at pppoe a js → (s : ℕ) × (es : List Handled) × (slice_get js s ≡ Some es) × Claims a es
+  claimer a [] some = absurd (omega (arith, some))
+  claimer a (es ∷ js) some = by (times_in a (claims_of pppoe es)) refl
+    where
+      by : (n : ℕ) → times_in a (claims_of pppoe es) ≡ n → (s : ℕ) × (us : List Handled) × (slice_get (es ∷ js) s ≡ Some us) × Claims a us
+      by zero is = let r = claimer a js (omega (arith, is, some, sum_by-cons (λ (us : List Handled). times_in a (claims_of pppoe us)) es js)) in (suc r.0, r.1, r.2, r.3)
+      by (suc n) is = (0, es, refl, omega (arith, is))
+
+  none_at_all : (a : ℕ) (js : List (List Handled)) → ((s : ℕ) (us : List Handled) → slice_get js s ≡ Some us → Claims a us → ⊥) → claimed_at pppoe a js ≡ 0
+  none_at_all a [] none = refl
+  none_at_all a (es ∷ js) none = omega (
+    arith,
+    sum_by-cons (λ (us : List Handled). times_in a (claims_of pppoe us)) es js,
+    by (times_in a (claims_of pppoe es)) (λ some. none 0 es refl some),
+    none_at_all a js (λ s us e c. none (suc s) us e c),
+  )
+    where
+      by : (n : ℕ) → (1 ≤ n → ⊥) → n ≡ 0
+      by zero not = refl
+      by (suc n) not = absurd (not (omega arith))
+
+  one_in : (a s : ℕ) (js : List (List Handled)) (es : List Handled) → slice_get js s ≡ Some es → Claims a es → 1 ≤ claimed_at pppoe a js
+  one_in a s [] es e c = absurd (cc)
+  one_in a zero (x ∷ js) es e c =
+      let same : x ≡ es = cc in omega (arith, sum_by-cons (λ (us : List Handled). times_in a (claims_of pppoe us)) x js, subst (λ (l : List Handled). Claims a l) (sym same) c)
+  one_in a (suc s) (x ∷ js) es e c = omega (arith, sum_by-cons (λ (us : List Handled). times_in a (claims_of pppoe us)) x js, one_in a s js es e c)
+
+  at_most_one : (a : ℕ) (js : List (List Handled)) → ((s : ℕ) (us : List Handled) → slice_get js s ≡ Some us → times_in a (claims_of pppoe us) ≤ 1)
+      → ((i j : ℕ) (es us : List Handled) → slice_get js i ≡ Some es → slice_get js j ≡ Some us → Claims a es → Claims a us → i ≡ j) → claimed_at pppoe a js ≤ 1
+  at_most_one a [] each apart = omega arith
+  at_most_one a (es ∷ js) each apart = by (times_in a (claims_of pppoe es)) refl
+    where
+      zero_not : (j : ℕ) → 0 ≡ suc j → ⊥
+      zero_not j e = omega (arith, e)
+
+      by : (n : ℕ) → times_in a (claims_of pppoe es) ≡ n → claimed_at pppoe a (es ∷ js) ≤ 1
+      by zero is = omega (
+        arith,
+        is,
+        sum_by-cons (λ (us : List Handled). times_in a (claims_of pppoe us)) es js,
+        at_most_one a js (λ s us e. each (suc s) us e) (λ i j xs us e f c d. let same = apart (suc i) (suc j) xs us e f c d in omega (arith, same)),
+      )
+      by (suc n) is =
+          let here : Claims a es = omega (arith, is) in
+          let rest = none_at_all a js (λ j us e c. zero_not j (apart 0 (suc j) es us refl e here c)) in
+          omega (arith, rest, each 0 es refl, sum_by-cons (λ (us : List Handled). times_in a (claims_of pppoe us)) es js)
+
+  apart_claims : (a i j : ℕ) (es us : List Handled) → slice_get journals i ≡ Some es → slice_get journals j ≡ Some us → Claims a es → Claims a us → i ≡ j
+  apart_claims a i j es us e f c d = same_Some i j (sym (claims_at i a es e c) ∙ claims_at j a us f d)
+
+  once_in : (a s : ℕ) (us : List Handled) → slice_get journals s ≡ Some us → times_in a (claims_of pppoe us) ≤ 1
+  once_in a s us e =
+      let j = journal_at s us e in let x = j.2 in
+      subst (λ (l : List Handled). times_in a (claims_of pppoe l) ≤ 1) j.3 (run_once x.turn.opening x.state x.ends.follows.effects a x.in_round x.ends.follows.runs)
+
+  -- what a shard claims no shard held at the opening
+  free_claims : (a : ℕ) → 1 ≤ claimed_at pppoe a journals → entry (opening_table round) a ≡ None
+  free_claims a some =
+      let c = claimer a journals some in let j = journal_at c.0 c.1 c.2 in let x = j.2 in
+      let claims : Claims a x.ends.follows.effects = subst (λ (l : List Handled). Claims a l) (sym j.3) c.3 in
+      free_first a (λ s t at held.
+      let same : s ≡ c.0 = same_Some s c.0 (sym (goes_last s a t at held) ∙ claims_at c.0 a c.1 c.2 c.3) in
+      let one : t ≡ x.turn = same_some t x.turn (slice_get round.turns c.0) (ap (λ n. slice_get round.turns n) (sym same) ∙ at) x.turn_is in
+      run_free x.turn.opening x.state x.ends.follows.effects a x.in_round x.ends.follows.runs claims (subst (λ (z : TurnView PlacedView). Holds z.opening.hold.held a) one held))
+
+  journal_of : (s : ℕ) (g' : PlacedView) (x : ShardAt s g') → slice_get journals s ≡ Some x.ends.follows.effects
+  journal_of s g' x =
+      at_map (λ (r : ShardRound Handled). r.journal) (rounds_in seen_is.seen) s (record { allowance = x.view.allowance; journal = x.view.journal }) (at_map (λ (v : Sight). record { allowance = v.allowance; journal = v.journal }) seen_is.seen s x.view x.view_at)
+      ∙ ap (λ (v : Sight). Some v.journal) x.view_is
+
+  stays : (a : ℕ) → claimed_at pppoe a journals ≡ 0 → (o : Option ℕ) → entry (last_table shards) a ≡ o → o ≡ entry (opening_table round) a
+  stays a none None is = sym (free_first a (λ s t at held. none-some s (sym is ∙ goes_last s a t at held)))
+  stays a none (Some s) is =
+      let h = held_last s a is in let x = shard_at s h.0 h.1 in
+      ⊎_elim (λ old. sym (at_first s a x.turn x.turn_is old))
+      (λ new. absurd (let some = one_in a s journals x.ends.follows.effects (journal_of s h.0 x) new in omega (arith, none, some)))
+      (only s a h.0 x h.2)
+
+  -- Each has a holder in the end, and no later entry of its journal claims it
+  noted_held : (s a : ℕ) (g' : PlacedView) (x : ShardAt s g') → IsNoted x.state.hold a → IsSome (entry (last_table shards) a)
+  noted_held s a g' x noted =
+      let h = closed.agreed.of_shards s a x.state x.state_is noted in
+      subst (λ (o : Option ℕ). IsSome o) (sym (at_last h.0 a h.1 h.2 h.3)) refl
+
+  times_some : (a : ℕ) (as : List ℕ) (P : ℕ → Type 0) → AllByRecursion P as → 1 ≤ times_in a as → P a
+  times_some a [] P all some = absurd (omega (arith, some))
+  times_some a (x ∷ as) P all some = dite (ℕ_discrete x a) (λ same. subst P same all.0)
+      (λ other. times_some a as P all.1 (let none = ap {B = ℕ} (λ (b : Bool). cond b 1 0) (ne_eqb x a other) in omega (arith, some, none, sum_by-cons (λ (y : ℕ). cond (eqb y a) 1 0) x as)))
+
+  -- The law ---------------------------------------------------------------------------------------------------------------------------
+
+  rounds_same : (vs : List Sight) → map entries (journals_of (rounds_in vs)) ≡ map entries_of vs
+  rounds_same [] = refl
+  rounds_same (v ∷ vs) = ap (λ (xs : List (List Entry)). entries_of v ∷ xs) (rounds_same vs)
+
+  of_lists : (seat place : ℕ) (i : Item) → slice_get (get_or lists seat []) place ≡ Some i → (w : Whose) × (slice_get (get_or whose_is.whose seat []) place ≡ Some w) × StandsWithin (length seen_is.seen) w
+  of_lists seat place i at = by (below_or_not seat (length lists))
+    where
+      its_own : (items : List Item) (ws : List Whose) (n place : ℕ) → AllZip Its items ws → AllByRecursion (StandsWithin n) ws → slice_get items place ≡ Some i → (w : Whose) × (slice_get ws place ≡ Some w) × StandsWithin n w
+      its_own [] ws n place all within there = absurd (none-some i there)
+      its_own (x ∷ items) [] n place all within there = absurd all
+      its_own (x ∷ items) (w ∷ ws) n zero all within there = (w, refl, within.0)
+      its_own (x ∷ items) (w ∷ ws) n (suc place) all within there = its_own items ws n place all.1 within.1 there
+
+      zip_at : (ls : List (List Item)) (wss : List (List Whose)) (k : ℕ) → AllZip (AllZip Its) ls wss → AllByRecursion (λ (ws : List Whose). AllByRecursion (StandsWithin (length round.turns)) ws) wss → k < length ls
+          → AllZip Its (get_or ls k []) (get_or wss k []) × AllByRecursion (StandsWithin (length round.turns)) (get_or wss k [])
+      zip_at [] wss k all in_all low = absurd (omega (arith, low))
+      zip_at (l ∷ ls) [] k all in_all low = absurd all
+      zip_at (l ∷ ls) (ws ∷ wss) zero all in_all low = (all.0, in_all.0)
+      zip_at (l ∷ ls) (ws ∷ wss) (suc k) all in_all low = zip_at ls wss k all.1 in_all.1 (omega (arith, low))
+
+      none_past : (ls : List (List Item)) (k : ℕ) → length ls ≤ k → get_or ls k [] ≡ []
+      none_past [] k far = refl
+      none_past (l ∷ ls) zero far = absurd (omega (arith, far))
+      none_past (l ∷ ls) (suc k) far = none_past ls k (omega (arith, far))
+
+      by : (seat < length lists) ⊎ (length lists ≤ seat) → (w : Whose) × (slice_get (get_or whose_is.whose seat []) place ≡ Some w) × StandsWithin (length seen_is.seen) w
+      by (inl low) =
+          let both = zip_at lists whose_is.whose seat whose_are inside low in
+          subst (λ (n : ℕ). (w : Whose) × (slice_get (get_or whose_is.whose seat []) place ≡ Some w) × StandsWithin n w) (sym seen_is.long)
+          (its_own (get_or lists seat []) (get_or whose_is.whose seat []) (length round.turns) place both.0 both.1 at)
+      by (inr far) = absurd (none-some i (ap (λ (l : List Item). slice_get l place) (sym (none_past lists seat far)) ∙ at))
+
+  seated : (k number : ℕ) (i : Item) → Contains (listed_of lists k) i → IsCountedFrom i.kind i number → k ≡ number % length lists
+  seated k number i there counted = by (below_or_not k (length lists))
+    where
+      -- an item of a worker's list is for its seat
+      in_list : (ns : List ℕ) (items : List Item) → AllZip (IsSeat round.workers) items ns → AllByRecursion (λ (x : Item). IsSeat round.workers x k) (list_of k ns items)
+      in_list [] items all = tt
+      in_list (n ∷ ns) [] all = tt
+      in_list (n ∷ ns) (x ∷ items) all = pick (n == k) refl
+        where
+          pick : (b : Bool) → (n == k) ≡ b → AllByRecursion (λ (y : Item). IsSeat round.workers y k) (cond b (x ∷ list_of k ns items) (list_of k ns items))
+          pick true is = (subst (λ (m : ℕ). IsSeat round.workers x m) (let same : n ≡ k = grind (arith, nat_tests) in same) all.0, in_list ns items all.1)
+          pick false is = in_list ns items all.1
+
+      contained : (xs : List Item) → AllByRecursion (λ (x : Item). IsSeat round.workers x k) xs → Contains xs i → IsSeat round.workers i k
+      contained xs all has = subst (λ (x : Item). IsSeat round.workers x k) has.2 (at_of xs has.0 all has.1)
+        where
+          at_of : (ys : List Item) (n : ℕ) → AllByRecursion (λ (x : Item). IsSeat round.workers x k) ys → n < length ys → IsSeat round.workers (get_or ys n i) k
+          at_of [] n every low = absurd (omega (arith, low))
+          at_of (y ∷ ys) zero every low = every.0
+          at_of (y ∷ ys) (suc n) every low = at_of ys n every.1 (omega (arith, low))
+
+      by : (k < length lists) ⊎ (length lists ≤ k) → k ≡ number % length lists
+      by (inl low) =
+          let list : listed_of lists k ≡ list_of k round.seats round.items = list_at k (omega (arith, low, lists_long)) in
+          let is = contained (listed_of lists k) (subst (λ (l : List Item). AllByRecursion (λ (x : Item). IsSeat round.workers x k) l) (sym list) (in_list round.seats round.items closed.is_open.beside)) there in
+          is.seat_is ∙ ((λ j. counted_one i.kind i is.number number is.counted counted j % round.workers) ∙ ap (λ (n : ℕ). number % n) (sym lists_long))
+      by (inr far) = absurd (past lists far there)
+        where
+          past : (ls : List (List Item)) → length ls ≤ k → Contains (listed_of ls k) i → ⊥
+          past ls beyond has = let none = none_past ls k beyond in absurd (omega (arith, has.1, ap (λ (l : List Item). length l) none))
+            where
+              none_past : (ls : List (List Item)) (n : ℕ) → length ls ≤ n → get_or ls n [] ≡ []
+              none_past [] n far = refl
+              none_past (l ∷ ls) zero far = absurd (omega (arith, far))
+              none_past (l ∷ ls) (suc n) far = none_past ls n (omega (arith, far))
+
+  shown : AllZip (λ (g : PlacedView) (v : Sight). Shows pppoe g.shard v) shards seen_is.seen
+  shown = zip_by (λ (g : PlacedView) (v : Sight). Shows pppoe g.shard v) shards seen_is.seen (seen_is.long ∙ sym shards_long)
+      (λ s g v e f.
+      let x = shard_at s g e in
+      let same : x.view ≡ v = same_some x.view v (slice_get seen_is.seen s) x.view_at f in
+      let is = seen_at s v f in
+      let rest : g.shard ≡ x.state.shard = ap (λ (z : PlacedView). z.shard) x.more.rest in
+      subst (λ (z : Sight). Shows pppoe g.shard z) (sym x.view_is ∙ same)
+      (subst (λ (z : _). Shows pppoe z (with_journal x.state.shard x.ends.follows.effects)) (sym rest) record {
+        entries = sym (runs_journal x.turn.opening x.state x.ends.follows.effects x.ends.follows.runs ∙ ap (λ (l : List Entry). l ++ map (λ (h : Handled). h.deed.entry) x.ends.follows.effects) x.ends.follows.empty);
+        same = refl;
+      }))
+
+  -- each journal is a run of steps within its allowance
+  walk_at : (s : ℕ) (g' : PlacedView) (x : ShardAt s g') → Walks x.turn.opening x.state [] x.ends.follows.effects
+  walk_at s g' x = walks x.turn.opening x.state [] x.ends.follows.effects (sym x.ends.follows.empty) x.ends.follows.runs
+
+  all_run : Zip3 (IsRoundOfShard pppoe) (map (λ (t : TurnView PlacedView). t.opening.shard.state) round.turns) (rounds_in seen_is.seen) (map (λ (g : PlacedView). g.shard.state) shards)
+  all_run = zip3_by (IsRoundOfShard pppoe) (map (λ (t : TurnView PlacedView). t.opening.shard.state) round.turns) (rounds_in seen_is.seen) (map (λ (g : PlacedView). g.shard.state) shards)
+      (length-map seen_is.seen (λ (v : Sight). record { allowance = v.allowance; journal = v.journal }) ∙ (seen_is.long ∙ sym (length-map round.turns (λ (t : TurnView PlacedView). t.opening.shard.state))))
+      (length-map shards (λ (g : PlacedView). g.shard.state) ∙ (shards_long ∙ sym (length-map round.turns (λ (t : TurnView PlacedView). t.opening.shard.state))))
+      (λ s st r st' e f h.
+      let t = un_map (λ (t : TurnView PlacedView). t.opening.shard.state) round.turns s st e in
+      let v = un_map (λ (v : Sight). record { allowance = v.allowance; journal = v.journal }) seen_is.seen s r f in
+      let g = un_map (λ (g : PlacedView). g.shard.state) shards s st' h in
+      let x = shard_at s g.0 g.1 in
+      let walk = walk_at s g.0 x in
+      let same : x.view ≡ v.0 = same_some x.view v.0 (slice_get seen_is.seen s) x.view_at v.1 in
+      let turn : x.turn ≡ t.0 = same_some x.turn t.0 (slice_get round.turns s) x.turn_is t.1 in
+      let effects : List Handled = x.ends.follows.effects in
+      let all : IsRoundOfShard pppoe x.turn.opening.shard.state (record { allowance = x.turn.opening.shard.allowance; journal = effects }) x.state.shard.state = record {
+        steps = walk.steps;
+        limits = walk.limits;
+        few = run_few pppoe pppoe_laws x.turn.opening.shard.allowance 0 x.turn.opening.shard.state effects walk.steps walk.limits (omega arith);
+        state = walk.state;
+      } in
+      let shard_round : (record { allowance = x.turn.opening.shard.allowance; journal = effects }) ≡ r =
+      (λ i. record { allowance = sym walk.allowance i; journal = effects }) ∙ ((λ i. let z : Sight = sym x.view_is i in record { allowance = z.allowance; journal = z.journal }) ∙ ((λ i. let z : Sight = same i in record { allowance = z.allowance; journal = z.journal }) ∙ v.2)) in
+      let first : x.turn.opening.shard.state ≡ st = ap (λ (z : TurnView PlacedView). z.opening.shard.state) turn ∙ t.2 in
+      let last : x.state.shard.state ≡ st' = ap (λ (z : PlacedView). z.shard.state) (sym x.more.rest) ∙ g.2 in
+      subst (λ (z : ShardState × ShardRound Handled × ShardState). IsRoundOfShard pppoe z.0 z.1 z.2) (λ i. (first i, shard_round i, last i)) all)
+
+  in_orders : (vs : List Sight) (from : ℕ) → AreParts lists whose_is.whose from round.moment vs → AllByRecursion (IsInOrder round.moment) (map entries_of vs)
+  in_orders [] from ps = tt
+  in_orders (v ∷ vs) from ps = (in_order lists whose_is.whose from round.moment (entries_of v) ps.0 Its whose_are, in_orders vs (from + 1) ps.1)
+
+  stand_at : (s : ℕ) (es : List Entry) → slice_get (map entries_of seen_is.seen) s ≡ Some es → IsPart lists whose_is.whose s round.moment (map without_claim es)
+  stand_at s es e =
+      let v = un_map entries_of seen_is.seen s es e in let at : 0 + s ≡ s = omega arith in
+      subst (λ (z : ℕ × List Entry). IsPart lists whose_is.whose z.0 round.moment (map without_claim z.1)) (λ i. (at i, v.2 i)) (part_at s v.0 v.1)
+
+  held_here : (s : ℕ) (earlier later : List Handled) (h : Handled) (a : Ip4) → slice_get journals s ≡ Some (earlier ++ h ∷ later) → h.deed.entry.claim ≡ Held a → StaysHeld (entry (last_table shards)) later a.0
+  held_here s earlier later h a e claim =
+      let j = journal_at s (earlier ++ h ∷ later) e in let x = j.2 in
+      let told = held_later x.turn.opening x.state earlier later h a x.in_round (subst (λ (l : List Handled). Runs x.turn.opening l x.state) j.3 x.ends.follows.runs) claim in
+      (noted_held s a.0 j.0 x told.0, told.1)
+
+  exhausted_here : (s n : ℕ) (earlier later : List Handled) (h : Handled) → slice_get journals s ≡ Some (earlier ++ h ∷ later) → h.deed.entry.claim ≡ Exhausted n
+      → AllByRecursion (StaysHeld (entry (last_table shards)) later) (addresses_in (slice_get round.rules.pools n))
+  exhausted_here s n earlier later h e claim = by (slice_get round.rules.pools n) refl
+    where
+      j : (g' : PlacedView) × (slice_get shards s ≡ Some g') × (x : ShardAt s g') × (x.ends.follows.effects ≡ earlier ++ h ∷ later)
+      j = journal_at s (earlier ++ h ∷ later) e
+
+      ranged : (from len : ℕ) (P : ℕ → Type 0) → ((a : ℕ) → from ≤ a → a < from + len → P a) → AllByRecursion P (range_with_len from len)
+      ranged from zero P each = tt
+      ranged from (suc len) P each = (each from (omega arith) (omega arith), ranged (from + 1) len P (λ a low high. each a (omega (arith, low)) (omega (arith, high))))
+
+      by : (o : Option NamedRange) → slice_get round.rules.pools n ≡ o → AllByRecursion (StaysHeld (entry (last_table shards)) later) (addresses_in o)
+      by None is = tt
+      by (Some r) is =
+          let x = j.2 in
+          let here = closed.ground.holds s x.turn x.turn_is in
+          let rules : x.turn.opening.shard.state.rules ≡ round.rules = (closed.is_open.ready s x.turn x.turn_is).rules in
+          let ranges : slice_get p.ranges n ≡ Some r.range = here.0.pools_are n r (ap (λ (z : Rules). slice_get z.pools n) rules ∙ is) in
+          let goes = runs_hold x.turn.opening x.state x.ends.follows.effects x.in_round x.ends.follows.runs in
+          let pool : x.state.hold.pool ≡ p = goes.pool ∙ here.0.pool in
+          ranged r.range.first.0 (size_of r.range) (StaysHeld (entry (last_table shards)) later)
+          (λ a low high.
+          let told = exhausted_later x.turn.opening x.state earlier later h n r.range x.in_round (subst (λ (l : List Handled). Runs x.turn.opening l x.state) j.3 x.ends.follows.runs) claim
+          (ap (λ (z : PoolView). slice_get z.ranges n) pool ∙ ranges) a (low, omega (arith, low, high)) in
+          (noted_held s a j.0 x told.0, told.1))
+
+  -- Tallies and fates -----------------------------------------------------------------------------------------------------------------
+
+  module _ (k : ℕ) (w : WorkerView) (e : slice_get workers k ≡ Some w) where
+    turns_long : length seen_is.seen ≡ length w.turns
+    turns_long =
+        let v = some_at before k (omega (arith, slice_get_within workers k w e, closed.done.count.0, closed.done.count.1)) in
+        seen_is.long ∙ sym (closed.done.worked k v.0 w v.1 e).1.seats.count
+
+    passed_at : (q : Quantity) (input : Bool) → seats_passed q input w.turns ≡ sum_by (λ (v : Sight). passed_for q input (of_worker k v.journal)) seen_is.seen
+    passed_at q input =
+        sum_same (λ (z : SeatView PlacedView Mark). marks_passed q input z.own) (λ (v : Sight). passed_for q input (of_worker k v.journal)) w.turns seen_is.seen turns_long
+        (λ s z v f h. ap (marks_passed q input) (own_at k s v (seen_at s v h) w z e f) ∙ marks_pass q input (of_worker k v.journal))
+
+    fated_at : (test : Fate → Bool) → told_fates test w.turns ≡ sum_by (λ (v : Sight). fated test (of_worker k v.journal)) seen_is.seen
+    fated_at test =
+        sum_same (λ (z : SeatView PlacedView Mark). count_by (λ (m : Mark). test m.done.fate) z.own) (λ (v : Sight). fated test (of_worker k v.journal)) w.turns seen_is.seen turns_long
+        (λ s z v f h. ap (λ (ms : List Mark). count_by (λ (m : Mark). test m.done.fate) ms) (own_at k s v (seen_at s v h) w z e f) ∙ marks_fated test (of_worker k v.journal))
+
+  tally_at : (k : ℕ) (v v' : WorkerView) (q : Quantity) (input : Bool) → slice_get before k ≡ Some v → slice_get workers k ≡ Some v'
+      → in_book q input v'.tally ≡ in_book q input v.tally + sum_by (λ (w : Sight). passed_for q input (of_worker k w.journal)) seen_is.seen
+  tally_at k v v' q input e f =
+      let worked = (closed.done.worked k v v' e f).1.worked in
+      omega (arith, worked.tallied q input, passed_at k v' f q input)
+
+  total : (q : Quantity) (input : Bool) → sum_by (λ (v : WorkerView). in_book q input v.tally) workers ≡ sum_by (λ (v : WorkerView). in_book q input v.tally) before + sum_by (λ (w : Sight). passed_for q input w.journal) seen_is.seen
+  total q input =
+      let each : (k : ℕ) → ℕ = λ k. sum_by (λ (w : Sight). passed_for q input (of_worker k w.journal)) seen_is.seen in
+      let all = tallies_from q input each 0 before workers (closed.done.count.1 ∙ sym closed.done.count.0) (λ k v w e f. let at : 0 + k ≡ k = omega arith in omega (arith, tally_at k v w q input e f, ap each at)) in
+      let turned = columns (λ (k : ℕ) (w : Sight). passed_for q input (of_worker k w.journal)) (range_with_len 0 (length workers)) seen_is.seen in
+      let sums = sum_alike_by (λ (w : Sight). sum_by (λ (k : ℕ). passed_for q input (of_worker k w.journal)) (range_with_len 0 (length workers))) (λ (w : Sight). passed_for q input w.journal) seen_is.seen
+      (λ s v e.
+      let is = seen_at s v e in
+      all_passed q input (length workers) v.journal (seats_of v.journal (subst (λ (z : ℕ × List Entry). AllByRecursion (λ (x : Entry). x.seat < z.0) z.1) (λ i. (sym closed.done.count.0 i, sym (entries_are s v is) i)) (seats_low s v is)))) in
+      omega (arith, all, turned, sums)
+    where
+      seats_of : (hs : List Handled) → AllByRecursion (λ (x : Entry). x.seat < length workers) (map (λ (h : Handled). h.deed.entry) hs) → AllByRecursion (λ (h : Handled). h.deed.entry.seat < length workers) hs
+      seats_of [] every = tt
+      seats_of (h ∷ hs) every = (every.0, seats_of hs every.1)
+
+  is_round : IsRound round.rules (standing_before round) round.moment lists (rounds_in seen_is.seen) (all_loose 0 lists whose_is.whose) (standing_after shards)
+  is_round =
+      let same = rounds_same seen_is.seen in record {
+        items = record {
+          each = λ seat place.
+              ap (λ (xs : List (List Entry)). filter (stands_at seat place) (flat_map (λ (es : List Entry). map entry_stood es) xs ++ map loose_stood (all_loose 0 lists whose_is.whose))) same
+              ∙ (filter-append (stands_at seat place) (flat_map (λ (es : List Entry). map entry_stood es) (map entries_of seen_is.seen)) (map loose_stood (all_loose 0 lists whose_is.whose))
+              ∙ listed seat place lists whose_is.whose round.moment seen_is.seen parts (sym whose_long) (of_lists seat place));
+          seats = seated;
+        };
+        order = subst (AllByRecursion (IsInOrder round.moment)) (sym same) (in_orders seen_is.seen 0 parts);
+        whose = record {
+          stand = λ shard es at.
+              may_stand round.rules (opening_table round) (last_table shards) lists whose_is.whose shard round.moment es (stand_at shard es (ap (λ (xs : List (List Entry)). slice_get xs shard) (sym same) ∙ at)) whose_are;
+          left = all_may_leave round.rules (opening_table round) (last_table shards) 0 lists whose_is.whose whose_are;
+        };
+        steps = all_run;
+        claimed = record {
+          different = λ a. at_most_one a journals (once_in a) (apart_claims a);
+          free = free_claims;
+          stay = λ a none. stays a none (entry (last_table shards) a) refl;
+          held = λ a shard es at has. claims_at shard a es at (let low = has.1 in omega (arith, counted a (claims_of pppoe es) has));
+        };
+        held = λ shard earlier later h a at claim. held_here shard earlier later h a at claim;
+        exhausted = λ shard n earlier later h at claim. exhausted_here shard n earlier later h at claim;
+      }
+    where
+      counted : (a : ℕ) (xs : List ℕ) → Contains xs a → 1 ≤ times_in a xs
+      counted a [] has = absurd (omega (arith, has.1))
+      counted a (x ∷ xs) has = by has.0 has.1 has.2
+        where
+          by : (n : ℕ) → n < length (x ∷ xs) → get_or (x ∷ xs) n a ≡ a → 1 ≤ times_in a (x ∷ xs)
+          by zero low is = omega (arith, sum_by-cons (λ (y : ℕ). cond (eqb y a) 1 0) x xs, ap {B = ℕ} (λ (b : Bool). cond b 1 0) (eq-eqb x a is))
+          by (suc n) low is = omega (arith, sum_by-cons (λ (y : ℕ). cond (eqb y a) 1 0) x xs, counted a xs (n, omega (arith, low), is))
+
+  pub was_round : WasRound round before workers shards
+  was_round = record {
+    whose = whose_is.whose;
+    seen = seen_is.seen;
+    shown = shown;
+    whose_are = whose_are;
+    inside = inside;
+    parts = parts;
+    loose_are = whose_is.loose ∙ (λ i. all_loose 0 (map (λ j. list_of j round.seats round.items) (range_with_len 0 (closed.done.count.0 i))) whose_is.whose);
+    tallies = tally_at;
+    total = total;
+    drops = λ k v' test e. fated_at k v' e test;
+    is_round = is_round;
+  }
