@@ -42,10 +42,10 @@ Gives a c = 1 ≤ times_in a (claimed_by c)
 
 single : (a b : ℕ) → 1 ≤ times_in a (b ∷ []) → b ≡ a
 single a b some = dite (ℕ_discrete b a) (λ e. e)
-    (λ other. absurd (let none = ap (λ (x : Bool). cond x 1 0) (ne_eqb b a other) in omega (arith, some, none, sum_by-cons (λ (x : ℕ). cond (eqb x a) 1 0) b [])))
+    (λ other. absurd (let none = ap {B = ℕ} (λ (x : Bool). cond x 1 0) (ne_eqb b a other) in omega (arith, some, none, sum_by-cons (λ (x : ℕ). cond (eqb x a) 1 0) b [])))
 
 pub single_here : (a b : ℕ) → b ≡ a → times_in a (b ∷ []) ≡ 1
-single_here a b e = let one = ap (λ (x : Bool). cond x 1 0) (eq-eqb b a e) in omega (arith, one, sum_by-cons (λ (x : ℕ). cond (eqb x a) 1 0) b [])
+single_here a b e = let one = ap {B = ℕ} (λ (x : Bool). cond x 1 0) (eq-eqb b a e) in omega (arith, one, sum_by-cons (λ (x : ℕ). cond (eqb x a) 1 0) b [])
 
 ask_keeps : (c : Claim) (q q' : Hold) (a : ℕ) → Asks c q q' → Holds q.held a → Holds q'.held a
 ask_keeps NoClaim q q' a asks h = subst (λ (z : Hold). Holds z.held a) (sym asks) h

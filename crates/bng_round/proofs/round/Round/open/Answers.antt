@@ -13,7 +13,7 @@ use Rattle.bng_round.specs.Views.{PlacedView}
 use Rattle.bng_round.proofs.Places.{some_at, same_some}
 use Rattle.bng_round.proofs.Openings.{rows_some}
 use Rattle.bng_round.proofs.Assembling.{all_counted, lengths_are, zip_same, is_open, ground, lookers_are, opening_at}
-use Rattle.bng_round.proofs.opening.Round.open.Goals as goal
+use Rattle.bng_round.proofs.round.Round.open.Goals as goal
 
 pub memory_for-requires : goal.memory_for-requires
 memory_for-requires g c =

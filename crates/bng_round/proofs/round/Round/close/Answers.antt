@@ -12,7 +12,7 @@ use Rattle.bng_round.specs.Looking.{IsGround}
 use Rattle.bng_round.specs.Telling.{AreAgreed, AreAt, EachGoes, LookersAt}
 use Rattle.bng_round.proofs.Ended.{ends_long, ended_at, flat_cut, loose_few, lookers_at, map_cut, seats_at}
 use Rattle.bng_round.proofs.Places.{some_at}
-use Rattle.bng_round.proofs.closing.Round.close.Goals as goal
+use Rattle.bng_round.proofs.round.Round.close.Goals as goal
 
 pub end_all-shards-requires-clause-seats : goal.end_all-shards-requires-clause-seats
 end_all-shards-requires-clause-seats g c k v e =
