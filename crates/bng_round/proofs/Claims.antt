@@ -41,8 +41,8 @@ abbrev pub Gives : ℕ → Claim → Type 0
 Gives a c = 1 ≤ times_in a (claimed_by c)
 
 single : (a b : ℕ) → 1 ≤ times_in a (b ∷ []) → b ≡ a
-single a b some = dite (ℕ_discrete b a) (λ e. e)
-    (λ other. absurd (let none = ap {B = ℕ} (λ (x : Bool). cond x 1 0) (ne_eqb b a other) in omega (arith, some, none, sum_by-cons (λ (x : ℕ). cond (eqb x a) 1 0) b [])))
+single a b is_some = dite (ℕ_discrete b a) (λ e. e)
+    (λ other. absurd (let none = ap {B = ℕ} (λ (x : Bool). cond x 1 0) (ne_eqb b a other) in omega (arith, is_some, none, sum_by-cons (λ (x : ℕ). cond (eqb x a) 1 0) b [])))
 
 pub single_here : (a b : ℕ) → b ≡ a → times_in a (b ∷ []) ≡ 1
 single_here a b e = let one = ap {B = ℕ} (λ (x : Bool). cond x 1 0) (eq-eqb b a e) in omega (arith, one, sum_by-cons (λ (x : ℕ). cond (eqb x a) 1 0) b [])
@@ -79,7 +79,7 @@ ask_unnoted (Exhausted m) q q' a asks is n = omega (arith, is)
 
 ask_few : (c : Claim) (a : ℕ) → times_in a (claimed_by c) ≤ 1
 ask_few NoClaim a = omega arith
-ask_few (Claimed b) a = at_most (eqb b.0 a)
+ask_few (Claimed b) a = omega (arith, at_most (eqb b.0 a))
   where
     at_most : (x : Bool) → cond x 1 0 ≤ 1
     at_most true = omega arith

@@ -67,7 +67,7 @@ module _ (round : RoundView) (k n place : ℕ) (qs : List Seat) (h : Hold) (loos
         let some = had_one test narrow s k round.moment 0 done w.whose es targets is had in
         let all = counted_below (λ (i : Item). test i.kind && (i.target == s)) k round.seats round.items n item low in
         let this : (test item.kind && (item.target == s)) ≡ true = ap (λ b. b && (item.target == s)) tests ∙ eq-eqb item.target s target in
-        let one : cond (test (get_or round.items n item).kind && ((get_or round.items n item).target == s)) 1 0 ≡ 1 = ap (λ (i : Item). cond (test i.kind && (i.target == s)) 1 0) here ∙ ap (λ (b : Bool). cond b 1 0) this in
+        let one : cond {A = ℕ} (test (get_or round.items n item).kind && ((get_or round.items n item).target == s)) 1 0 ≡ 1 = ap {B = ℕ} (λ (i : Item). cond (test i.kind && (i.target == s)) 1 0) here ∙ ap {B = ℕ} (λ (b : Bool). cond b 1 0) this in
         omega (arith, some, all, one, most))
 
   pub due_of : (s : ℕ) (t : TurnView PlacedView) (q : Seat) → slice_get round.turns s ≡ Some t → slice_get qs s ≡ Some q → (is_for_shard item.kind ≡ true → item.target ≡ s) → IsDue t.opening q (entry_of k place round.moment item)

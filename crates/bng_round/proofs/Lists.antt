@@ -1,5 +1,6 @@
 -- The items of a worker among all.
 use Rattle.std.proofs.Common.{◌≡◌, ℕ, zero, suc, ◌+◌, ◌<◌, ◌≤◌, ◌==◌, Bool, true, false, cond, List, [], ◌∷◌, ◌++◌, length, take, count_by, get_or, refl, sym, ap, ◌∙◌, subst, arith, eq-eqb, ne_eqb}
+use Rattle.std.proofs.lemmas.List.{append-nil}
 use Rattle.std.proofs.lemmas.List.Sums.{sum_by-cons}
 use Rattle.bng_base.specs.declared.item.Item.{Item}
 use Rattle.bng_round.specs.Rounds.{list_of}
@@ -14,7 +15,10 @@ list_more k (m ∷ ns) (i ∷ items) zero d x low long = one (m == k)
   where
     one : (b : Bool) → cond b (i ∷ []) [] ≡ cond b (i ∷ []) []
     one b = refl
-list_more k (m ∷ ns) (i ∷ items) (suc n) d x low long = added (m == k) i (list_of k (take (n + 1) ns) (take (n + 1) items)) (list_of k (take n ns) (take n items)) (cond (get_or ns n d == k) (get_or items n x ∷ []) [])
+list_more k (m ∷ ns) (i ∷ items) (suc n) d x low long =
+    let next : suc n + 1 ≡ suc (n + 1) = omega arith in
+    ap (λ (z : ℕ). list_of k (take z (m ∷ ns)) (take z (i ∷ items))) next
+    ∙ added (m == k) i (list_of k (take (n + 1) ns) (take (n + 1) items)) (list_of k (take n ns) (take n items)) (cond (get_or ns n d == k) (get_or items n x ∷ []) [])
     (list_more k ns items n d x (omega (arith, low)) (omega (arith, long)))
   where
     added : (b : Bool) (i : Item) (more less one : List Item) → more ≡ less ++ one → cond b (i ∷ more) more ≡ cond b (i ∷ less) less ++ one
@@ -62,3 +66,14 @@ list_short k (m ∷ ns) (i ∷ items) = one_short (m == k) (list_of k ns items) 
     one_short : (b : Bool) (less : List Item) → length less ≤ length items → length (cond b (i ∷ less) less) ≤ suc (length items)
     one_short true less h = omega (arith, h)
     one_short false less h = omega (arith, h)
+
+-- the next item is the worker's, or another's
+pub list_next : (k : ℕ) (ns : List ℕ) (items : List Item) (n : ℕ) (d : ℕ) (x : Item) → n < length items → length ns ≡ length items → get_or items n x ≡ x → get_or ns n d ≡ k
+    → list_of k (take (n + 1) ns) (take (n + 1) items) ≡ list_of k (take n ns) (take n items) ++ x ∷ []
+list_next k ns items n d x low long here mine =
+    list_more k ns items n d x low long ∙ (ap (λ (b : Bool). list_of k (take n ns) (take n items) ++ cond b (get_or items n x ∷ []) []) (eq-eqb (get_or ns n d) k mine) ∙ ap (λ (y : Item). list_of k (take n ns) (take n items) ++ y ∷ []) here)
+
+pub list_past : (k : ℕ) (ns : List ℕ) (items : List Item) (n : ℕ) (d : ℕ) (x : Item) → n < length items → length ns ≡ length items → (get_or ns n d ≡ k → ⊥)
+    → list_of k (take (n + 1) ns) (take (n + 1) items) ≡ list_of k (take n ns) (take n items)
+list_past k ns items n d x low long other =
+    list_more k ns items n d x low long ∙ (ap (λ (b : Bool). list_of k (take n ns) (take n items) ++ cond b (get_or items n x ∷ []) []) (ne_eqb (get_or ns n d) k other) ∙ append-nil (list_of k (take n ns) (take n items)))

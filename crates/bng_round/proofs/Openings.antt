@@ -1,5 +1,5 @@
 -- How the seats of turns come to the seats of a round.
-use Rattle.std.proofs.Common.{◌≡◌, ℕ, suc, ◌+◌, ◌<◌, ◌≤◌, List, [], ◌∷◌, ◌++◌, length, set, slice_get, length-append, Some, Vec, Global, refl, sym, ap, ◌∙◌, subst, arith}
+use Rattle.std.proofs.Common.{◌≡◌, ℕ, suc, ◌+◌, ◌<◌, ◌≤◌, List, [], ◌∷◌, ◌++◌, length, set, slice_get, slice_index_or, length-append, Some, refl, sym, ap, ◌∙◌, subst, arith}
 use mathlib.Core.Logic.{dite}
 use native.Mathlib.Decide.{ℕ_discrete}
 use Rattle.std.specs.Vec.{vec_capacity}
@@ -8,15 +8,14 @@ use Rattle.bng_turn.specs.Views.{TurnView, SeatView}
 use Rattle.bng_turn.specs.Ends.{new_seat, AreAllOutside, AreUntouched}
 use Rattle.bng_turn.proofs.SeatLists.{all_new}
 use Rattle.bng_round.specs.declared.mark.Mark.{Mark}
-use Rattle.bng_base.specs.declared.item.Item.{Item}
 use Rattle.bng_round.specs.Views.{PlacedView}
 use Rattle.bng_round.specs.declared.opening.Room.{Room}
 use Rattle.bng_round.specs.Rounds.{WorkerView}
-use Rattle.bng_round.specs.Opening.{IsOpened, AreOpened, TakesSeat, AllTake, HasSeats, IsEmptyRow, seated, openings}
+use Rattle.bng_base.specs.declared.book.Book.{Book}
+use Rattle.bng_engine.specs.Quantities.{empty_book}
+use Rattle.bng_pool.specs.Seats.{SeatView as Hold}
+use Rattle.bng_round.specs.Opening.{IsOpened, AreOpened, Row, TakesSeat, AllTake, HasSeats, IsEmptyRow, worker_in, seated, openings}
 use Rattle.bng_round.proofs.Places.{at_front, at_end, at_set, at_set_same, at_set_other, same_some, some_at}
-
-abbrev pub Row : Type 0
-Row = Vec (SeatView PlacedView Mark) Global
 
 -- one seat of a row is dealt
 module _ {S : Type 0} (rooms0 rooms : List (Room S)) (row0 row row' : List (SeatView PlacedView Mark)) (seat : SeatView PlacedView Mark) (x new : Room S) (n : ℕ)
@@ -91,22 +90,22 @@ rows_on rows row' s n before is j r low e = dite (ℕ_discrete s j)
 pub seats_none : {S : Type 0} → (rows : List Row) (rooms : List (Room S)) → ((k : ℕ) (x : Room S) → slice_get rooms k ≡ Some x → x.turns.items ≡ []) → (k : ℕ) (x : Room S) → slice_get rooms k ≡ Some x → HasSeats rows k 0 x (slice_get rooms k)
 seats_none rows rooms none k x e = record { now = x; now_is = e; count = ap (λ (l : List (SeatView PlacedView Mark)). length l) (none k x e); each = λ j r low f. absurd (omega (arith, low)); room = refl; loose = refl }
 
--- one seat more
-pub seated_more : {S : Type 0} → (k : ℕ) (ls : List (List Item)) (xs : List (Room S)) (l : List Item) (x : Room S) → length xs ≡ length ls
-    → seated k (ls ++ l ∷ []) (xs ++ x ∷ []) ≡ seated k ls xs ++ record { number = k + length ls; turns = x.turns.items; list = l; items = l; loose = []; octets = 0 } ∷ []
-seated_more k [] [] l x long = let at : k ≡ k + 0 = omega arith in ap (λ (n : ℕ). record { number = n; turns = x.turns.items; list = l; items = l; loose = []; octets = 0 } ∷ []) at
-seated_more k [] (y ∷ xs) l x long = absurd (omega (arith, long))
-seated_more k (m ∷ ls) [] l x long = absurd (omega (arith, long))
-seated_more k (m ∷ ls) (y ∷ xs) l x long =
-    let rest = seated_more (k + 1) ls xs l x (omega (arith, long)) in
-    let at : k + 1 + length ls ≡ k + suc (length ls) = omega arith in
-    let first : WorkerView = record { number = k; turns = y.turns.items; list = m; items = m; loose = []; octets = 0 } in
-    ap (λ z. first ∷ z) (rest ∙ ap (λ (n : ℕ). seated (k + 1) ls xs ++ record { number = n; turns = x.turns.items; list = l; items = l; loose = []; octets = 0 } ∷ []) at)
+-- one worker more
+pub seated_more : {S : Type 0} → (tallies : List Book) (k : ℕ) (qs : List Hold) (xs : List (Room S)) (q : Hold) (x : Room S) → length xs ≡ length qs
+    → seated tallies k (qs ++ q ∷ []) (xs ++ x ∷ []) ≡ seated tallies k qs xs ++ worker_in (k + length qs) q x (slice_index_or tallies (k + length qs) empty_book) ∷ []
+seated_more tallies k [] [] q x long = let at : k ≡ k + 0 = omega arith in ap (λ (n : ℕ). worker_in n q x (slice_index_or tallies n empty_book) ∷ []) at
+seated_more tallies k [] (y ∷ xs) q x long = absurd (omega (arith, long))
+seated_more tallies k (p ∷ qs) [] q x long = absurd (omega (arith, long))
+seated_more tallies k (p ∷ qs) (y ∷ xs) q x long =
+    let rest = seated_more tallies (k + 1) qs xs q x (omega (arith, long)) in
+    let at : k + 1 + length qs ≡ k + suc (length qs) = omega arith in
+    let first : WorkerView = worker_in k p y (slice_index_or tallies k empty_book) in
+    ap (λ z. first ∷ z) (rest ∙ ap (λ (n : ℕ). seated tallies (k + 1) qs xs ++ worker_in n q x (slice_index_or tallies n empty_book) ∷ []) at)
 
-pub seated_long : {S : Type 0} → (k : ℕ) (ls : List (List Item)) (xs : List (Room S)) {n : ℕ} → length ls ≡ n → length xs ≡ n → length (seated k ls xs) ≡ n
-seated_long k [] xs e f = e
-seated_long k (l ∷ ls) [] e f = absurd (omega (arith, e, f))
-seated_long k (l ∷ ls) (x ∷ xs) {n} e f = ap suc (seated_long (k + 1) ls xs {n = length ls} refl (omega (arith, e, f))) ∙ e
+pub seated_long : {S : Type 0} → (tallies : List Book) (k : ℕ) (qs : List Hold) (xs : List (Room S)) {n : ℕ} → length qs ≡ n → length xs ≡ n → length (seated tallies k qs xs) ≡ n
+seated_long tallies k [] xs e f = e
+seated_long tallies k (q ∷ qs) [] e f = absurd (omega (arith, e, f))
+seated_long tallies k (q ∷ qs) (x ∷ xs) {n} e f = ap suc (seated_long tallies (k + 1) qs xs {n = length qs} refl (omega (arith, e, f))) ∙ e
 
 -- turns in which nothing was done --------------------------------------------------------------------------------------------
 

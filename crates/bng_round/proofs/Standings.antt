@@ -26,7 +26,7 @@ use Rattle.bng_steps.specs.Destinations.{IsForKind, IsForTarget}
 use Rattle.bng_steps.specs.Protocol.{entry_of}
 use Rattle.bng_turn.specs.Views.{TurnView}
 
-abbrev one_of : Bool → Entry → List Entry
+abbrev pub one_of : Bool → Entry → List Entry
 one_of b e = cond b (e ∷ []) []
 
 pub entries_more : (k s place now : ℕ) (items : List Item) (ws : List Whose) (i : Item) (w : Whose) (at : ℕ) → length ws ≡ length items → at ≡ place + length items

@@ -449,11 +449,6 @@ module _ (p : PoolView) (round : RoundView) (before workers : List WorkerView) (
       let h = closed.agreed.of_shards s a x.state x.state_is noted in
       subst (λ (o : Option ℕ). IsSome o) (sym (at_last h.0 a h.1 h.2 h.3)) refl
 
-  times_some : (a : ℕ) (as : List ℕ) (P : ℕ → Type 0) → AllByRecursion P as → 1 ≤ times_in a as → P a
-  times_some a [] P all some = absurd (omega (arith, some))
-  times_some a (x ∷ as) P all some = dite (ℕ_discrete x a) (λ same. subst P same all.0)
-      (λ other. times_some a as P all.1 (let none = ap {B = ℕ} (λ (b : Bool). cond b 1 0) (ne_eqb x a other) in omega (arith, some, none, sum_by-cons (λ (y : ℕ). cond (eqb y a) 1 0) x as)))
-
   -- The law ---------------------------------------------------------------------------------------------------------------------------
 
   rounds_same : (vs : List Sight) → map entries (journals_of (rounds_in vs)) ≡ map entries_of vs
