@@ -84,11 +84,11 @@ module _ (n : ℕ) (gs : List PlacedView) (ts : List (TurnView PlacedView)) (rs 
 pub list_long : (k : ℕ) (ns : List ℕ) (items : List Item) → length ns ≡ length items → length (list_of k ns items) ≡ counts_of ns k
 list_long k [] items long = refl
 list_long k (n ∷ ns) [] long = absurd (omega (arith, long))
-list_long k (n ∷ ns) (i ∷ items) long = one (n == k) ∙ sym (sum_by-cons (λ (z : ℕ). cond (z == k) 1 0) n ns)
+list_long k (n ∷ ns) (i ∷ items) long = one (list_long k ns items (omega (arith, long))) (n == k) ∙ sym (sum_by-cons (λ (z : ℕ). cond (z == k) 1 0) n ns)
   where
-    one : (b : Bool) → length (cond b (i ∷ list_of k ns items) (list_of k ns items)) ≡ cond b 1 0 + counts_of ns k
-    one true = let rest = list_long k ns items (omega (arith, long)) in omega (arith, rest)
-    one false = let rest = list_long k ns items (omega (arith, long)) in omega (arith, rest)
+    one : length (list_of k ns items) ≡ counts_of ns k → (b : Bool) → length (cond b (i ∷ list_of k ns items) (list_of k ns items)) ≡ cond b 1 0 + counts_of ns k
+    one rest true = omega (arith, rest)
+    one rest false = omega (arith, rest)
 
 lengths_from : (ns : List ℕ) (items : List Item) (from workers : ℕ) → length ns ≡ length items
     → map (counts_of ns) (range_with_len from workers) ≡ map (λ (l : List Item). length l) (map (λ k. list_of k ns items) (range_with_len from workers))

@@ -367,11 +367,11 @@ module _ (p : PoolView) (round : RoundView) (before workers : List WorkerView) (
   -- an address that is claimed is claimed by one shard, once
   claimer : (a : ℕ) (js : List (List Handled)) → 1 ≤ claimed_at pppoe a js → (s : ℕ) × (es : List Handled) × (slice_get js s ≡ Some es) × Claims a es
   claimer a [] some = absurd (omega (arith, some))
-  claimer a (es ∷ js) some = by (times_in a (claims_of pppoe es)) refl
+  claimer a (es ∷ js) some = by (λ more. claimer a js more) (times_in a (claims_of pppoe es)) refl
     where
-      by : (n : ℕ) → times_in a (claims_of pppoe es) ≡ n → (s : ℕ) × (us : List Handled) × (slice_get (es ∷ js) s ≡ Some us) × Claims a us
-      by zero is = let r = claimer a js (omega (arith, is, some, sum_by-cons (λ (us : List Handled). times_in a (claims_of pppoe us)) es js)) in (suc r.0, r.1, r.2, r.3)
-      by (suc n) is = (0, es, refl, omega (arith, is))
+      by : (1 ≤ claimed_at pppoe a js → (s : ℕ) × (us : List Handled) × (slice_get js s ≡ Some us) × Claims a us) → (n : ℕ) → times_in a (claims_of pppoe es) ≡ n → (s : ℕ) × (us : List Handled) × (slice_get (es ∷ js) s ≡ Some us) × Claims a us
+      by later zero is = let r = later (omega (arith, is, some, sum_by-cons (λ (us : List Handled). times_in a (claims_of pppoe us)) es js)) in (suc r.0, r.1, r.2, r.3)
+      by later (suc n) is = (0, es, refl, omega (arith, is))
 
   none_at_all : (a : ℕ) (js : List (List Handled)) → ((s : ℕ) (us : List Handled) → slice_get js s ≡ Some us → Claims a us → ⊥) → claimed_at pppoe a js ≡ 0
   none_at_all a [] none = refl
@@ -395,19 +395,15 @@ module _ (p : PoolView) (round : RoundView) (before workers : List WorkerView) (
   at_most_one : (a : ℕ) (js : List (List Handled)) → ((s : ℕ) (us : List Handled) → slice_get js s ≡ Some us → times_in a (claims_of pppoe us) ≤ 1)
       → ((i j : ℕ) (es us : List Handled) → slice_get js i ≡ Some es → slice_get js j ≡ Some us → Claims a es → Claims a us → i ≡ j) → claimed_at pppoe a js ≤ 1
   at_most_one a [] each apart = omega arith
-  at_most_one a (es ∷ js) each apart = by (times_in a (claims_of pppoe es)) refl
+  at_most_one a (es ∷ js) each apart =
+      by (at_most_one a js (λ s us e. each (suc s) us e) (λ i j xs us e f c d. let same = apart (suc i) (suc j) xs us e f c d in omega (arith, same))) (times_in a (claims_of pppoe es)) refl
     where
       zero_not : (j : ℕ) → 0 ≡ suc j → ⊥
       zero_not j e = omega (arith, e)
 
-      by : (n : ℕ) → times_in a (claims_of pppoe es) ≡ n → claimed_at pppoe a (es ∷ js) ≤ 1
-      by zero is = omega (
-        arith,
-        is,
-        sum_by-cons (λ (us : List Handled). times_in a (claims_of pppoe us)) es js,
-        at_most_one a js (λ s us e. each (suc s) us e) (λ i j xs us e f c d. let same = apart (suc i) (suc j) xs us e f c d in omega (arith, same)),
-      )
-      by (suc n) is =
+      by : claimed_at pppoe a js ≤ 1 → (n : ℕ) → times_in a (claims_of pppoe es) ≡ n → claimed_at pppoe a (es ∷ js) ≤ 1
+      by most zero is = omega (arith, is, sum_by-cons (λ (us : List Handled). times_in a (claims_of pppoe us)) es js, most)
+      by most (suc n) is =
           let here : Claims a es = omega (arith, is) in
           let rest = none_at_all a js (λ j us e c. zero_not j (apart 0 (suc j) es us refl e here c)) in
           omega (arith, rest, each 0 es refl, sum_by-cons (λ (us : List Handled). times_in a (claims_of pppoe us)) es js)
@@ -490,11 +486,11 @@ module _ (p : PoolView) (round : RoundView) (before workers : List WorkerView) (
       in_list : (ns : List ℕ) (items : List Item) → AllZip (IsSeat round.workers) items ns → AllByRecursion (λ (x : Item). IsSeat round.workers x k) (list_of k ns items)
       in_list [] items all = tt
       in_list (n ∷ ns) [] all = tt
-      in_list (n ∷ ns) (x ∷ items) all = pick (n == k) refl
+      in_list (n ∷ ns) (x ∷ items) all = pick (in_list ns items all.1) (n == k) refl
         where
-          pick : (b : Bool) → (n == k) ≡ b → AllByRecursion (λ (y : Item). IsSeat round.workers y k) (cond b (x ∷ list_of k ns items) (list_of k ns items))
-          pick true is = (subst (λ (m : ℕ). IsSeat round.workers x m) (let same : n ≡ k = grind (arith, nat_tests) in same) all.0, in_list ns items all.1)
-          pick false is = in_list ns items all.1
+          pick : AllByRecursion (λ (y : Item). IsSeat round.workers y k) (list_of k ns items) → (b : Bool) → (n == k) ≡ b → AllByRecursion (λ (y : Item). IsSeat round.workers y k) (cond b (x ∷ list_of k ns items) (list_of k ns items))
+          pick rest true is = (subst (λ (m : ℕ). IsSeat round.workers x m) (let same : n ≡ k = grind (arith, nat_tests, is) in same) all.0, rest)
+          pick rest false is = rest
 
       contained : (xs : List Item) → AllByRecursion (λ (x : Item). IsSeat round.workers x k) xs → Contains xs i → IsSeat round.workers i k
       contained xs all has = subst (λ (x : Item). IsSeat round.workers x k) has.2 (at_of xs has.0 all has.1)
@@ -552,7 +548,7 @@ module _ (p : PoolView) (round : RoundView) (before workers : List WorkerView) (
       let all : IsRoundOfShard pppoe x.turn.opening.shard.state (record { allowance = x.turn.opening.shard.allowance; journal = effects }) x.state.shard.state = record {
         steps = walk.steps;
         limits = walk.limits;
-        few = run_few pppoe pppoe_laws x.turn.opening.shard.allowance 0 x.turn.opening.shard.state effects walk.steps walk.limits (omega arith);
+        few = omega (arith, run_few pppoe pppoe_laws x.turn.opening.shard.allowance 0 x.turn.opening.shard.state effects walk.steps walk.limits (omega arith));
         state = walk.state;
       } in
       let shard_round : (record { allowance = x.turn.opening.shard.allowance; journal = effects }) ≡ r =
@@ -670,11 +666,11 @@ module _ (p : PoolView) (round : RoundView) (before workers : List WorkerView) (
     where
       counted : (a : ℕ) (xs : List ℕ) → Contains xs a → 1 ≤ times_in a xs
       counted a [] has = absurd (omega (arith, has.1))
-      counted a (x ∷ xs) has = by has.0 has.1 has.2
+      counted a (x ∷ xs) has = by (λ rest. counted a xs rest) has.0 has.1 has.2
         where
-          by : (n : ℕ) → n < length (x ∷ xs) → get_or (x ∷ xs) n a ≡ a → 1 ≤ times_in a (x ∷ xs)
-          by zero low is = omega (arith, sum_by-cons (λ (y : ℕ). cond (eqb y a) 1 0) x xs, ap {B = ℕ} (λ (b : Bool). cond b 1 0) (eq-eqb x a is))
-          by (suc n) low is = omega (arith, sum_by-cons (λ (y : ℕ). cond (eqb y a) 1 0) x xs, counted a xs (n, omega (arith, low), is))
+          by : (Contains xs a → 1 ≤ times_in a xs) → (n : ℕ) → n < length (x ∷ xs) → get_or (x ∷ xs) n a ≡ a → 1 ≤ times_in a (x ∷ xs)
+          by later zero low is = omega (arith, sum_by-cons (λ (y : ℕ). cond (eqb y a) 1 0) x xs, ap {B = ℕ} (λ (b : Bool). cond b 1 0) (eq-eqb x a is))
+          by later (suc n) low is = omega (arith, sum_by-cons (λ (y : ℕ). cond (eqb y a) 1 0) x xs, later (n, omega (arith, low), is))
 
   pub was_round : WasRound round before workers shards
   was_round = record {

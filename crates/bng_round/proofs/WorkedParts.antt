@@ -115,11 +115,11 @@ seen_of workers from (t ∷ ts) (g ∷ gs) ends =
 
 pub bare_seat : (k : ℕ) (es : List Entry) → of_seat k (map without_claim es) ≡ map without_claim (of_seat k es)
 bare_seat k [] = refl
-bare_seat k (e ∷ es) = one (e.seat == k)
+bare_seat k (e ∷ es) = one (bare_seat k es) (e.seat == k)
   where
-    one : (b : Bool) → cond b (without_claim e ∷ of_seat k (map without_claim es)) (of_seat k (map without_claim es)) ≡ map without_claim (cond b (e ∷ of_seat k es) (of_seat k es))
-    one true = ap (λ (l : List Entry). without_claim e ∷ l) (bare_seat k es)
-    one false = bare_seat k es
+    one : of_seat k (map without_claim es) ≡ map without_claim (of_seat k es) → (b : Bool) → cond b (without_claim e ∷ of_seat k (map without_claim es)) (of_seat k (map without_claim es)) ≡ map without_claim (cond b (e ∷ of_seat k es) (of_seat k es))
+    one rest true = ap (λ (l : List Entry). without_claim e ∷ l) rest
+    one rest false = rest
 
 pub all_bare : (n : ℕ) (es : List Entry) → AllByRecursion (λ (e : Entry). e.seat < n) es → AllByRecursion (λ (e : Entry). e.seat < n) (map without_claim es)
 all_bare n [] all = tt
@@ -194,7 +194,7 @@ turned {A} {B} f (x ∷ xs) ys = omega (
 
 picked : (b : Bool) (q : Quantity) (input : Bool) (h : Handled) (hs : List Handled) → passed_for q input (cond b (h ∷ hs) hs) ≡ cond b (passed_sum (charge_if q (is_directed input)) h.deed.outs) 0 + passed_for q input hs
 picked true q input h hs = sum_by-cons (λ (x : Handled). passed_sum (charge_if q (is_directed input)) x.deed.outs) h hs
-picked false q input h hs = refl
+picked false q input h hs = omega arith
 
 hits_none : (n p from w : ℕ) → n < from → sum_by (λ (k : ℕ). cond (n == k) p 0) (range_with_len from w) ≡ 0
 hits_none n p from zero low = refl
