@@ -254,4 +254,4 @@ module _ (p : PoolView) (r : Rules) (shards gs : List PlacedView) (lookers looke
   pub opening_at : (s : ℕ) (g : PlacedView) (t : TurnView PlacedView) → slice_get shards s ≡ Some g → slice_get ts s ≡ Some t → IsOpening (length items) (slice_index_or allowances s 0) g t
   opening_at s g t e f =
       let m = made_at s t f in
-      subst (λ (z : PlacedView). IsOpening (length items) (slice_index_or allowances s 0) z t) (same_some m.0 g (slice_get shards s) m.1 e) record { kept = m.2.kept; ready = m.2.ready; hold = m.2.hold }
+      subst (λ (z : PlacedView). IsOpening (length items) (slice_index_or allowances s 0) z t) (same_some m.0 g (slice_get shards s) m.1 e) record { kept = m.2.kept; ready = m.2.ready; hold = m.2.hold; fit = m.2.fit; few = m.2.few }

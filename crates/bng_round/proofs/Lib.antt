@@ -19,4 +19,5 @@ pub mod Claims
 pub mod Listed
 pub mod Tracing
 pub mod WorkedParts
+pub mod Turned
 pub mod Was

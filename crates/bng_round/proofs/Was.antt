@@ -26,6 +26,7 @@ use Rattle.bng_engine.specs.Lists.{Zip3}
 use Rattle.bng_engine.specs.Quantities.{Quantity, in_book}
 use Rattle.bng_engine.specs.Rounds.{IsRoundOfShard, ShardRound, journals_of}
 use Rattle.bng_engine.specs.Showing.{Shows, with_journal}
+use Rattle.bng_engine.specs.Terms.{Term}
 use Rattle.bng_engine.proofs.Journals.{run_few}
 use Rattle.bng_pool.specs.OneHand.{AreInOneHand, HasHolder, table_of}
 use Rattle.bng_pool.specs.Ranges.{HasAddress}
@@ -33,7 +34,7 @@ use Rattle.bng_pool.specs.Seats.{PoolView, SeatView as Hold, Holds, IsInRound, N
 use Rattle.bng_pool.specs.Tables.{Table, entry}
 use Rattle.bng_pool.proofs.Entries.{free_in, holder_in, in_table}
 use Rattle.bng_round.specs.declared.mark.Mark.{Mark}
-use Rattle.bng_round.specs.Asking.{Goes, IsNoted}
+use Rattle.bng_round.specs.Asking.{AreHeldBy, Goes, IsNoted}
 use Rattle.bng_round.specs.Booking.{Runs, mark_of, of_seat, without_claim}
 use Rattle.bng_round.specs.Closing.{AreAllDone, Ends, IsClosed}
 use Rattle.bng_round.specs.Dealing.{StandsWithin, all_loose, entries_in, loose_in, loose_item, stands_in}
@@ -41,23 +42,25 @@ use Rattle.bng_round.specs.Entering.{entries_in_marks}
 use Rattle.bng_round.specs.Looking.{IsSeen, WasFound}
 use Rattle.bng_round.specs.Rounds.{RoundView, WorkerView, IsOpen, list_of, lists_in}
 use Rattle.bng_round.specs.Telling.{KnowsMore}
-use Rattle.bng_round.specs.Views.{PlacedView, Sight}
-use Rattle.bng_round.specs.Was.{AreParts, HasAll, IsPart, IsWhoseIn, WasRound, fated, last_table, of_worker, opening_table, passed_for, rounds_in, standing_after, standing_before, told_fates}
+use Rattle.bng_round.specs.Views.{PlacedView, Shown, Sight}
+use Rattle.bng_round.specs.Was.{AreParts, HasAll, IsLight, IsPart, IsWhoseIn, Remains, StaysInTurn, WasRound, fated, last_table, of_worker, opening_table, passed_for, rounds_in, standing_after, standing_before, told_fates}
 use Rattle.bng_round.specs.Working.{AreSeats, HasWorked, marks_passed, seats_passed}
+use Rattle.bng_round.proofs.Answering.{goes_on}
 use Rattle.bng_round.proofs.Assembling.{zip_same}
 use Rattle.bng_round.proofs.Claims.{Claims, Walks, exhausted_later, held_later, run_claims, run_free, run_keeps, run_once, run_only, single_here, walks}
 use Rattle.bng_round.proofs.Ended.{ends_long, list_from}
-use Rattle.bng_round.proofs.Following.{follows_seat, runs_hold, runs_journal, runs_within, set_within}
+use Rattle.bng_round.proofs.Following.{follows_seat, runs_held, runs_hold, runs_journal, runs_keep, runs_within, set_within}
 use Rattle.bng_round.proofs.Listed.{all_by_seat, below_or_not, entries_of, listed, places_alike}
 use Rattle.bng_round.proofs.Places.{some_at, same_some, sum_same}
 use Rattle.bng_round.proofs.Tracing.{all_may_leave, counted_one, in_order, may_stand}
+use Rattle.bng_round.proofs.Turned.{runs_light, turn_runs}
 use Rattle.bng_round.proofs.WorkedParts.{Handed, SeenAt, SeenOf, WhoseOf, all_bare, all_passed, bare_seat, columns, marks_by, marks_fated, marks_pass, seen_of, sum_alike_by, tallies_from, whose_of}
 use Rattle.bng_steps.specs.declared.destination.Destination.{Destination}
 use Rattle.bng_steps.specs.declared.destination.Destination.TheVariants.{Loose as LeadsNowhere, Stands as LeadsTo, Holder}
 use Rattle.bng_steps.specs.declared.rules.Rules.{Rules}
 use Rattle.bng_steps.specs.declared.whose.Whose.{Whose}
 use Rattle.bng_steps.specs.declared.whose.Whose.TheVariants.{Loose as IsLoose, Stands}
-use Rattle.bng_steps.specs.Protocol.{Handled, ShardState, addresses_in, pppoe}
+use Rattle.bng_steps.specs.Protocol.{Handled, ShardState, addresses_in, pppoe, terms_of}
 use Rattle.bng_steps.specs.Rounds.{IsInOrder, IsRound, StaysHeld, entries, entry_stood, loose_stood, stands_at}
 use Rattle.bng_steps.specs.Rounds.{list_of as listed_of}
 use Rattle.bng_steps.specs.Destinations.{IsDestination}
@@ -528,6 +531,41 @@ module _ (p : PoolView) (round : RoundView) (before workers : List WorkerView) (
         same = refl;
       }))
 
+  -- what is known of each shard from its opening on
+  held_same : (q q' : Hold) (ts ts' : List Term) → q'.held ≡ q.held → ts' ≡ ts → AreHeldBy q ts → AreHeldBy q' ts'
+  held_same q q' ts ts' e f is = subst (λ (z : List ℕ × List Term). AllByRecursion (λ (t : Term). Holds z.0 t.key.lease.0) z.1) (λ i. (sym e i, sym f i)) is
+
+  remain : AllZip (λ (t : TurnView PlacedView) (g : PlacedView). Remains t.opening g) round.turns shards
+  remain = zip_by (λ (t : TurnView PlacedView) (g : PlacedView). Remains t.opening g) round.turns shards shards_long
+      (λ s t g e f.
+      let x = shard_at s g f in
+      let same : x.turn ≡ t = same_some x.turn t (slice_get round.turns s) x.turn_is e in
+      let keeps = runs_keep x.turn.opening x.state x.ends.follows.effects x.ends.follows.runs in
+      let rest : g.shard ≡ x.state.shard = ap (λ (z : PlacedView). z.shard) x.more.rest in
+      let all : Remains x.turn.opening g = record {
+        number = ap (λ (z : Shown). z.number) rest ∙ keeps.number;
+        rules = ap (λ (z : Shown). z.state.rules) rest ∙ keeps.rules;
+        hold = goes_on x.turn.opening.hold x.state.hold g.hold (runs_hold x.turn.opening x.state x.ends.follows.effects x.in_round x.ends.follows.runs) x.more.goes;
+        held = held_same x.state.hold g.hold (terms_of x.state.shard.state) (terms_of g.shard.state) x.more.held (ap (λ (z : Shown). terms_of z.state) rest)
+            (runs_held x.turn.opening x.state x.ends.follows.effects (closed.is_open.ready s x.turn x.turn_is).set.held x.ends.follows.runs);
+      } in
+      subst (λ (z : TurnView PlacedView). Remains z.opening g) same all)
+
+  turned : AllZip (λ (t : TurnView PlacedView) (v : Sight). StaysInTurn t.opening v) round.turns seen_is.seen
+  turned = zip_by (λ (t : TurnView PlacedView) (v : Sight). StaysInTurn t.opening v) round.turns seen_is.seen seen_is.long
+      (λ s t v e f.
+      let is = seen_at s v f in
+      let same : is.turn ≡ t = same_some is.turn t (slice_get round.turns s) is.turn_is e in
+      let all : StaysInTurn is.turn.opening (with_journal is.state.shard is.ends.follows.effects) =
+      λ begun turn none. turn_runs begun is.turn.opening is.state [] is.ends.follows.effects (sym is.ends.follows.empty) none turn is.ends.follows.runs in
+      subst (λ (z : TurnView PlacedView × Sight). StaysInTurn z.0.opening z.1) (λ i. (same i, sym is.view_is i)) all)
+
+  light : AllByRecursion (λ (v : Sight). AllByRecursion IsLight v.journal) seen_is.seen
+  light = all_by (λ (v : Sight). AllByRecursion IsLight v.journal) seen_is.seen
+      (λ s v f.
+      let is = seen_at s v f in
+      subst (λ (z : Sight). AllByRecursion IsLight z.journal) (sym is.view_is) (runs_light is.turn.opening is.state is.ends.follows.effects is.ends.follows.runs))
+
   -- each journal is a run of steps within its allowance
   walk_at : (s : ℕ) (g' : PlacedView) (x : ShardAt s g') → Walks x.turn.opening x.state [] x.ends.follows.effects
   walk_at s g' x = walks x.turn.opening x.state [] x.ends.follows.effects (sym x.ends.follows.empty) x.ends.follows.runs
@@ -677,6 +715,9 @@ module _ (p : PoolView) (round : RoundView) (before workers : List WorkerView) (
     whose = whose_is.whose;
     seen = seen_is.seen;
     shown = shown;
+    remain = remain;
+    turned = turned;
+    light = light;
     whose_are = whose_are;
     inside = inside;
     parts = parts;

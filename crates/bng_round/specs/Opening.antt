@@ -6,6 +6,8 @@ use Rattle.bng_base.specs.declared.book.Book.{Book}
 use Rattle.bng_base.specs.declared.item.Item.{Item}
 use Rattle.bng_engine.specs.Calls.{Kept, IsReady as IsShardReady}
 use Rattle.bng_engine.specs.Quantities.{empty_book}
+use Rattle.bng_engine.specs.Terms.{keys}
+use Rattle.bng_engine.specs.Views.{row_keys}
 use Rattle.bng_pool.specs.Ranges.{HasAddress}
 use Rattle.bng_pool.specs.Seats.{PoolView, SeatView as Hold, Holds}
 use Rattle.bng_round.specs.declared.mark.Mark.{Mark}
@@ -19,7 +21,7 @@ use Rattle.bng_round.specs.Telling.{EachGoes, IsAt}
 use Rattle.bng_round.specs.Views.{PlacedView}
 use Rattle.bng_round.specs.Working.{IsFresh}
 use Rattle.bng_steps.specs.declared.rules.Rules.{Rules}
-use Rattle.bng_steps.specs.Protocol.{terms_of}
+use Rattle.bng_steps.specs.Protocol.{sessions_of, terms_of}
 use Rattle.bng_steps.specs.Seats.{IsSeat}
 use Rattle.bng_steps.specs.Sums.{AreLow, IsLow}
 use Rattle.bng_turn.specs.Ends.{new_seat}
@@ -66,11 +68,13 @@ pub record IsNew (p : PoolView) (round : RoundView) (k : ℕ) (tally : Book) (v 
   pub looker : IsLooker round.turns p v.looker
   pub tally_is : v.tally ≡ tally
 
--- a turn's opening is this shard, made ready
+-- a turn's opening is this shard, made ready; it has a row for each term, and no more sessions than it may
 pub record IsOpening (items allowance : ℕ) (g : PlacedView) (t : TurnView PlacedView) : Type 0 where
   pub kept : Kept g.shard t.opening.shard
   pub ready : IsShardReady items allowance t.opening.shard
   pub hold : t.opening.hold ≡ g.hold
+  pub fit : row_keys t.opening.shard.rows ≡ keys (terms_of t.opening.shard.state)
+  pub few : sessions_of t.opening.shard.state ≤ 1022
 
 -- The round that was opened, and its workers: each turn's opening is its shard, made ready, and no worker has handled anything.
 pub record Opens (p : PoolView) (r : Rules) (shards : List PlacedView) (lookers : List Hold) (tallies : List Book) (items : List Item) (seats : List ℕ) (now : ℕ) (allowances : List ℕ) (round : RoundView) (workers : List WorkerView) : Type 0 where
@@ -119,6 +123,8 @@ pub record IsMade (lists : List ℕ) (items allowance now : ℕ) (g made : Place
   pub kept : Kept g.shard made.shard
   pub hold : made.hold ≡ g.hold
   pub within : (a : ℕ) → Holds made.hold.held a → HasAddress made.hold.pool.ranges a
+  pub fit : row_keys made.shard.rows ≡ keys (terms_of made.shard.state)
+  pub few : sessions_of made.shard.state ≤ 1022
 
 -- so were all
 abbrev pub EachMade : List ℕ → ℕ → List ℕ → ℕ → List PlacedView → List PlacedView → Type 0

@@ -1,24 +1,27 @@
 -- What a closed round was.
-use Rattle.std.specs.Prelude.{◌≡◌, ℕ, ◌+◌, ◌<◌, ◌==◌, Bool, List, [], ◌∷◌, Some, count_by, filter, length, map, slice_get, slice_index_or, sum_by}
+use Rattle.std.specs.Prelude.{◌≡◌, ℕ, ◌+◌, ◌<◌, ◌≤◌, ◌==◌, Bool, List, [], ◌∷◌, Some, count_by, filter, length, map, slice_get, slice_index_or, sum_by}
 use Rattle.std.specs.List.{All, AllByRecursion, AllZip, flat_map}
 use Rattle.bng_base.specs.declared.fate.Fate.{Fate}
 use Rattle.bng_base.specs.declared.item.Entry.{Entry}
 use Rattle.bng_base.specs.declared.item.Item.{Item}
 use Rattle.bng_base.specs.declared.item.Loose.{Loose}
+use Rattle.bng_engine.specs.Calls.{InTurn}
 use Rattle.bng_engine.specs.Quantities.{Quantity, in_book}
 use Rattle.bng_engine.specs.Rounds.{ShardRound}
-use Rattle.bng_engine.specs.Showing.{Shows}
+use Rattle.bng_engine.specs.Showing.{Shows, with_journal}
 use Rattle.bng_engine.specs.Sums.{charge_if, is_directed, passed_sum}
 use Rattle.bng_pool.specs.OneHand.{table_of}
 use Rattle.bng_pool.specs.Tables.{Table, entry}
 use Rattle.bng_round.specs.declared.mark.Mark.{Mark}
+use Rattle.bng_round.specs.Asking.{AreHeldBy, Goes}
 use Rattle.bng_round.specs.Booking.{without_claim, of_seat, mark_of}
 use Rattle.bng_round.specs.Dealing.{StandsWithin, all_loose, entries_in}
 use Rattle.bng_round.specs.Rounds.{RoundView, WorkerView, lists_in}
 use Rattle.bng_round.specs.Views.{PlacedView, Sight}
 use Rattle.bng_steps.specs.declared.rules.Rules.{Rules}
 use Rattle.bng_steps.specs.declared.whose.Whose.{Whose}
-use Rattle.bng_steps.specs.Protocol.{Handled, pppoe}
+use Rattle.bng_steps.specs.Hearing.{outs_most}
+use Rattle.bng_steps.specs.Protocol.{Handled, packet_octets, pppoe, terms_of}
 use Rattle.bng_steps.specs.Rounds.{IsRound, Standing}
 use Rattle.bng_steps.specs.Whose.{IsWhose}
 use Rattle.bng_turn.specs.Views.{TurnView, SeatView}
@@ -79,6 +82,23 @@ standing_after shards = record { states = map (λ (g : PlacedView). g.shard.stat
 abbrev pub rounds_in : List Sight → List (ShardRound Handled)
 rounds_in seen = map (λ (v : Sight). record { allowance = v.allowance; journal = v.journal }) seen
 
+-- What a shard is after a round: it has its number and its rules; its seat at the words knows more than at the opening, and holds the address
+-- of each term.
+pub record Remains (o g : PlacedView) : Type 0 where
+  pub number : g.shard.number ≡ o.shard.number
+  pub rules : g.shard.state.rules ≡ o.shard.state.rules
+  pub hold : Goes o.hold g.hold
+  pub held : AreHeldBy g.hold (terms_of g.shard.state)
+
+-- A shard that was within a turn when the round opened, and had sent nothing, is within it at the end: its rows, its books and its outs are
+-- what the entries of its journal made of them.
+abbrev pub StaysInTurn : PlacedView → Sight → Type 0
+StaysInTurn o v = (begun : Sight) → InTurn pppoe begun (with_journal o.shard []) → o.shard.sends ≡ [] → InTurn pppoe begun v × (v.sends ≡ [])
+
+-- what an entry did has at most 4,160 octets of packets, and few outs
+abbrev pub IsLight : Handled → Type 0
+IsLight h = (packet_octets h.deed.outs ≤ 4160) × (length h.deed.outs ≤ outs_most h.deed.entry.item.kind)
+
 -- Whose each item of each worker's list was, and what each entry of each shard did. Each item was handled in the shard that it was for, or is
 -- loose. What a worker's tally rose by is what passed for the entries of its list, and the fates that it was told are theirs. It is a round as
 -- a trace holds it.
@@ -86,6 +106,9 @@ pub record WasRound (round : RoundView) (before workers : List WorkerView) (shar
   pub whose : List (List Whose)
   pub seen : List Sight
   pub shown : AllZip (λ (g : PlacedView) (v : Sight). Shows pppoe g.shard v) shards seen
+  pub remain : AllZip (λ (t : TurnView PlacedView) (g : PlacedView). Remains t.opening g) round.turns shards
+  pub turned : AllZip (λ (t : TurnView PlacedView) (v : Sight). StaysInTurn t.opening v) round.turns seen
+  pub light : AllByRecursion (λ (v : Sight). AllByRecursion IsLight v.journal) seen
   pub whose_are : AllZip (AllZip (IsWhoseIn round.rules (opening_table round) (last_table shards))) (lists_in round) whose
   pub inside : AllByRecursion (λ (ws : List Whose). AllByRecursion (StandsWithin (length round.turns)) ws) whose
   pub parts : AreParts (lists_in round) whose 0 round.moment seen

@@ -17,7 +17,7 @@ loop-s-preserved g c =
     record {
       count = length-set c.loop-s.shards.items n made ∙ inv.count;
       before = each_more (λ j v m. IsMade c.args.lengths.now c.args.items (slice_index_or c.args.allowances.now j 0) c.args.now v m) c.args.shards.now.items c.loop-s.shards.items n was made first
-          (record { set = search rules; ready = search rules; lists_are = search rules; moment = search rules; kept = c.prepare.ensures.kept; hold = c.prepare.ensures.hold; within = c.prepare.ensures.within })
+          (record { set = search rules; ready = search rules; lists_are = search rules; moment = search rules; kept = c.prepare.ensures.kept; hold = c.prepare.ensures.hold; within = c.prepare.ensures.within; fit = c.prepare.ensures.fit; few = c.prepare.ensures.few })
           inv.before;
       after = λ j high. at_set_other c.loop-s.shards.items n j made (λ e. omega (arith, e, high)) ∙ inv.after j (omega (arith, high));
     }
