@@ -78,7 +78,7 @@ back_at lists items now allowances shards0 shards n before after rest s v x e f 
     (λ low. back_made lists items (slice_index_or allowances s 0) now v x (before s v x (omega (arith, low)) e f))
 
 pub returns-clause-all : goal.returns-clause-all
-returns-clause-all g c yes s v made e f =
+returns-clause-all g c all_ready s v made e f =
     c.loop-s.invariant.before s v made (omega (arith, c.loop-s-test.false, c.len-s-end.ensures, c.args.shards.now.ok.0, slice_get_within c.args.shards.now.items s v e)) e f
 
 pub returns-clause-back : goal.returns-clause-back
