@@ -88,4 +88,5 @@ pub mod Silent
 pub mod Limiting
 pub mod Ticking
 pub mod Overdue
+pub mod Reckoning
 pub mod Spacing
