@@ -89,4 +89,5 @@ pub mod Limiting
 pub mod Ticking
 pub mod Overdue
 pub mod Reckoning
+pub mod Untimed
 pub mod Spacing

@@ -30,13 +30,13 @@ use Rattle.bng_steps.specs.declared.session.Session.{Session}
 use Rattle.bng_steps.specs.Cutting.{cut_at, cut_if, cut_of, cut_off, cut_told, is_cut, numbers_most}
 use Rattle.bng_steps.specs.Deed.{Deed, at_of, beside_of}
 use Rattle.bng_steps.specs.L2tp.{tunnels_most}
-use Rattle.bng_steps.specs.Link.{Drives, ended, told}
+use Rattle.bng_steps.specs.Link.{ended, told}
 use Rattle.bng_steps.specs.Passing.{cause_at, lapsed, looked, passed_at}
 use Rattle.bng_steps.specs.Silence.{IsLiveIn, IsOld, IsSilent}
 use Rattle.bng_steps.specs.State.{Beside, State, beside_at, leaves, leaves_in, with_driven, with_ended, with_tunnels}
 use Rattle.bng_steps.specs.Step.{Hears, Step}
 use Rattle.bng_steps.specs.Tenures.{Tenure}
-use Rattle.bng_steps.specs.Timers.{HearsTick, IsTimed, LooksAt, LosesTerm, NoneIsDue, Reminds, Ticks, TimesIn, at_once, deadline_in, deadline_of, deadline_unless, due_at, link_deadline}
+use Rattle.bng_steps.specs.Timers.{HearsTick, LooksAt, LosesTerm, NoneIsDue, Reminds, Ticks, TimesIn, at_once, deadline_in, deadline_of, deadline_unless, due_at, link_deadline}
 use Rattle.bng_steps.proofs.CircuitsKept.{Ending, closed_holds}
 use Rattle.bng_steps.proofs.Limiting.{drives_was}
 use Rattle.bng_steps.proofs.SeenLeases.{looked_was}
@@ -69,10 +69,10 @@ no_session false false e = refl
 -- Links --------------------------------------------------------------------------------------------------------------------
 
 -- a link's timers end no term by such a cause
-abbrev OfLink : Option ℕ → Type 0
+abbrev pub OfLink : Option ℕ → Type 0
 OfLink cause = IfSome cause (λ k. (k ≡ 1) ⊎ (k ≡ 2))
 
-ended_link : (live left ended : Bool) (cause : ℕ) → (cause ≡ 1) ⊎ (cause ≡ 2) → OfLink (ended_by live left ended cause)
+pub ended_link : (live left ended : Bool) (cause : ℕ) → (cause ≡ 1) ⊎ (cause ≡ 2) → OfLink (ended_by live left ended cause)
 ended_link false left ended cause is = tt
 ended_link true true ended cause is = is
 ended_link true false true cause is = inl refl
@@ -82,7 +82,7 @@ loss_link : (old : PppState) (now cause : ℕ) → IsLossCause old now cause →
 loss_link old now cause (inl (finishes, is)) = inl is
 loss_link old now cause (inr (goes_on, is)) = inr is
 
-goes_link : (r : LinkRules) (now : ℕ) (random : List ℕ) (old : PppState) (t : Turn) (cause : Option ℕ) → PppGoes r Timer now random old t cause → OfLink cause
+pub goes_link : (r : LinkRules) (now : ℕ) (random : List ℕ) (old : PppState) (t : Turn) (cause : Option ℕ) → PppGoes r Timer now random old t cause → OfLink cause
 goes_link r now random old t cause (reminds, (n, loss, is)) = subst OfLink (sym is) (ended_link t.link.live t.left t.ended n (loss_link old now n loss))
 
 timer_link : (r : LinkRules) (now : ℕ) (random : List ℕ) (old : PppState) (says : PppSaid) (new : PppState) → PppSteps r Timer now random old says new → OfLink says.term_ended

@@ -1,5 +1,5 @@
 -- What the live terms of a shard know of their packets: none knows of a later one than the last.
-use Rattle.std.proofs.Common.{◌≡◌, ◌≢◌, ◌⊎◌, inl, inr, ℕ, zero, suc, ◌+◌, ◌*◌, ◌%◌, ◌≤◌, ◌==◌, ◌&&◌, max, Bool, true, false, not, List, [], ◌∷◌, ◌++◌, Option, Some, None, fold, map, refl, sym, ap, subst, ◌∙◌, arith}
+use Rattle.std.proofs.Common.{◌≡◌, ◌≢◌, ◌⊎◌, inl, inr, ℕ, zero, suc, ◌+◌, ◌*◌, ◌≤◌, ◌==◌, ◌&&◌, Bool, true, false, not, List, [], ◌∷◌, Option, Some, None, fold, map, refl, sym, ap, subst, ◌∙◌, arith}
 use Rattle.std.specs.Prelude.{if◌then◌else◌, slice_index_or, slice_set}
 use Rattle.std.specs.List.{AllPairs, Contains, range_with_len}
 use Rattle.std.proofs.lemmas.Bool.{cases_eq}
@@ -40,7 +40,7 @@ use Rattle.bng_steps.specs.Course.{Stands}
 use Rattle.bng_steps.specs.Cutting.{cut_at, cut_if, cut_of, cut_off, is_cut, numbers_most}
 use Rattle.bng_steps.specs.Deed.{Deed, at_of, beside_of}
 use Rattle.bng_steps.specs.Discovery.{Answers, host_uniq_of, new_session}
-use Rattle.bng_steps.specs.Frames.{HearsAccess, HearsControl, HearsCore, HearsData, HearsFrame, HearsIn, HearsPacket, HearsPadt, HearsPpp}
+use Rattle.bng_steps.specs.Frames.{HearsAccess, HearsControl, HearsCore, HearsData, HearsIn, HearsPpp}
 use Rattle.bng_steps.specs.Link.{Drives, LinkStep, Told, ended, hears, nas_request, settles, told}
 use Rattle.bng_steps.specs.Passing.{lapsed, passed_at, place_in}
 use Rattle.bng_steps.specs.Silence.{Reckons}

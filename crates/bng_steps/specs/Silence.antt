@@ -1,5 +1,5 @@
 -- How long the terms of a shard were silent and how long they lasted, by the entries of its journal, and what its Ticks do about it.
-use Rattle.std.specs.Prelude.{◌≡◌, ◌≢◌, ◌⊎◌, ℕ, ◌+◌, ◌≤◌, max, Bool, true, false, List, [], ◌∷◌, Option, Some, None, length, unwrap_or}
+use Rattle.std.specs.Prelude.{◌≡◌, ◌≢◌, ◌⊎◌, ℕ, ◌+◌, ◌≤◌, max, Bool, true, false, List, [], ◌∷◌, Some, None, length, unwrap_or}
 use Rattle.std.specs.List.{AllByRecursion}
 use Rattle.bng_base.specs.declared.address.SessionNo.{SessionNo}
 use Rattle.bng_base.specs.declared.item.ItemKind.TheVariants.{Change, Verdict}

@@ -71,11 +71,12 @@ pub fn terms_know_of_no_later_packet()
 {}
 
 /// A Tick ends a live term by Idle Timeout (4) only where it was silent for its Idle-Timeout, and by Session Timeout (5) only where it has
-/// lasted for its Session-Timeout and was not so silent (RFC 2865 sections 5.27 and 5.28, RFC 2866 section 5.10). Where no session is due, no
-/// live term has lasted so long, and none was so silent. What these are by the journal `limits_are_told` and `moments_are_of_packets` say.
+/// lasted for its Session-Timeout and was not so silent (RFC 2865 sections 5.27 and 5.28, RFC 2866 section 5.10). No other entry ends
+/// one so. Where no session is due, no live term has lasted so long, and none was so silent. What these are by the journal `limits_are_told` and `moments_are_of_packets` say.
 pub fn ticks_end_what_is_over()
     ensures idle { (r : Rules) (s : State) (limited : Bool) (d : Deed) (t : Tenure) → Step r s limited d → d.entry.item.kind ≡ Tick → Contains d.next.terms t → t.cause ≡ Some 4 → Contains s.terms t ⊎ IsSilent s d.entry.moment t.term.serial }
     ensures session { (r : Rules) (s : State) (limited : Bool) (d : Deed) (t : Tenure) → Step r s limited d → d.entry.item.kind ≡ Tick → Contains d.next.terms t → t.cause ≡ Some 5 → Contains s.terms t ⊎ IsOld s d.entry.moment t.term.serial }
+    ensures only { (r : Rules) (s : State) (limited : Bool) (d : Deed) (t : Tenure) (c : ℕ) → Step r s limited d → d.entry.item.kind ≢ Tick → Contains d.next.terms t → t.cause ≡ Some c → (c ≡ 4) ⊎ (c ≡ 5) → Contains s.terms t }
     ensures none_silent { (s : State) (moment now n : ℕ) (x : Session) (l : Lease) → NoneIsDue s now → value_at s.sessions n ≡ Some x → x.lease ≡ Some l → leaves x ≡ false → Reckons moment s
         → is_over l.life.limits.idle_timeout (max l.life.began (passed_at s.passed x.number)) now ≡ false }
     ensures none_old { (s : State) (now n : ℕ) (x : Session) (l : Lease) → NoneIsDue s now → value_at s.sessions n ≡ Some x → x.lease ≡ Some l → leaves x ≡ false
