@@ -1,5 +1,5 @@
 -- The colours of the packets for which a session's meter is asked, between two entries that begin its term or change its profile.
-use Rattle.std.proofs.Common.{◌≡◌, ◌≢◌, ◌⊎◌, inl, inr, ℕ, zero, suc, ◌+◌, ◌-◌, ◌*◌, ◌%◌, ◌<◌, ◌≤◌, Bool, true, false, not, cond, List, [], ◌∷◌, ◌++◌, length, map, max, Option, Some, None, refl, sym, ap, subst, ◌∙◌, arith}
+use Rattle.std.proofs.Common.{◌≡◌, ◌≢◌, ◌⊎◌, inl, inr, ℕ, ◌+◌, ◌-◌, ◌*◌, ◌%◌, ◌<◌, ◌≤◌, Bool, true, false, not, List, [], ◌∷◌, ◌++◌, length, map, max, Option, Some, None, refl, sym, ap, subst, ◌∙◌, arith}
 use Rattle.std.specs.Prelude.{IsSome, nat_le, if◌then◌else◌, option_map, slice_get, slice_index_or, slice_set}
 use Rattle.std.specs.List.{All, AllPairs, Contains, range_with_len}
 use Rattle.std.proofs.lemmas.Bool.{cases_eq, ne_eqb}
@@ -13,7 +13,6 @@ use Rattle.bng_base.specs.declared.fate.DropCause.TheVariants.{Malformed, NoSess
 use Rattle.bng_base.specs.declared.fate.Fate.{Fate}
 use Rattle.bng_base.specs.declared.fate.Fate.TheVariants.{Forwarded, Dropped}
 use Rattle.bng_base.specs.declared.ipv4.Ipv4.{Ipv4}
-use Rattle.bng_base.specs.declared.item.Entry.{Entry}
 use Rattle.bng_base.specs.declared.item.ItemKind.{ItemKind}
 use Rattle.bng_base.specs.declared.item.ItemKind.TheVariants.{Access, Core, Tunnel, Verdict, Change, Tick, End}
 use Rattle.bng_base.specs.declared.settings.Static.{Static}
@@ -30,7 +29,7 @@ use Rattle.bng_lns.specs.Datagrams.{CarriesOver}
 use Rattle.bng_l2tp_wire.proofs.Exact.{one_data}
 use Rattle.bng_meter.specs.declared.colour.Colour.{Colour}
 use Rattle.bng_meter.specs.declared.colour.Colour.TheVariants.{Green, Yellow, Red}
-use Rattle.bng_meter.specs.Bucket.{Buckets, Offer, Rise, colour_of, colours, colours_kept, filled, is_red, kept, started, taken, without}
+use Rattle.bng_meter.specs.Bucket.{Buckets, Offer, Rise, colour_of, colours_kept, filled, is_red, kept, started, taken, without}
 use Rattle.bng_meter.proofs.Forgetting.{colours_stay}
 use Rattle.bng_radius_wire.specs.Grammar.{Packet}
 use Rattle.bng_radius_wire.proofs.Exact.{one_packet}
@@ -41,11 +40,11 @@ use Rattle.bng_steps.specs.declared.rules.Rules.{Rules}
 use Rattle.bng_steps.specs.declared.session.Lease.{Lease}
 use Rattle.bng_steps.specs.declared.session.Session.{Session}
 use Rattle.bng_steps.specs.Changes.{Applies, Found, HearsChange, Obeys, changed_by, found_by, place_of, refusal_of}
-use Rattle.bng_steps.specs.Course.{Asks, AsksIn, Begins, Course, Handles, Settles, IsFrom, IsTo, Move, NoneRenews, Offers, Recasts, Renews, Rises, Stands, after, fate_by, marked, rate_of}
+use Rattle.bng_steps.specs.Course.{Asks, Course, Handles, Settles, IsFrom, IsTo, Move, NoneRenews, Offers, Recasts, Renews, Rises, Stands, fate_by, marked, rate_of}
 use Rattle.bng_steps.specs.Datagrams.{HearsTunnelData}
-use Rattle.bng_steps.specs.Deed.{Deed, arrival_in, handled, only}
+use Rattle.bng_steps.specs.Deed.{Deed, arrival_in, handled}
 use Rattle.bng_steps.specs.Frames.{HearsData, HearsFrame, HearsPacket, found_among, found_down, found_up}
-use Rattle.bng_steps.specs.Metered.{meters_at, meters_of, no_meters, plan_at, plan_in, spent_input, spent_output, view_in, view_of}
+use Rattle.bng_steps.specs.Metered.{meters_at, meters_of, no_meters, plan_at, plan_in, spent_input, view_in, view_of}
 use Rattle.bng_steps.specs.Opening.{circuit_at, circuit_meters, opened_meters, opened_slots}
 use Rattle.bng_steps.specs.Passing.{place_in, with_passed}
 use Rattle.bng_steps.specs.State.{State, call_of, holder_of, is_kept, mru_in, passes_in, session_of, settled}
@@ -55,7 +54,7 @@ use Rattle.bng_steps.proofs.Changing.{found_is}
 use Rattle.bng_steps.proofs.ClaimedTerms.{step_by_claims}
 use Rattle.bng_steps.proofs.GrantLaws.{settled_sound, step_sound}
 use Rattle.bng_steps.proofs.InOrder.{apart_of, its_circuit}
-use Rattle.bng_steps.proofs.Noting.{Noted, Stays, Passes, Starts, Changes, notes, spent_by, step_noted}
+use Rattle.bng_steps.proofs.Noting.{Noted, Stays, Passes, Starts, Changes, spent_by, step_noted}
 use Rattle.bng_steps.proofs.SoundOpening.{opened_sound}
 use Rattle.bng_steps.proofs.Tunnelling.{not_both}
 use Rattle.bng_steps.proofs.Values.{none_some, same_some}

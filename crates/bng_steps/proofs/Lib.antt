@@ -88,4 +88,6 @@ pub mod Silent
 pub mod Limiting
 pub mod Ticking
 pub mod Overdue
+pub mod Reckoning
+pub mod Untimed
 pub mod Spacing

@@ -1,5 +1,5 @@
 -- Where the limits of a live term come from, at one step.
-use Rattle.std.proofs.Common.{◌≡◌, ◌≢◌, ◌⊎◌, inl, inr, ℕ, ◌+◌, Bool, true, false, List, [], ◌∷◌, Option, Some, None, refl, sym, ap, subst, ◌∙◌}
+use Rattle.std.proofs.Common.{◌≡◌, ◌⊎◌, inl, inr, ℕ, Bool, true, false, List, [], ◌∷◌, Option, Some, None, refl, sym, ap, subst, ◌∙◌}
 use Rattle.std.proofs.lemmas.Bool.{cases_eq}
 use Rattle.bng_base.specs.declared.address.Ip4.{Ip4}
 use Rattle.bng_base.specs.declared.item.At.{At}
@@ -22,13 +22,13 @@ use Rattle.bng_steps.specs.declared.rules.Rules.{Rules}
 use Rattle.bng_steps.specs.declared.session.Lease.{Lease}
 use Rattle.bng_steps.specs.declared.session.Session.{Session}
 use Rattle.bng_steps.specs.Calls.{called_session, linked_anew, turned}
-use Rattle.bng_steps.specs.Changes.{Applies, Found, HearsChange, Obeys, changed_by, found_by, interim_after, lease_after, place_of, refusal_of}
+use Rattle.bng_steps.specs.Changes.{Applies, Found, HearsChange, Obeys, found_by, interim_after, lease_after, place_of, refusal_of}
 use Rattle.bng_steps.specs.Deed.{Deed, at_of, beside_of}
 use Rattle.bng_steps.specs.Discovery.{new_session}
 use Rattle.bng_steps.specs.Limits.{limits_of}
 use Rattle.bng_steps.specs.Link.{Drives, LinkStep, Told, admin_reset, ended, hears, lost_carrier, nas_request, settles, told}
 use Rattle.bng_steps.specs.Passing.{lapsed, looked, with_passed}
-use Rattle.bng_steps.specs.Silence.{Alters, GoesOn, Grants, IsLimitedBy}
+use Rattle.bng_steps.specs.Silence.{Alters, GoesOn, Grants}
 use Rattle.bng_steps.specs.State.{Beside, State, with_driven, with_ended, with_session, with_tunnels}
 use Rattle.bng_steps.specs.Step.{Hears, Step}
 use Rattle.bng_steps.specs.Verdicts.{HearsVerdict, Judges, next_lease, settled_by}

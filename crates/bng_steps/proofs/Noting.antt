@@ -1,5 +1,5 @@
 -- What a step does to the meters of sessions, to the moments of their last packets, and to the terms of which no Start was formed.
-use Rattle.std.proofs.Common.{◌≡◌, ◌≢◌, ◌⊎◌, inl, inr, ℕ, zero, suc, ◌+◌, ◌*◌, ◌==◌, ◌&&◌, Bool, true, false, not, cond, List, [], ◌∷◌, ◌++◌, Option, Some, None, refl, sym, ap, subst, ◌∙◌}
+use Rattle.std.proofs.Common.{◌≡◌, inl, inr, ℕ, zero, suc, ◌+◌, ◌*◌, ◌==◌, ◌&&◌, Bool, true, false, not, List, [], ◌∷◌, ◌++◌, Option, Some, None, refl, sym, ap, subst, ◌∙◌}
 use Rattle.std.specs.Prelude.{fold, if◌then◌else◌, option_map, slice_get, slice_set}
 use Rattle.std.specs.List.{range_with_len}
 use Rattle.std.proofs.lemmas.Bool.{cases_eq, eq-eqb, ne_eqb}
@@ -24,7 +24,6 @@ use Rattle.bng_discovery.specs.declared.port.PortRules.{PortRules}
 use Rattle.bng_forward.specs.Fates.{IsFrame, IsCorePacket}
 use Rattle.bng_grant.specs.Grants.{Gift}
 use Rattle.bng_lns.specs.Timed.{Telling, reminded}
-use Rattle.bng_lns.specs.Tunnels.{TunnelsState}
 use Rattle.bng_radius_wire.specs.Grammar.{Packet}
 use Rattle.bng_sessions.specs.Listed.{values}
 use Rattle.bng_sessions.specs.Sessions.{value_at}
@@ -35,23 +34,23 @@ use Rattle.bng_steps.specs.declared.rules.Rules.{Rules}
 use Rattle.bng_steps.specs.declared.session.Service.{Service}
 use Rattle.bng_steps.specs.declared.session.Service.TheVariants.{Provisioned, Linked}
 use Rattle.bng_steps.specs.declared.session.Session.{Session}
-use Rattle.bng_steps.specs.Changes.{Applies, Found, HearsChange, Obeys, changed_by, found_by, place_of, refusal_of}
+use Rattle.bng_steps.specs.Changes.{Applies, Found, HearsChange, Obeys, found_by, place_of, refusal_of}
 use Rattle.bng_steps.specs.Course.{Asks, IsFrom, IsTo, Recasts}
 use Rattle.bng_steps.specs.Cutting.{cut_at, cut_if, cut_of, cut_off, cut_told, is_cut, numbers_most}
-use Rattle.bng_steps.specs.Deed.{Deed, at_of, beside_of, arrival_in, dropped, handled, ignored, only}
+use Rattle.bng_steps.specs.Deed.{Deed, at_of, arrival_in, handled}
 use Rattle.bng_steps.specs.Discovery.{Answers}
-use Rattle.bng_steps.specs.Frames.{HearsAccess, HearsControl, HearsCore, HearsData, HearsFrame, HearsIn, HearsPacket, HearsPadt, HearsPpp, found_up}
+use Rattle.bng_steps.specs.Frames.{HearsAccess, HearsControl, HearsCore, HearsData, HearsFrame, HearsIn, HearsPacket, HearsPadt, HearsPpp}
 use Rattle.bng_steps.specs.Link.{Told, nas_request, ended}
 use Rattle.bng_steps.specs.Metered.{meters_at, meters_of, plan_at, plan_for, plan_in, place_for, spent_input, spent_output}
 use Rattle.bng_steps.specs.Passing.{cause_at, passed_at, place_in, with_passed}
-use Rattle.bng_steps.specs.State.{Beside, State, call_of, holder_of, leases, session_of, with_driven, with_ended, with_session, with_tunnels}
+use Rattle.bng_steps.specs.State.{State, call_of, leases, session_of, with_driven, with_ended, with_tunnels}
 use Rattle.bng_steps.specs.Step.{Hears, Step}
 use Rattle.bng_steps.specs.Tenures.{Tenure}
-use Rattle.bng_steps.specs.Timers.{Ends, HearsEnd, HearsTick, IsTimed, LooksAt, LosesTerm, Reminds, Ticks, TimesIn, at_once}
+use Rattle.bng_steps.specs.Timers.{Ends, HearsEnd, HearsTick, LooksAt, LosesTerm, Reminds, Ticks, TimesIn, at_once}
 use Rattle.bng_steps.specs.L2tp.{tunnels_most}
 use Rattle.bng_steps.specs.Verdicts.{HearsVerdict, Judges, next_term, settled_by}
 use Rattle.bng_steps.specs.Wishes.{Decides, refused_with, told_if, told_of}
-use Rattle.bng_steps.proofs.Changing.{IsFound, found_is}
+use Rattle.bng_steps.proofs.Changing.{found_is}
 use Rattle.bng_steps.proofs.Naming.{at_number, call_number}
 use Rattle.bng_steps.proofs.Planning.{in_plan}
 use Rattle.bng_steps.proofs.Tunnelling.{Did, Idles, Speaks, Cuts, Comes, TurnsOne, PartsOne, ConnectsOne, PassesUp, HearsOne, tunnel_did}

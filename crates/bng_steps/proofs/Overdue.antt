@@ -30,13 +30,13 @@ use Rattle.bng_steps.specs.declared.session.Session.{Session}
 use Rattle.bng_steps.specs.Cutting.{cut_at, cut_if, cut_of, cut_off, cut_told, is_cut, numbers_most}
 use Rattle.bng_steps.specs.Deed.{Deed, at_of, beside_of}
 use Rattle.bng_steps.specs.L2tp.{tunnels_most}
-use Rattle.bng_steps.specs.Link.{Drives, ended, told}
+use Rattle.bng_steps.specs.Link.{ended, told}
 use Rattle.bng_steps.specs.Passing.{cause_at, lapsed, looked, passed_at}
 use Rattle.bng_steps.specs.Silence.{IsLiveIn, IsOld, IsSilent}
 use Rattle.bng_steps.specs.State.{Beside, State, beside_at, leaves, leaves_in, with_driven, with_ended, with_tunnels}
 use Rattle.bng_steps.specs.Step.{Hears, Step}
 use Rattle.bng_steps.specs.Tenures.{Tenure}
-use Rattle.bng_steps.specs.Timers.{HearsTick, IsTimed, LooksAt, LosesTerm, NoneIsDue, Reminds, Ticks, TimesIn, at_once, deadline_in, deadline_of, deadline_unless, due_at, link_deadline}
+use Rattle.bng_steps.specs.Timers.{HearsTick, LooksAt, LosesTerm, NoneIsDue, Reminds, Ticks, TimesIn, at_once, deadline_in, deadline_of, deadline_unless, due_at, link_deadline}
 use Rattle.bng_steps.proofs.CircuitsKept.{Ending, closed_holds}
 use Rattle.bng_steps.proofs.Limiting.{drives_was}
 use Rattle.bng_steps.proofs.SeenLeases.{looked_was}
@@ -69,10 +69,10 @@ no_session false false e = refl
 -- Links --------------------------------------------------------------------------------------------------------------------
 
 -- a link's timers end no term by such a cause
-abbrev OfLink : Option ℕ → Type 0
+abbrev pub OfLink : Option ℕ → Type 0
 OfLink cause = IfSome cause (λ k. (k ≡ 1) ⊎ (k ≡ 2))
 
-ended_link : (live left ended : Bool) (cause : ℕ) → (cause ≡ 1) ⊎ (cause ≡ 2) → OfLink (ended_by live left ended cause)
+pub ended_link : (live left ended : Bool) (cause : ℕ) → (cause ≡ 1) ⊎ (cause ≡ 2) → OfLink (ended_by live left ended cause)
 ended_link false left ended cause is = tt
 ended_link true true ended cause is = is
 ended_link true false true cause is = inl refl
@@ -82,7 +82,7 @@ loss_link : (old : LinkState) (now cause : ℕ) → IsLossCause old now cause �
 loss_link old now cause (inl (finishes, is)) = inl is
 loss_link old now cause (inr (goes_on, is)) = inr is
 
-goes_link : (r : LinkRules) (now : ℕ) (random : List ℕ) (old : LinkState) (t : Turn) (cause : Option ℕ) → LinkGoes r Timer now random old t cause → OfLink cause
+pub goes_link : (r : LinkRules) (now : ℕ) (random : List ℕ) (old : LinkState) (t : Turn) (cause : Option ℕ) → LinkGoes r Timer now random old t cause → OfLink cause
 goes_link r now random old t cause (reminds, (n, loss, is)) = subst OfLink (sym is) (ended_link t.link.live t.left t.ended n (loss_link old now n loss))
 
 timer_link : (r : LinkRules) (now : ℕ) (random : List ℕ) (old : LinkState) (says : LinkSaid) (new : LinkState) → LinkSteps r Timer now random old says new → OfLink says.term_ended
@@ -100,6 +100,7 @@ record Was (before : State) (n : ℕ) (x : Session) (l : Lease) : Type 0 where
   pub serial : l.serial ≡ lease.serial
   pub limits : l.life.limits ≡ lease.life.limits
   pub began : l.life.began ≡ lease.life.began
+  pub idle : l.life.idle_from ≤ max lease.life.idle_from (max lease.life.began (passed_at before.passed y.number))
 
 -- a term that has ended by a timeout had ended before, or was over so
 abbrev Justified : State → ℕ → Tenure → Type 0
@@ -116,7 +117,7 @@ tracks_start : (s : State) (now : ℕ) → Tracks s now s
 tracks_start s now = record {
   causes = λ k t lt. let there = All-contains_itself s.terms k t lt in (λ e. inl there, λ e. inl there);
   passed = refl;
-  leases = λ n x l at leased. record { y = x; lease = l; at = at; leased = leased; number = refl; serial = refl; limits = refl; began = refl };
+  leases = λ n x l at leased. record { y = x; lease = l; at = at; leased = leased; number = refl; serial = refl; limits = refl; began = refl; idle = omega arith };
 }
 
 -- a cause that is no timeout
@@ -181,6 +182,10 @@ module _ (before : State) (r : Rules) (e : Entry) where
       (λ l leased.
       let (k, was, same) = looked_was at_last x.lease l leased in
       let w = h.leases n x k at was in
+      let known : l.life.idle_from ≡ max k.life.idle_from (max k.life.began at_last) = ap (λ (j : Lease). j.life.idle_from) same in
+      let last : at_last ≡ passed_at before.passed w.y.number = λ i. passed_at (h.passed i) (w.number i) in
+      let knew : k.life.idle_from ≤ max w.lease.life.idle_from (max w.lease.life.began (passed_at before.passed w.y.number)) = w.idle in
+      let began : k.life.began ≡ w.lease.life.began = w.began in
       record {
         y = w.y;
         lease = w.lease;
@@ -190,6 +195,7 @@ module _ (before : State) (r : Rules) (e : Entry) where
         serial = ap (λ (j : Lease). j.serial) same ∙ w.serial;
         limits = ap (λ (j : Lease). j.life.limits) same ∙ w.limits;
         began = ap (λ (j : Lease). j.life.began) same ∙ w.began;
+        idle = omega (arith, known, last, began, knew);
       })
       (λ l c never. absurd (none_some l never)))
   looks (Some cause) s n x outs s' h at over goes = loses x.service cause s n x outs s' h at over goes
@@ -203,7 +209,7 @@ module _ (before : State) (r : Rules) (e : Entry) where
       let tracked = put s n x.lease goes.cause goes.after goes.beside h
       (λ l leased.
       let w = h.leases n x l at (drives_was r (at_of s e) (beside_of s e) x goes.after goes.first goes.cause goes.beside (told r e Timer) drives l leased) in
-      record { y = w.y; lease = w.lease; at = w.at; leased = w.leased; number = ap (λ (z : Session). z.number) drives.session ∙ w.number; serial = w.serial; limits = w.limits; began = w.began })
+      record { y = w.y; lease = w.lease; at = w.at; leased = w.leased; number = ap (λ (z : Session). z.number) drives.session ∙ w.number; serial = w.serial; limits = w.limits; began = w.began; idle = w.idle })
       (λ l c leased is t same.
       let which : (c ≡ 1) ⊎ (c ≡ 2) = subst OfLink is link in
       other_cause before e.moment c
@@ -253,14 +259,22 @@ module _ (before : State) (r : Rules) (e : Entry) where
 
 -- A Tick -------------------------------------------------------------------------------------------------------------------
 
-hears_justified : (r : Rules) (s : State) (d : Deed) → HearsTick r s d.entry d → All (Justified s d.entry.moment) d.next.terms
-hears_justified r s d (first, next, goes, rest, s', more, h) =
-    subst (λ (t : State). All (Justified s d.entry.moment) t.terms) (sym (ap (λ (g : Deed). g.next) h))
-    (ticks s r d.entry at_once next rest s' (reminds s r d.entry tunnels_most 0 (at_of s d.entry) s first next (tracks_start s d.entry.moment) goes) more).causes
+hears_tracks : (r : Rules) (s : State) (d : Deed) → HearsTick r s d.entry d → Tracks s d.entry.moment d.next
+hears_tracks r s d (first, next, goes, rest, s', more, h) =
+    subst (Tracks s d.entry.moment) (sym (ap (λ (g : Deed). g.next) h))
+    (ticks s r d.entry at_once next rest s' (reminds s r d.entry tunnels_most 0 (at_of s d.entry) s first next (tracks_start s d.entry.moment) goes) more)
+
+tick_tracks : (r : Rules) (s : State) (limited : Bool) (d : Deed) → Step r s limited d → d.entry.item.kind ≡ Tick → Tracks s d.entry.moment d.next
+tick_tracks r s limited d h is = hears_tracks r s d (subst (λ (k : ItemKind). Hears k r s limited d.entry d) is h.hears)
 
 justified : (r : Rules) (s : State) (limited : Bool) (d : Deed) (t : Tenure) → Step r s limited d → d.entry.item.kind ≡ Tick → Contains d.next.terms t → Justified s d.entry.moment t
-justified r s limited d t h is there =
-    All-contains (Justified s d.entry.moment) d.next.terms t (hears_justified r s d (subst (λ (k : ItemKind). Hears k r s limited d.entry d) is h.hears)) there
+justified r s limited d t h is there = All-contains (Justified s d.entry.moment) d.next.terms t (tick_tracks r s limited d h is).causes there
+
+-- a session that has a lease after a Tick had it before, and its term knows of no later packet than that before or the last
+pub tick_knows : (r : Rules) (s : State) (limited : Bool) (d : Deed) → Step r s limited d → d.entry.item.kind ≡ Tick → (n : ℕ) (x : Session) (l : Lease) → value_at d.next.sessions n ≡ Some x → x.lease ≡ Some l
+    → (y : Session) × (lease : Lease) × (value_at s.sessions n ≡ Some y) × (y.lease ≡ Some lease) × (x.number ≡ y.number) × (l.life.began ≡ lease.life.began)
+    × (l.life.idle_from ≤ max lease.life.idle_from (max lease.life.began (passed_at s.passed y.number)))
+tick_knows r s limited d h is n x l at leased = let w = (tick_tracks r s limited d h is).leases n x l at leased in (w.y, w.lease, w.at, w.leased, w.number, w.began, w.idle)
 
 pub idle_justified : (r : Rules) (s : State) (limited : Bool) (d : Deed) (t : Tenure) → Step r s limited d → d.entry.item.kind ≡ Tick → Contains d.next.terms t → t.cause ≡ Some 4 → Contains s.terms t ⊎ IsSilent s d.entry.moment t.term.serial
 idle_justified r s limited d t h is there = (justified r s limited d t h is there).0

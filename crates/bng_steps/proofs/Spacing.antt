@@ -1,12 +1,12 @@
 -- Over any moments at which one asks whether a session owes an Interim, those that are taken are those of its term.
-use Rattle.std.proofs.Common.{◌≡◌, ◌≢◌, ℕ, ◌+◌, ◌*◌, ◌%◌, ◌≤◌, max, Bool, true, false, List, [], ◌∷◌, ◌++◌, length, Option, Some, None, AllPairs, option_map, refl, sym, ap, subst, ◌∙◌, arith}
+use Rattle.std.proofs.Common.{◌≡◌, ◌≢◌, ℕ, ◌+◌, ◌%◌, ◌≤◌, max, Bool, true, false, List, [], ◌∷◌, ◌++◌, length, Option, Some, None, AllPairs, option_map, refl, sym, ap, subst, ◌∙◌, arith}
 use mathlib.Core.Logic.{◌↔◌}
-use Rattle.std.specs.Prelude.{if◌then◌else◌, nat_le, slice_index_or, slice_set}
+use Rattle.std.specs.Prelude.{if◌then◌else◌, nat_le}
 use Rattle.std.specs.Option.{option_map_or}
 use Rattle.std.proofs.lemmas.Bool.{leb-true, false≢true}
 use Rattle.std.proofs.lemmas.List.{get_or-set_same, get_or-set_other, length-set}
 use Rattle.bng_base.specs.declared.address.SessionNo.{SessionNo}
-use Rattle.bng_term.specs.Lifetimes.{Life, interim_of, reported, seconds_after}
+use Rattle.bng_term.specs.Lifetimes.{Life, reported, seconds_after}
 use Rattle.bng_term.specs.Runs.{is_due, last_of, reports}
 use Rattle.bng_term.proofs.Interims.{interval_keeps, none_taken, taken_where_due}
 use Rattle.bng_steps.specs.declared.session.Lease.{Lease}

@@ -1,6 +1,7 @@
 -- How long the terms of a shard were silent and how long they lasted, by the entries of its journal, and what its Ticks do about it.
-use Rattle.std.specs.Prelude.{◌≡◌, ◌≢◌, ◌⊎◌, ℕ, ◌+◌, ◌≤◌, max, Bool, true, false, List, [], ◌∷◌, Option, Some, None, length, unwrap_or}
+use Rattle.std.specs.Prelude.{◌≡◌, ◌≢◌, ◌⊎◌, ℕ, ◌+◌, ◌≤◌, max, Bool, true, false, List, [], ◌∷◌, Some, None, length, unwrap_or}
 use Rattle.std.specs.List.{AllByRecursion}
+use Rattle.bng_base.specs.declared.address.SessionNo.{SessionNo}
 use Rattle.bng_base.specs.declared.item.ItemKind.TheVariants.{Change, Verdict}
 use Rattle.bng_base.specs.declared.item.OutRecord.{OutRecord}
 use Rattle.bng_coa.specs.Admission.{IsRequestIn}
@@ -104,6 +105,11 @@ abbrev pub IsOld : State → (now serial : ℕ) → Type 0
 IsOld s now serial =
     (n : ℕ) × (x : Session) × (l : Lease) × IsLiveIn s serial n x l × (is_over l.life.limits.idle_timeout (max l.life.began (passed_at s.passed x.number)) now ≡ false)
     × (is_over l.life.limits.session_timeout l.life.began now ≡ true)
+
+-- The moments that are kept of packets are no later than this one, and no live term knows of a later packet than its session's last.
+pub record Reckons (moment : ℕ) (s : State) : Type 0 where
+  pub passed : (n : SessionNo) → passed_at s.passed n ≤ moment
+  pub knows : (n : ℕ) (x : Session) (l : Lease) → value_at s.sessions n ≡ Some x → x.lease ≡ Some l → l.life.idle_from ≤ max l.life.began (passed_at s.passed x.number)
 
 -- the sessions whose deadlines a Tick handles, in their order: the number of each, and the deadline that was due
 abbrev pub Dues : Type 0

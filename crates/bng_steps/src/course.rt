@@ -14,7 +14,7 @@ ghost use Rattle.bng_steps.specs.declared.session.Lease.{Lease};
 ghost use Rattle.bng_steps.specs.declared.session.Session.{Session};
 ghost use Rattle.bng_steps.specs.Interims.{reported_at, taken, with_report};
 ghost use Rattle.bng_steps.specs.Passing.{passed_at};
-ghost use Rattle.bng_steps.specs.Silence.{IsLimitedBy, IsOld, IsSilent, Moments, TicksThrough, left_by};
+ghost use Rattle.bng_steps.specs.Silence.{IsLimitedBy, IsOld, IsSilent, Moments, Reckons, TicksThrough, left_by};
 ghost use Rattle.bng_steps.specs.Tenures.{Tenure};
 ghost use Rattle.bng_steps.specs.Timers.{NoneIsDue};
 ghost use Rattle.bng_steps.specs.declared.rules.Rules.{Rules};
@@ -62,14 +62,22 @@ pub fn limits_are_told()
     ensures { (r : Rules) (s : State) (limited : Bool) (d : Deed) (n : ℕ) (x : Session) (l : Lease) → Step r s limited d → value_at d.next.sessions n ≡ Some x → x.lease ≡ Some l → IsLimitedBy r s d n l }
 {}
 
+/// No live term knows of a later packet than its session's last, which is no later than the shard's last entry. It is so at the opening, and from
+/// then on, while the moments of entries never fall.
+pub fn terms_know_of_no_later_packet()
+    ensures opened { (number : ℕ) (profiles : List Profile) (circuits : List Static) (now : ℕ) → AllPairs (λ a b. a.session ≢ b.session) circuits → Reckons now (opened_slots number profiles circuits now) }
+    ensures kept { (r : Rules) (s : State) (limited : Bool) (d : Deed) (moment : ℕ) → Step r s limited d → Stands s → moment ≤ d.entry.moment → Reckons moment s → Reckons d.entry.moment d.next }
+    ensures settled { (moment : ℕ) (s : State) → Reckons moment s → Reckons moment (settled s) }
+{}
+
 /// A Tick ends a live term by Idle Timeout (4) only where it was silent for its Idle-Timeout, and by Session Timeout (5) only where it has
-/// lasted for its Session-Timeout and was not so silent (RFC 2865 sections 5.27 and 5.28, RFC 2866 section 5.10). Where no session is due, no
-/// live term has lasted so long, and none was so silent as far as the term knows of no later packet than the last. What these are by the journal
-/// `limits_are_told` and `moments_are_of_packets` say.
+/// lasted for its Session-Timeout and was not so silent (RFC 2865 sections 5.27 and 5.28, RFC 2866 section 5.10). No other entry ends
+/// one so. Where no session is due, no live term has lasted so long, and none was so silent. What these are by the journal `limits_are_told` and `moments_are_of_packets` say.
 pub fn ticks_end_what_is_over()
     ensures idle { (r : Rules) (s : State) (limited : Bool) (d : Deed) (t : Tenure) → Step r s limited d → d.entry.item.kind ≡ Tick → Contains d.next.terms t → t.cause ≡ Some 4 → Contains s.terms t ⊎ IsSilent s d.entry.moment t.term.serial }
     ensures session { (r : Rules) (s : State) (limited : Bool) (d : Deed) (t : Tenure) → Step r s limited d → d.entry.item.kind ≡ Tick → Contains d.next.terms t → t.cause ≡ Some 5 → Contains s.terms t ⊎ IsOld s d.entry.moment t.term.serial }
-    ensures none_silent { (s : State) (now n : ℕ) (x : Session) (l : Lease) → NoneIsDue s now → value_at s.sessions n ≡ Some x → x.lease ≡ Some l → leaves x ≡ false → l.life.idle_from ≤ max l.life.began (passed_at s.passed x.number)
+    ensures only { (r : Rules) (s : State) (limited : Bool) (d : Deed) (t : Tenure) (c : ℕ) → Step r s limited d → d.entry.item.kind ≢ Tick → Contains d.next.terms t → t.cause ≡ Some c → (c ≡ 4) ⊎ (c ≡ 5) → Contains s.terms t }
+    ensures none_silent { (s : State) (moment now n : ℕ) (x : Session) (l : Lease) → NoneIsDue s now → value_at s.sessions n ≡ Some x → x.lease ≡ Some l → leaves x ≡ false → Reckons moment s
         → is_over l.life.limits.idle_timeout (max l.life.began (passed_at s.passed x.number)) now ≡ false }
     ensures none_old { (s : State) (now n : ℕ) (x : Session) (l : Lease) → NoneIsDue s now → value_at s.sessions n ≡ Some x → x.lease ≡ Some l → leaves x ≡ false
         → is_over l.life.limits.session_timeout l.life.began now ≡ false }
