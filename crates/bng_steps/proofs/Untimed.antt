@@ -41,7 +41,7 @@ use Rattle.bng_steps.specs.Tenures.{Tenure, closed, is_over}
 use Rattle.bng_steps.specs.Timers.{Ends, HearsEnd, LosesTerm, at_once}
 use Rattle.bng_steps.specs.Verdicts.{HearsVerdict, Judges, settled_by}
 use Rattle.bng_steps.proofs.CircuitsKept.{closed_holds}
-use Rattle.bng_steps.proofs.LcpLinkSteps.{frame_of, frame_steps}
+use Rattle.bng_steps.proofs.LinkSteps.{frame_of, frame_steps}
 use Rattle.bng_steps.proofs.Overdue.{OfLink, ended_link, goes_link}
 use Rattle.bng_steps.proofs.Tunnelling.{Did, Idles, Speaks, Cuts, Comes, TurnsOne, PartsOne, ConnectsOne, PassesUp, HearsOne, tunnel_did}
 use Rattle.bng_steps.proofs.Values.{none_some, same_some}
