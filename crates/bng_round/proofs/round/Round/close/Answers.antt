@@ -1,15 +1,13 @@
-use Rattle.std.proofs.Common.{rules, ◌≡◌, ◌≤◌, ◌<◌, [], ℕ, List, length, map, sum, slice_get, Some, refl, sym, ap, ◌∙◌, subst, arith}
+use Rattle.std.proofs.Common.{◌≡◌, ◌≤◌, [], ℕ, List, length, map, slice_get, Some, sym, ap, ◌∙◌, subst, arith}
 use Rattle.std.proofs.lemmas.List.{length-map}
-use Rattle.std.specs.List.{AllByRecursion, flat_map}
+use Rattle.std.specs.List.{AllByRecursion}
 use Rattle.std.specs.Vec.{vec_capacity}
-use Rattle.bng_base.specs.declared.book.Book.{Book}
 use Rattle.bng_pool.specs.Seats.{SeatView as Hold}
 use Rattle.bng_turn.specs.Views.{TurnView}
 use Rattle.bng_round.specs.Rounds.{RoundView, WorkerView, IsOpen}
 use Rattle.bng_round.specs.Views.{PlacedView}
 use Rattle.bng_round.specs.Working.{AreSeats}
-use Rattle.bng_round.specs.Closing.{AreAllDone, EndFrom, IsCut}
-use Rattle.bng_round.specs.Looking.{IsGround}
+use Rattle.bng_round.specs.Closing.{EndFrom, IsCut}
 use Rattle.bng_round.specs.Telling.{AreAgreed, AreAt, EachGoes, LookersAt}
 use Rattle.bng_round.proofs.Ended.{ends_long, ended_at, flat_cut, loose_few, lookers_at, map_cut, seats_at}
 use Rattle.bng_round.proofs.Places.{some_at}
@@ -71,8 +69,7 @@ agree_in-requires-clause-at g c = let did = c.end_all-shards.ensures in
     let looker = done.lookers 0 v.0 v.1 in
     let t = some_at c.args.self.turns 0 (omega (arith, is.shards, is.some)) in
     let same : c.part.new.lookers.items ≡ map (λ (z : WorkerView). z.looker) c.args.workers.items = c.part.ensures.lookers ∙ same_lookers c.args.workers.items c.end_all-shards.new.workers.items did.count did.cut in
-    let at : LookersAt c.args.pool.now t.0.opening.hold.phase (map (λ (z : WorkerView). z.looker) c.args.workers.items) = lookers_at c.args.self.turns c.args.pool.now 0 t.0 c.args.workers.items t.1 done.lookers in
-    (
+    let at : LookersAt c.args.pool.now t.0.opening.hold.phase (map (λ (z : WorkerView). z.looker) c.args.workers.items) = lookers_at c.args.self.turns c.args.pool.now 0 t.0 c.args.workers.items t.1 done.lookers in (
       t.0.opening.hold.phase,
       subst (λ (n : ℕ). AreAt c.args.pool.now n c.end_all-shards.result.items) (sym (looker.phase 0 t.0 t.1)) (ended_at c.args.workers.items c.args.self.turns c.end_all-shards.result.items c.args.pool.now v.0.looker ended c.requires.ground looker),
       subst (λ (l : List Hold). LookersAt c.args.pool.now t.0.opening.hold.phase l) (sym same) at,

@@ -1,15 +1,14 @@
-use Rattle.std.proofs.Common.{rules, ◌≡◌, ◌≤◌, ◌<◌, [], ℕ, List, Some, map, length, sum, slice_get, slice_index_or, refl, sym, ap, ◌∙◌, subst, arith, true}
-use Rattle.std.proofs.lemmas.List.{length-map}
-use Rattle.std.specs.List.{AllByRecursion, range_with_len}
+use Rattle.std.proofs.Common.{rules, ◌≡◌, ◌<◌, [], ℕ, List, Some, map, length, sum, slice_get, refl, sym, ap, ◌∙◌, subst, arith}
+use Rattle.std.specs.List.{range_with_len}
 use Rattle.std.proofs.lemmas.List.Elements.{recursion_from_All}
 use Rattle.std.proofs.lemmas.Option.{slice_get_within}
 use Rattle.bng_base.specs.declared.item.Item.{Item}
 use Rattle.bng_pool.specs.Seats.{SeatView as Hold}
 use Rattle.bng_round.specs.Asking.{Goes}
-use Rattle.bng_round.specs.Opening.{AreBack, AreOpened, EachBack, EachMade, IsBack, IsMemory, counts_of}
-use Rattle.bng_round.specs.Rounds.{RoundView, IsOpen, lists_of, round_of}
+use Rattle.bng_round.specs.Opening.{EachBack, EachMade, IsBack, IsMemory, counts_of}
+use Rattle.bng_round.specs.Rounds.{RoundView, IsOpen, lists_of}
 use Rattle.bng_round.specs.Looking.{IsGround}
-use Rattle.bng_round.specs.Telling.{AreAt, EachGoes, EachKnows, IsAt}
+use Rattle.bng_round.specs.Telling.{EachGoes, EachKnows, IsAt}
 use Rattle.bng_round.specs.Views.{PlacedView}
 use Rattle.bng_round.proofs.Places.{some_at, same_some}
 use Rattle.bng_round.proofs.Openings.{rows_some}
@@ -113,7 +112,7 @@ put_together-requires-clause-memory g c =
     let lens : map (counts_of c.as_slice.result.now) (range_with_len 0 c.len-workers.result) ≡ map (λ (l : List Item). length l) (lists_of c.len-workers.result c.args.seats.items c.args.items.items) =
     ap (λ (l : List ℕ). map (counts_of l) (range_with_len 0 c.len-workers.result)) seats ∙ lengths_are c.args.seats.items c.args.items.items c.len-workers.result long in
     let count : c.len.result ≡ length c.in-Ok-open_turns.opened.turns.items = c.len.ensures ∙ (c.args.shards.ok.0 ∙ (sym c.prepare_all.ensures.count ∙ (ap (λ (l : List PlacedView). length l) (sym c.brief_in.ensures.same)
-        ∙ sym (rows_some c.len-workers.result c.brief_in.new.shards.items c.in-Ok-open_turns.opened.turns.items c.in-Ok-open_turns.opened.rows.items c.in-Ok-open_turns.ensures.opened).1))) in
+    ∙ sym (rows_some c.len-workers.result c.brief_in.new.shards.items c.in-Ok-open_turns.opened.turns.items c.in-Ok-open_turns.opened.rows.items c.in-Ok-open_turns.ensures.opened).1))) in
     let items : length c.as_slice.result.now ≡ length c.args.items.items = ap (λ (l : List ℕ). length l) seats ∙ long in
     subst (λ (z : List ℕ × ℕ × ℕ). IsMemory z.0 z.1 z.2 c.in-Ok.memory) (λ i. (lens i, count i, items i)) c.in-Ok.ensures
 
