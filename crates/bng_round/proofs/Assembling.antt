@@ -1,10 +1,10 @@
 -- A round that was put together.
-use Rattle.std.proofs.Common.{◌≡◌, ℕ, zero, suc, ◌+◌, ◌*◌, ◌^◌, ◌%◌, ◌<◌, ◌≤◌, ◌==◌, Bool, true, false, cond, List, [], ◌∷◌, map, length, sum, count_by, slice_get, slice_index_or, get_or, Option, Some, refl, sym, ap, ◌∙◌, subst, arith, eq-eqb, ne_eqb}
+use Rattle.std.proofs.Common.{◌≡◌, ℕ, zero, suc, ◌+◌, ◌%◌, ◌<◌, ◌≤◌, ◌==◌, Bool, true, false, cond, List, [], ◌∷◌, map, length, sum, slice_get, slice_index_or, Option, Some, refl, sym, ap, ◌∙◌, subst, arith, eq-eqb, ne_eqb}
 use mathlib.Core.Logic.{dite}
 use native.Mathlib.Decide.{ℕ_discrete}
 use Rattle.std.specs.Vec.{vec_capacity}
 use Rattle.std.specs.List.{All, AllByRecursion, AllZip, range_with_len}
-use Rattle.std.proofs.lemmas.List.{length-map, get_or-map}
+use Rattle.std.proofs.lemmas.List.{get_or-map}
 use Rattle.std.proofs.lemmas.List.FromFn.{length-map-range_with_len, get_or-map-range_with_len}
 use Rattle.std.proofs.lemmas.List.Sums.{sum_by-cons}
 use Rattle.std.proofs.lemmas.Option.{slice_get_within}
@@ -12,16 +12,16 @@ use Rattle.bng_base.specs.declared.book.Book.{Book}
 use Rattle.bng_base.specs.declared.item.Item.{Item}
 use Rattle.bng_engine.specs.Quantities.{empty_book}
 use Rattle.bng_pool.specs.Ranges.{HasAddress}
-use Rattle.bng_pool.specs.Seats.{PoolView, SeatView as Hold, Holds, Notes, IsInRound}
+use Rattle.bng_pool.specs.Seats.{PoolView, SeatView as Hold, Notes, IsInRound}
 use Rattle.bng_round.specs.declared.mark.Mark.{Mark}
 use Rattle.bng_round.specs.declared.opening.Room.{Room}
-use Rattle.bng_round.specs.Asking.{Goes, HasPools, IsHold}
+use Rattle.bng_round.specs.Asking.{HasPools}
 use Rattle.bng_round.specs.Looking.{IsGround, IsLooker}
 use Rattle.bng_round.specs.Opening.{CanOpen, EachMade, HasSeats, IsMade, IsNew, IsOpened, IsOpening, AreOpened, IsRoom, Row, counts_of, seated, worker_in}
-use Rattle.bng_round.specs.Rounds.{RoundView, WorkerView, IsOpen, IsReady, list_of, lists_of, lists_in, round_of}
-use Rattle.bng_round.specs.Telling.{EachGoes, EachKnows, Knows, IsAt}
+use Rattle.bng_round.specs.Rounds.{WorkerView, IsOpen, list_of, lists_of, round_of}
+use Rattle.bng_round.specs.Telling.{EachGoes, EachKnows, Knows}
 use Rattle.bng_round.specs.Views.{PlacedView}
-use Rattle.bng_round.specs.Working.{AreSeats, AreNew, IsFresh}
+use Rattle.bng_round.specs.Working.{AreSeats, AreNew}
 use Rattle.bng_round.proofs.Places.{some_at, same_some}
 use Rattle.bng_round.proofs.Openings.{rows_some}
 use Rattle.bng_steps.specs.declared.rules.Rules.{Rules}

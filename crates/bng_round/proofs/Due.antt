@@ -1,6 +1,6 @@
 -- What an item of a worker may count on in its shard.
-use Rattle.std.proofs.Common.{◌≡◌, ℕ, zero, suc, ◌+◌, ◌<◌, ◌≤◌, ◌==◌, ◌&&◌, Bool, true, false, cond, List, [], ◌∷◌, ◌++◌, map, length, take, length-append, count_by, get_or, slice_get, slice_index_or, Some, refl, sym, ap, ◌∙◌, subst, arith, eq-eqb}
-use Rattle.std.specs.List.{All, AllZip, range_with_len, list_any}
+use Rattle.std.proofs.Common.{◌≡◌, ℕ, zero, suc, ◌+◌, ◌<◌, ◌≤◌, ◌==◌, ◌&&◌, Bool, true, false, cond, List, [], ◌∷◌, map, length, take, length-append, count_by, get_or, slice_get, slice_index_or, Some, refl, sym, ap, ◌∙◌, subst, arith, eq-eqb}
+use Rattle.std.specs.List.{AllZip, list_any}
 use Rattle.std.proofs.lemmas.List.{length-map, get_or-map}
 use Rattle.std.proofs.lemmas.List.FromFn.{get_or-map-range_with_len, length-map-range_with_len}
 use Rattle.bng_base.specs.declared.book.Book.{Book}
@@ -13,7 +13,7 @@ use Rattle.bng_round.specs.declared.mark.Mark.{Mark}
 use Rattle.bng_round.specs.Booking.{without_claim}
 use Rattle.bng_round.specs.Dealing.{entries_in}
 use Rattle.bng_round.specs.Entering.{IsDue, entries_in_marks}
-use Rattle.bng_round.specs.Rounds.{RoundView, IsOpen, list_of, lists_of, lists_in}
+use Rattle.bng_round.specs.Rounds.{RoundView, IsOpen, list_of, lists_in}
 use Rattle.bng_round.specs.Ticks.{is_for_shard, is_tick, is_end}
 use Rattle.bng_round.specs.Views.{PlacedView}
 use Rattle.bng_round.specs.Working.{AreSeats, Worked}

@@ -1,16 +1,12 @@
 -- A round whose turns ended, and its workers.
-use Rattle.std.proofs.Common.{◌≡◌, ℕ, zero, suc, ◌+◌, ◌%◌, ◌<◌, ◌≤◌, List, [], ◌∷◌, ◌++◌, map, length, sum, sum_by, slice_get, slice_index_or, length-append, Some, refl, sym, ap, ◌∙◌, subst, arith}
+use Rattle.std.proofs.Common.{◌≡◌, ℕ, zero, suc, ◌+◌, ◌%◌, ◌<◌, ◌≤◌, List, [], ◌∷◌, ◌++◌, map, length, sum, slice_get, length-append, Some, refl, sym, ap, ◌∙◌, subst, arith}
 use Rattle.std.specs.List.{flat_map, range_with_len}
-use Rattle.std.proofs.lemmas.List.{length-map}
 use Rattle.std.proofs.lemmas.List.Elements.{recursion_from_All}
 use Rattle.std.proofs.lemmas.List.FromFn.{length-map-range_with_len}
-use Rattle.std.proofs.lemmas.List.Sums.{sum_by-cons}
 use Rattle.std.proofs.lemmas.Option.{slice_get_within}
 use Rattle.bng_base.specs.declared.item.Item.{Item}
 use Rattle.bng_base.specs.declared.item.Loose.{Loose}
 use Rattle.bng_pool.specs.Seats.{PoolView, SeatView as Hold}
-use Rattle.bng_round.specs.declared.mark.Mark.{Mark}
-use Rattle.bng_round.specs.Asking.{Goes, IsHold}
 use Rattle.bng_round.specs.Closing.{AreAllDone, Ends, EndFrom, IsCut}
 use Rattle.bng_round.specs.Dealing.{loose_in, loose_item}
 use Rattle.bng_round.specs.Looking.{IsGround, IsLooker}
@@ -24,7 +20,7 @@ use Rattle.bng_round.proofs.Places.{some_at, same_some, sum_least}
 use Rattle.bng_steps.specs.Seats.{IsSeat}
 use Rattle.bng_steps.specs.declared.whose.Whose.{Whose}
 use Rattle.bng_steps.specs.declared.whose.Whose.TheVariants.{Loose as IsLoose, Stands}
-use Rattle.bng_turn.specs.Views.{TurnView, SeatView}
+use Rattle.bng_turn.specs.Views.{TurnView}
 
 pub ends_long : (workers : List WorkerView) (from : ℕ) (ts : List (TurnView PlacedView)) (gs : List PlacedView) → EndFrom workers from ts gs → length gs ≡ length ts
 ends_long workers from [] [] ends = refl

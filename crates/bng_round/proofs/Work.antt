@@ -1,9 +1,9 @@
 -- A worker's work: what an item may count on, and what it leaves.
-use Rattle.std.proofs.Common.{◌≡◌, ℕ, suc, ◌+◌, ◌*◌, ◌%◌, ◌<◌, ◌≤◌, ◌==◌, ◌&&◌, Bool, true, false, cond, List, [], ◌∷◌, ◌++◌, map, length, set, count_by, sum_by, slice_get, slice_index_or, length-append, length-set, Some, refl, sym, ap, ◌∙◌, subst, arith, eq-eqb, ne_eqb}
+use Rattle.std.proofs.Common.{◌≡◌, ℕ, suc, ◌+◌, ◌%◌, ◌≤◌, Bool, true, false, List, [], ◌∷◌, ◌++◌, map, length, set, slice_get, length-append, length-set, Some, refl, sym, ap, ◌∙◌, subst, arith, eq-eqb, ne_eqb}
 use mathlib.Core.Logic.{dite}
 use native.Mathlib.Decide.{ℕ_discrete}
 use Rattle.std.specs.List.{AllByRecursion, AllZip}
-use Rattle.std.proofs.lemmas.List.{append-nil, map-append, length-map}
+use Rattle.std.proofs.lemmas.List.{append-nil, map-append}
 use Rattle.std.proofs.lemmas.List.Sums.{sum_by-cons, sum_by-append}
 use Rattle.bng_base.specs.declared.book.Book.{Book}
 use Rattle.bng_base.specs.declared.fate.Fate.{Fate}
@@ -22,7 +22,7 @@ use Rattle.bng_round.specs.Entering.{entries_in_marks, Books}
 use Rattle.bng_round.specs.Looking.{Finds, IsFoundNow, IsGround, IsLooker, IsSeen, WasFound}
 use Rattle.bng_round.specs.Rounds.{RoundView}
 use Rattle.bng_round.specs.Views.{PlacedView}
-use Rattle.bng_round.specs.Working.{Adds, AreSeats, GoesTo, HandlesOne, Worked, marks_passed, seats_passed}
+use Rattle.bng_round.specs.Working.{AreSeats, GoesTo, HandlesOne, Worked, marks_passed, seats_passed}
 use Rattle.bng_round.proofs.Places.{at_set_same, at_set_other, all_more, sum_changed}
 use Rattle.bng_round.proofs.Standings.{entries_more, loose_more, one_of}
 use Rattle.bng_steps.specs.declared.destination.Destination.{Destination}

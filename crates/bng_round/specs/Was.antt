@@ -4,7 +4,6 @@ use Rattle.std.specs.List.{All, AllByRecursion, AllZip, flat_map}
 use Rattle.bng_base.specs.declared.fate.Fate.{Fate}
 use Rattle.bng_base.specs.declared.item.Entry.{Entry}
 use Rattle.bng_base.specs.declared.item.Item.{Item}
-use Rattle.bng_base.specs.declared.item.Loose.{Loose}
 use Rattle.bng_engine.specs.Calls.{InTurn}
 use Rattle.bng_engine.specs.Quantities.{Quantity, in_book}
 use Rattle.bng_engine.specs.Rounds.{ShardRound}
@@ -14,7 +13,7 @@ use Rattle.bng_pool.specs.OneHand.{table_of}
 use Rattle.bng_pool.specs.Tables.{Table, entry}
 use Rattle.bng_round.specs.declared.mark.Mark.{Mark}
 use Rattle.bng_round.specs.Asking.{AreHeldBy, Goes}
-use Rattle.bng_round.specs.Booking.{without_claim, of_seat, mark_of}
+use Rattle.bng_round.specs.Booking.{without_claim, of_seat}
 use Rattle.bng_round.specs.Dealing.{StandsWithin, all_loose, entries_in}
 use Rattle.bng_round.specs.Rounds.{RoundView, WorkerView, lists_in}
 use Rattle.bng_round.specs.Views.{PlacedView, Sight}

@@ -1,5 +1,5 @@
 -- What a worker does.
-use Rattle.std.specs.Prelude.{◌≡◌, ℕ, ◌+◌, ◌*◌, ◌<◌, ◌≤◌, Bool, false, List, [], ◌∷◌, ◌++◌, Some, length, map, sum_by, slice_get, slice_set}
+use Rattle.std.specs.Prelude.{◌≡◌, ℕ, ◌+◌, ◌*◌, ◌<◌, ◌≤◌, Bool, false, List, [], ◌++◌, Some, length, map, sum_by, slice_get, slice_set}
 use Rattle.std.specs.List.{AllByRecursion, AllZip}
 use Rattle.bng_base.specs.declared.book.Book.{Book}
 use Rattle.bng_base.specs.declared.item.Entry.{Entry}
@@ -12,7 +12,7 @@ use Rattle.bng_round.specs.declared.mark.Mark.{Mark}
 use Rattle.bng_round.specs.Booking.{without_claim}
 use Rattle.bng_round.specs.Dealing.{StandsWithin, entries_in, loose_in, loose_item}
 use Rattle.bng_round.specs.Entering.{entries_in_marks, Books}
-use Rattle.bng_round.specs.Looking.{Finds, IsSeen, IsLooker}
+use Rattle.bng_round.specs.Looking.{Finds, IsSeen}
 use Rattle.bng_round.specs.Rounds.{RoundView, WorkerView, list_of}
 use Rattle.bng_round.specs.Views.{PlacedView}
 use Rattle.bng_steps.specs.declared.rules.Rules.{Rules}

@@ -1,6 +1,5 @@
-use Rattle.std.proofs.Common.{◌<◌, ◌≡◌, ℕ, length, slice_get, Some, refl, sym, ap, ◌∙◌, subst, arith}
+use Rattle.std.proofs.Common.{◌<◌, ℕ, length, refl, sym, subst, arith}
 use Rattle.std.proofs.lemmas.Option.{slice_get_read}
-use Rattle.bng_steps.specs.declared.whose.Whose.{Whose}
 use Rattle.bng_steps.specs.declared.whose.Whose.TheVariants.{Stands}
 use Rattle.bng_round.specs.Looking.{Finds}
 use Rattle.bng_round.proofs.Standings.{target_of}

@@ -1,10 +1,9 @@
-use Rattle.std.proofs.Common.{◌≡◌, ◌≤◌, ℕ, List, map, length, slice_get, slice_index_or, refl, sym, ap, ◌∙◌, subst, arith}
+use Rattle.std.proofs.Common.{◌≡◌, ℕ, List, map, length, slice_index_or, refl, sym, ap, ◌∙◌, subst, arith}
 use Rattle.std.proofs.lemmas.List.{length-map}
 use Rattle.std.proofs.lemmas.List.FromFn.{length-map-range_with_len}
 use Rattle.bng_base.specs.declared.book.Book.{Book}
 use Rattle.bng_base.specs.declared.item.Item.{Item}
 use Rattle.bng_engine.specs.Quantities.{empty_book}
-use Rattle.bng_round.specs.declared.opening.Room.{Room}
 use Rattle.bng_round.specs.Rounds.{RoundView, WorkerView, list_of, lists_of, round_of, IsOpen}
 use Rattle.bng_round.specs.Opening.{IsNew}
 use Rattle.bng_round.proofs.Places.{all_of}

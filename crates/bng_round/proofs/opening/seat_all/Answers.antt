@@ -1,11 +1,10 @@
-use Rattle.std.proofs.Common.{rules, ◌≡◌, ◌<◌, ◌+◌, ◌++◌, ◌∷◌, [], ℕ, suc, List, Some, length, length-append, slice_index_or, refl, sym, ap, ◌∙◌, arith}
-use Rattle.bng_base.specs.declared.book.Book.{Book}
+use Rattle.std.proofs.Common.{◌≡◌, ◌<◌, ◌+◌, ◌++◌, ◌∷◌, [], ℕ, suc, List, length, length-append, slice_index_or, refl, sym, ap, ◌∙◌, arith}
 use Rattle.bng_engine.specs.Quantities.{empty_book}
 use Rattle.bng_pool.specs.Seats.{SeatView as Hold}
 use Rattle.bng_turn.proofs.SeatLists.{removed_first}
 use Rattle.bng_round.specs.declared.opening.Room.{Room}
 use Rattle.bng_round.specs.Rounds.{WorkerView}
-use Rattle.bng_round.specs.Opening.{seated, worker_in}
+use Rattle.bng_round.specs.Opening.{worker_in}
 use Rattle.bng_round.proofs.Openings.{seated_more, seated_long}
 use Rattle.bng_round.proofs.opening.seat_all.Goals as goal
 

@@ -1,14 +1,13 @@
-use Rattle.std.proofs.Common.{rules, ◌≡◌, ◌≤◌, ◌<◌, ℕ, List, length, map, sum, slice_get, Some, refl, sym, ap, ◌∙◌, subst, arith}
+use Rattle.std.proofs.Common.{◌≡◌, ◌≤◌, [], ℕ, List, length, map, slice_get, Some, sym, ap, ◌∙◌, subst, arith}
 use Rattle.std.proofs.lemmas.List.{length-map}
-use Rattle.std.specs.List.{AllByRecursion, flat_map}
-use Rattle.bng_base.specs.declared.book.Book.{Book}
+use Rattle.std.specs.List.{AllByRecursion}
+use Rattle.std.specs.Vec.{vec_capacity}
 use Rattle.bng_pool.specs.Seats.{SeatView as Hold}
 use Rattle.bng_turn.specs.Views.{TurnView}
 use Rattle.bng_round.specs.Rounds.{RoundView, WorkerView, IsOpen}
 use Rattle.bng_round.specs.Views.{PlacedView}
 use Rattle.bng_round.specs.Working.{AreSeats}
-use Rattle.bng_round.specs.Closing.{AreAllDone, EndFrom, IsCut}
-use Rattle.bng_round.specs.Looking.{IsGround}
+use Rattle.bng_round.specs.Closing.{EndFrom, IsCut}
 use Rattle.bng_round.specs.Telling.{AreAgreed, AreAt, EachGoes, LookersAt}
 use Rattle.bng_round.proofs.Ended.{ends_long, ended_at, flat_cut, loose_few, lookers_at, map_cut, seats_at}
 use Rattle.bng_round.proofs.Places.{some_at}
@@ -30,7 +29,7 @@ end_all-shards-requires-clause-rows g c = c.self.invariant.rows ∙ ap (λ (l : 
 pub end_all-shards-requires-clause-each_row : goal.end_all-shards-requires-clause-each_row
 end_all-shards-requires-clause-each_row g c =
     let workers : c.self.inside.floor.workers ≡ length c.args.workers.items = ap (λ (r : RoundView). r.workers) c.self.view_is ∙ sym c.requires.done.1.count.0 in
-    subst (λ (n : ℕ). AllByRecursion (λ r. (r.items ≡ _) × (n ≤ _)) c.self.inside.rows.items) workers c.self.invariant.each_row
+    subst (λ (n : ℕ). AllByRecursion (λ r. (r.items ≡ []) × (n ≤ vec_capacity r)) c.self.inside.rows.items) workers c.self.invariant.each_row
 
 pub end_all-shards-requires-clause-shards : goal.end_all-shards-requires-clause-shards
 end_all-shards-requires-clause-shards g c = (c.self.invariant.shards.0, omega (arith, c.self.invariant.shards.1, ap (λ (l : List (TurnView PlacedView)). length l) c.into_parts-turns.ensures.turns))

@@ -1,17 +1,18 @@
-use Rattle.std.proofs.Common.{rules, ◌≡◌, ◌≤◌, ◌<◌, ℕ, List, Some, map, length, sum, slice_get, slice_index_or, refl, sym, ap, ◌∙◌, subst, arith, true}
-use Rattle.std.proofs.lemmas.List.{length-map}
-use Rattle.std.specs.List.{AllByRecursion, range_with_len}
+use Rattle.std.proofs.Common.{rules, ◌≡◌, ◌<◌, [], ℕ, List, Some, map, length, sum, slice_get, refl, sym, ap, ◌∙◌, subst, arith}
+use Rattle.std.specs.List.{range_with_len}
 use Rattle.std.proofs.lemmas.List.Elements.{recursion_from_All}
 use Rattle.std.proofs.lemmas.Option.{slice_get_within}
 use Rattle.bng_base.specs.declared.item.Item.{Item}
 use Rattle.bng_pool.specs.Seats.{SeatView as Hold}
-use Rattle.bng_round.specs.Opening.{AreOpened, EachMade, IsMemory, counts_of}
-use Rattle.bng_round.specs.Rounds.{RoundView, IsOpen, lists_of, round_of}
+use Rattle.bng_round.specs.Asking.{Goes}
+use Rattle.bng_round.specs.Opening.{EachBack, EachMade, IsBack, IsMemory, counts_of}
+use Rattle.bng_round.specs.Rounds.{RoundView, IsOpen, lists_of}
 use Rattle.bng_round.specs.Looking.{IsGround}
-use Rattle.bng_round.specs.Telling.{AreAt, EachKnows, IsAt}
+use Rattle.bng_round.specs.Telling.{EachGoes, EachKnows, IsAt}
 use Rattle.bng_round.specs.Views.{PlacedView}
 use Rattle.bng_round.proofs.Places.{some_at, same_some}
 use Rattle.bng_round.proofs.Openings.{rows_some}
+use Rattle.bng_round.proofs.Answering.{goes_same}
 use Rattle.bng_round.proofs.Assembling.{all_counted, lengths_are, zip_same, is_open, ground, lookers_are, opening_at}
 use Rattle.bng_round.proofs.round.Round.open.Goals as goal
 
@@ -57,6 +58,44 @@ open_turns-requires-clause-rest g c s x e =
 
 pub open_turns-requires-clause-some : goal.open_turns-requires-clause-some
 open_turns-requires-clause-some g c = omega (arith, c.len-workers.ensures, c.args.lookers.ok.0, c.requires.can.workers.0)
+
+-- what was handed in, where nothing was done
+back_all : (shards : List PlacedView) → ((s : ℕ) (g : PlacedView) → slice_get shards s ≡ Some g → (g.shard.journal ≡ []) × (g.shard.outs ≡ [])) → EachBack shards shards
+back_all shards rest s g x e f =
+    let was = rest s g e in
+    let same : IsBack g g = record { kept = record { number = refl; state = refl; rows = refl; books = refl }; journal = was.0; outs = was.1; hold = refl } in
+    subst (λ (z : PlacedView). IsBack g z) (same_some g x (slice_get shards s) e f) same
+
+goes_all : (qs : List Hold) → EachGoes qs qs
+goes_all qs j q r e f = subst (λ (z : Hold). Goes q z) (same_some q r (slice_get qs j) e f) (goes_same q)
+
+pub returns-in_default-clause-back : goal.returns-in_default-clause-back
+returns-in_default-clause-back g c = (
+  record {
+    count = refl;
+    shards_are = back_all c.args.shards.items (λ s x e. let is = c.requires.can.rest s x e in (is.journal, is.outs));
+    lookers_count = refl;
+    lookers_are = goes_all c.args.lookers.items;
+  },
+  refl,
+  refl,
+  refl,
+)
+
+pub returns-in-Err-clause-back : goal.returns-in-Err-clause-back
+returns-in-Err-clause-back g c =
+    let did = c.prepare_all.ensures in
+    let same : c.in-Err.shards.items ≡ c.prepare_all.new.shards.items = c.in-Err.ensures.back ∙ c.brief_in.ensures.same in (
+      record {
+        count = ap (λ (l : List PlacedView). length l) same ∙ did.count;
+        shards_are = subst (λ (l : List PlacedView). EachBack c.args.shards.items l) (sym same) did.back;
+        lookers_count = c.brief_in.ensures.count;
+        lookers_are = c.brief_in.ensures.goes;
+      },
+      refl,
+      refl,
+      refl,
+    )
 
 pub put_together-requires-clause-opened : goal.put_together-requires-clause-opened
 put_together-requires-clause-opened g c = (c.brief_in.new.shards.items, c.in-Ok-open_turns.ensures.opened)
