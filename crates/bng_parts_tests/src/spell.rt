@@ -318,7 +318,11 @@ fn a_long_round_is_spelled_whole(rt: HostRuntime) -> Result<(), Fail> {
     }
     text.extend_from_slice(b"\nend\n")?;
     let mut sink = sink(alloc, Vec::new(alloc))?;
-    assert_same(&rt, &spell_round(&long_round(alloc)?, &mut sink), &Wrote::Ok);
+    assert_same(
+        &rt,
+        &spell_round(&long_round(alloc)?, &mut sink),
+        &Wrote::Ok,
+    );
     assert_octets(&rt, sink.text(), text.as_slice());
     Ok(())
 }

@@ -60,20 +60,13 @@ fn both_ended(
     requires one { length one.state.rules.profiles ≡ 2 }
     requires other { length other.state.rules.profiles ≡ 2 }
 {
-    thread::join(
-        rt,
-        move || ended(alloc, one),
-        move || ended(alloc, other),
-    )
+    thread::join(rt, move || ended(alloc, one), move || ended(alloc, other))
 }
 
 // This term leaves next.
 fn assert_leaves(rt: &impl Abort, shard: &mut Shard, term: (TermId, Circuit, Ip4)) {
     let ended = shard.take_ended();
-    assert_holds(
-        rt,
-        ended.as_ref().is_some_and(|ended| is_end(ended, term)),
-    );
+    assert_holds(rt, ended.as_ref().is_some_and(|ended| is_end(ended, term)));
 }
 
 // Its End was handled, and the terms of both circuits leave, one after the other.
