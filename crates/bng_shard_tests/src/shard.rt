@@ -90,7 +90,8 @@ fn open_bench(alloc: Global, rules: Rules, range: Range) -> Result<Bench, Fail>
 
 fn item(kind: ItemKind, octets: &[u8]) -> Item
     requires { length octets.now ≤ 4096 }
-    ensures { result.frame.headroom ≡ 64 }
+    ensures kind { result.kind ≡ kind }
+    ensures whole { result.frame.headroom ≡ 64 }
 {
     let mut frame = Frame::new();
     frame.set(octets);
