@@ -24,7 +24,7 @@ use Rattle.bng_engine.proofs.SameLists.{same_equal}
 use Rattle.bng_engine.proofs.Walks.{same_at}
 use Rattle.bng_pool.specs.Plain.{PlainView}
 use Rattle.bng_pool.specs.Tables.{TableFrees, entry}
-use Rattle.bng_steps.specs.declared.changes.Answer.{Answer}
+use Rattle.bng_steps.specs.declared.changes.ChangeAnswer.{ChangeAnswer}
 use Rattle.bng_steps.specs.declared.rules.Rules.{Rules}
 use Rattle.bng_steps.specs.Lasting.{AreTenures}
 use Rattle.bng_steps.specs.Protocol.{ShardState, Handled, pppoe, ended_terms, key_in, term_in, terms_of}
@@ -226,7 +226,7 @@ over room w = record w { state = record w.state { slots = reaped_slots w.state.s
 pub settled_is : (v : ShardView ShardState Entry) → reaped_slots v.state.slots ≡ v.state.slots → v ≡ over v.room v
 settled_is v same = ap (λ (s : State). record v { state = record v.state { slots = s } }) (sym same)
 
-abbrev state_with : Rules → State → List Answer → ShardState
+abbrev state_with : Rules → State → List ChangeAnswer → ShardState
 state_with rules slots changed = record { rules = rules; slots = slots; changed = changed }
 
 module _ (w w' : ShardView ShardState Entry) (room : ℕ) (none : filter is_ended (terms_of w.state) ≡ []) (is : w' ≡ over room w) where
@@ -252,7 +252,7 @@ module _ (w w' : ShardView ShardState Entry) (room : ℕ) (none : filter is_ende
     order = some.reaping.order;
     each = reaping_ends pppoe (seen v []) (seen w stops) some.reaping none;
     state = ap (λ (x : ShardView ShardState Entry). x.state) is ∙ ap (λ (r : Rules). state_with r (reaped_slots w.state.slots) w.state.changed) some.rules
-        ∙ ap (λ (s : State). state_with v.state.rules s w.state.changed) some.slots ∙ ap (λ (answers : List Answer). state_with v.state.rules (reaped_slots v.state.slots) answers) some.changed;
+        ∙ ap (λ (s : State). state_with v.state.rules s w.state.changed) some.slots ∙ ap (λ (answers : List ChangeAnswer). state_with v.state.rules (reaped_slots v.state.slots) answers) some.changed;
     fit = λ h. same_fit (some.fit h);
     rows = λ q pick input. omega (arith, some.reaping.rows q pick input, ap (rows_where q pick input) rows_are);
     count = omega (arith, some.count, ap (λ (ts : List Tenure). length (map term_in ts)) same_terms);

@@ -17,7 +17,7 @@ use Rattle.bng_engine.specs.Views.{Row, ShardView}
 use Rattle.bng_engine.proofs.Adding.{sum_map}
 use Rattle.bng_ppp.specs.LinkRelation.{earliest}
 use Rattle.bng_pool.specs.Plain.{PlainView}
-use Rattle.bng_steps.specs.declared.changes.Answer.{Answer}
+use Rattle.bng_steps.specs.declared.changes.ChangeAnswer.{ChangeAnswer}
 use Rattle.bng_steps.specs.declared.rules.Rules.{Rules}
 use Rattle.bng_steps.specs.declared.sums.Traffic.{Traffic}
 use Rattle.bng_steps.specs.Protocol.{ShardState, Handled, pppoe, deadline_of, sessions_of}
@@ -130,7 +130,7 @@ left_rested (w ∷ ws) (x ∷ xs) h =
 pub told_rested : (vs : Shards) → AllByRecursion AllTold vs → map rested (map told_all vs) ≡ map rested vs
 told_rested [] told = refl
 told_rested (v ∷ vs) told =
-    ap (λ (bs : List Answer). let s : ShardState = record v.state { changed = bs } in made v.number s v.rows v.books ∷ map rested (map told_all vs)) (sym told.0)
+    ap (λ (bs : List ChangeAnswer). let s : ShardState = record v.state { changed = bs } in made v.number s v.rows v.books ∷ map rested (map told_all vs)) (sym told.0)
     ∙ ap (λ (xs : Shards). rested v ∷ xs) (told_rested vs told.1)
 
 -- a turn sees of a shard before it what is kept

@@ -19,7 +19,7 @@ use Rattle.bng_lane.specs.Replies.{Takes as IsTaken}
 use Rattle.bng_lane.specs.Sends.{LaneSend, LaneAsk, AllResent, Asks}
 use Rattle.bng_lane.specs.State.{LaneState, noted}
 use Rattle.bng_rad_client.specs.Table.{taken}
-use Rattle.bng_steps.specs.declared.changes.Answer.{Answer}
+use Rattle.bng_steps.specs.declared.changes.ChangeAnswer.{ChangeAnswer}
 use Rattle.bng_steps.specs.declared.rules.Rules.{Rules}
 use Rattle.bng_steps.specs.Questions.{asking_from, waiting, handed_after}
 use Rattle.bng_steps.specs.State.{State}
@@ -211,13 +211,13 @@ pub record RepeatsAll (repeats : List CoaReply) (old new : PlantTold) : Type 0 w
   pub told : ExtendsPlant old new (coa_stretch repeated)
 
 -- A reply was sent, if the request that the answer is for was in hand.
-pub record GivesOne (a : Answer) (old new : PlantTold) (c c' : CoaState) : Type 0 where
+pub record GivesOne (a : ChangeAnswer) (old new : PlantTold) (c c' : CoaState) : Type 0 where
   pub send : Option CoaSend
   pub gives : GivesTo c a send c'
   pub told : ExtendsPlant old new (coa_stretch (option_to_list send))
 
 -- so for these answers, one after the other
-pub record GivesSome (answers : List Answer) (old new : PlantTold) (c c' : CoaState) : Type 0 where
+pub record GivesSome (answers : List ChangeAnswer) (old new : PlantTold) (c c' : CoaState) : Type 0 where
   pub given : List Given
   pub are : map (λ (g : Given). g.answer) given ≡ answers
   pub gives : Chain GivesAnswer c given c'
@@ -225,13 +225,13 @@ pub record GivesSome (answers : List Answer) (old new : PlantTold) (c c' : CoaSt
 
 -- A reply to a loose item was sent, if it is a request and in hand.
 pub record GivesItem (r : Rules) (item : Item) (old new : PlantTold) (c c' : CoaState) : Type 0 where
-  pub answer : Option Answer
+  pub answer : Option ChangeAnswer
   pub is : AnswersLooseKind item.kind r item answer
   pub gives : GivesSome (option_to_list answer) old new c c'
 
 -- so to loose items, in their order
 pub record GivesLoose (r : Rules) (loose : List Loose) (old new : PlantTold) (c c' : CoaState) : Type 0 where
-  pub answers : List Answer
+  pub answers : List ChangeAnswer
   pub are_loose : AreLooseAnswers r loose answers
   pub gives : GivesSome answers old new c c'
 

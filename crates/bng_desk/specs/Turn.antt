@@ -17,7 +17,7 @@ use Rattle.bng_engine.specs.Calls.{all_sends}
 use Rattle.bng_engine.specs.Lists.{Zip3}
 use Rattle.bng_engine.specs.Views.{ShardView}
 use Rattle.bng_ppp.specs.LinkRelation.{earliest}
-use Rattle.bng_steps.specs.declared.changes.Answer.{Answer}
+use Rattle.bng_steps.specs.declared.changes.ChangeAnswer.{ChangeAnswer}
 use Rattle.bng_steps.specs.declared.rules.Rules.{Rules}
 use Rattle.bng_steps.specs.Interims.{Reports}
 use Rattle.bng_steps.specs.Protocol.{ShardState, deadline_of}
@@ -193,7 +193,7 @@ abbrev pub loose_of : List Item → Option Round → List Loose
 loose_of items None = []
 loose_of items (Some round) = all_loose 0 (items ∷ []) round.whose
 
-abbrev pub answers_of : Option Round → List Answer
+abbrev pub answers_of : Option Round → List ChangeAnswer
 answers_of None = []
 answers_of (Some round) = shard_answers round.shards
 

@@ -26,7 +26,7 @@ use Rattle.bng_engine.specs.Lists.{AnyOf}
 use Rattle.bng_engine.specs.Views.{ShardView}
 use Rattle.bng_engine.proofs.Everywhere.{any_either, any_left, any_right}
 use Rattle.bng_radius_wire.specs.Grammar.{Packet}
-use Rattle.bng_steps.specs.declared.changes.Answer.{Answer}
+use Rattle.bng_steps.specs.declared.changes.ChangeAnswer.{ChangeAnswer}
 use Rattle.bng_steps.specs.declared.rules.Rules.{Rules}
 use Rattle.bng_steps.specs.declared.whose.Whose.{Whose}
 use Rattle.bng_steps.specs.declared.whose.Whose.TheVariants.{Loose as IsLoose, Stands}
@@ -132,28 +132,28 @@ none_covers c none = all_weaker (λ (r : Request). is_in_hand r ≡ false) (λ (
 -- What a round answers ------------------------------------------------------------------------------------------------------------------
 
 -- a request is answered under its number
-abbrev IsTo : ℕ → Answer → Type 0
+abbrev IsTo : ℕ → ChangeAnswer → Type 0
 IsTo n a = a.ask ≡ n
 
 -- in a shard
-shard_answers_it : (k : ItemKind) (r : Rules) (s : State) (e : Entry) (o : Option Answer) → k ≡ kind.Change → AnswersKind k r s e o → (p : Packet) → IsRequestIn p e.item.frame.payload → (a : Answer) × (o ≡ Some a) × (a.ask ≡ e.item.ask)
+shard_answers_it : (k : ItemKind) (r : Rules) (s : State) (e : Entry) (o : Option ChangeAnswer) → k ≡ kind.Change → AnswersKind k r s e o → (p : Packet) → IsRequestIn p e.item.frame.payload → (a : ChangeAnswer) × (o ≡ Some a) × (a.ask ≡ e.item.ask)
 shard_answers_it k r s e o change h p reads = by (subst (λ (x : ItemKind). AnswersKind x r s e o) change h)
   where
-    by : AnswersRequest r s e o → (a : Answer) × (o ≡ Some a) × (a.ask ≡ e.item.ask)
+    by : AnswersRequest r s e o → (a : ChangeAnswer) × (o ≡ Some a) × (a.ask ≡ e.item.ask)
     by (inl none) = absurd (none.0 p reads)
     by (inr some) = (answer_to r s e some.0, some.2, refl)
 
 -- and loose
-loose_answers_it : (k : ItemKind) (r : Rules) (i : Item) (o : Option Answer) → k ≡ kind.Change → AnswersLooseKind k r i o → (p : Packet) → IsRequestIn p i.frame.payload → (a : Answer) × (o ≡ Some a) × (a.ask ≡ i.ask)
+loose_answers_it : (k : ItemKind) (r : Rules) (i : Item) (o : Option ChangeAnswer) → k ≡ kind.Change → AnswersLooseKind k r i o → (p : Packet) → IsRequestIn p i.frame.payload → (a : ChangeAnswer) × (o ≡ Some a) × (a.ask ≡ i.ask)
 loose_answers_it k r i o change h p reads = by (subst (λ (x : ItemKind). AnswersLooseKind x r i o) change h)
   where
-    by : AnswersLoose r i o → (a : Answer) × (o ≡ Some a) × (a.ask ≡ i.ask)
+    by : AnswersLoose r i o → (a : ChangeAnswer) × (o ≡ Some a) × (a.ask ≡ i.ask)
     by (inl none) = absurd (none.0 p reads)
     by (inr some) = (record { ask = i.ask; verdict = verdict_by (refusal_of r some.0) None }, some.2, refl)
 
-one_there : (n : ℕ) (o : Option Answer) (a : Answer) → o ≡ Some a → a.ask ≡ n → AnyOf (IsTo n) (option_to_list o)
+one_there : (n : ℕ) (o : Option ChangeAnswer) (a : ChangeAnswer) → o ≡ Some a → a.ask ≡ n → AnyOf (IsTo n) (option_to_list o)
 one_there n None a e is = absurd (none-some a e)
-one_there n (Some b) a e is = inl (ap (λ (x : Answer). x.ask) (same_Some b a e) ∙ is)
+one_there n (Some b) a e is = inl (ap (λ (x : ChangeAnswer). x.ask) (same_Some b a e) ∙ is)
 
 journal_answers : (n : ℕ) (s : ShardState) (journal : List Handled) → AreSteps pppoe s journal → AnyOf (λ (h : Handled). Asks n h.deed.entry.item) journal → AnyOf (IsTo n) (answers_in journal)
 journal_answers n s [] steps h = h
@@ -168,7 +168,7 @@ all_answer n [] place v at h = absurd (none-some v at)
 all_answer n (w ∷ shards) zero v at h = any_left (IsTo n) (answers_in w.journal) (shard_answers shards) (subst (λ (x : ShardView ShardState Handled). AnyOf (IsTo n) (answers_in x.journal)) (sym (same_Some w v at)) h)
 all_answer n (w ∷ shards) (suc place) v at h = any_right (IsTo n) (answers_in w.journal) (shard_answers shards) (all_answer n shards place v at h)
 
-loose_answer : (n : ℕ) (r : Rules) (loose : List Loose) (answers : List Answer) → AreLooseAnswers r loose answers → AnyOf (λ (l : Loose). Asks n l.item) loose → AnyOf (IsTo n) answers
+loose_answer : (n : ℕ) (r : Rules) (loose : List Loose) (answers : List ChangeAnswer) → AreLooseAnswers r loose answers → AnyOf (λ (l : Loose). Asks n l.item) loose → AnyOf (IsTo n) answers
 loose_answer n r [] answers are h = absurd h
 loose_answer n r (l ∷ ls) answers are (inl asks) =
     let its = loose_answers_it l.item.kind r l.item are.0 asks.0 are.2 asks.2.0 asks.2.1 in
@@ -251,7 +251,7 @@ module _ (n moment : ℕ) (d : Desk) (items : List Item) (round : Round) (is : R
       all_answer n round.shards x.number v p.at (journal_answers n b.view.state v.journal b.steps handled)
 
   -- each request among the items has an answer
-  answers_there : (of_loose : List Answer) (whose : List (List Whose)) → AllZip (AllZip R) (items ∷ []) whose → AllByRecursion (All (StandsWithin (length round.shards))) whose → AreParts (items ∷ []) whose 0 moment round.shards
+  answers_there : (of_loose : List ChangeAnswer) (whose : List (List Whose)) → AllZip (AllZip R) (items ∷ []) whose → AllByRecursion (All (StandsWithin (length round.shards))) whose → AreParts (items ∷ []) whose 0 moment round.shards
       → AreLooseAnswers d.rules (all_loose 0 (items ∷ []) whose) of_loose → AnyOf (Asks n) items → AnyOf (IsTo n) (of_loose ++ shard_answers round.shards)
   answers_there of_loose [] zip inside parts are asks = absurd zip
   answers_there of_loose (ws ∷ []) zip inside parts are asks =

@@ -9,10 +9,10 @@ ghost use Rattle.bng_lac.specs.Steps.{asks_each, connecting, answered, clears, c
 
 use crate::call::LacCall;
 use crate::judge::{fails_challenge, has_wrong_avp, is_for_call, is_of_call, is_taken};
+use crate::outcome::tell;
 use crate::phase::Phase;
-use crate::sending::{Asked, ask_each};
+use crate::sending::{SentCalls, ask_each};
 use crate::spelling::scccn;
-use crate::told::tell;
 use crate::tunnel::LacTunnel;
 use arrayvec::ArrayVec;
 use bng_base::TunnelStep;
@@ -32,14 +32,14 @@ fn connect(
     secret: &Option<ArrayVec<u8, 64>>,
     avps: &[Avp<'_>],
     now: u64,
-) -> Asked
+) -> SentCalls
     ensures { asking_of channel.new result ≡ connecting channel.old (octets_of secret.now) serial (avps_of avps.now) now }
 {
     let answer = scccn(secret, &value_of(avps, secret, CHALLENGE));
     channel.set_window(window_of(avps, secret));
     let queued = channel.send(answer.payload(), now);
     let full = queued == Queued::WindowQueueFull;
-    Asked {
+    SentCalls {
         serial,
         left_out: full,
     }
@@ -53,7 +53,7 @@ fn connect_calls(
     secret: &Option<ArrayVec<u8, 64>>,
     avps: &[Avp<'_>],
     now: u64,
-) -> Asked
+) -> SentCalls
     ensures channel { channel.new ≡ (asks_each (connecting channel.old (octets_of secret.now) serial (avps_of avps.now) now) calls.now now).channel }
     ensures serial { result.serial ≡ (asks_each (connecting channel.old (octets_of secret.now) serial (avps_of avps.now) now) calls.now now).serial }
     ensures left_out { result.left_out ≡ (asks_each (connecting channel.old (octets_of secret.now) serial (avps_of avps.now) now) calls.now now).left_out }

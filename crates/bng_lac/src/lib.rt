@@ -17,11 +17,11 @@ mod error;
 mod hearing;
 mod judge;
 mod law;
+mod outcome;
 mod phase;
 mod rules;
 mod sending;
 mod spelling;
-mod told;
 mod tunnel;
 
 pub use crate::call::LacCall;

@@ -12,7 +12,7 @@ use Rattle.bng_l2tp_wire.specs.Judge.{is_type}
 use Rattle.bng_l2tp_tunnel.specs.Steps.{stands, message_step}
 use Rattle.bng_l2tp_wire.specs.Values.{message_type, assigned_tunnel}
 use Rattle.bng_lns.specs.declared.place.Place.{Place}
-use Rattle.bng_lns.specs.declared.taken.Came.{Came}
+use Rattle.bng_lns.specs.declared.outcome.Came.{Came}
 use Rattle.bng_lns.specs.Places.{is_free, is_again, is_numbered, place_of}
 use Rattle.bng_lns.specs.Tunnels.{TunnelsState, free_place, vacant, lac_of, secret_of, IsGiven, Outcome, heard_by, requested_by, hear}
 use Rattle.bng_lns.proofs.Hearing.{given_number, heard_request}

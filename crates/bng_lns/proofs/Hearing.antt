@@ -16,7 +16,7 @@ use Rattle.bng_l2tp_tunnel.specs.TunnelState.{TunnelState, Lasting, lasting_of}
 use Rattle.bng_l2tp_wire.specs.Values.{message_type, assigned_tunnel}
 use Rattle.bng_l2tp_wire.specs.View.{Said}
 use Rattle.bng_lns.specs.declared.place.Place.{Place}
-use Rattle.bng_lns.specs.declared.taken.Came.{Came}
+use Rattle.bng_lns.specs.declared.outcome.Came.{Came}
 use Rattle.bng_lns.specs.Places.{number_at, is_again, is_named, place_of, put_at, IsPlace, ArePlaces}
 use Rattle.bng_lns.specs.Tunnels.{TunnelsState, tunnel_at, free_place, vacant, lac_of, secret_of, requested, requested_by, Answer, NoTunnel, NoRequest, Steps, outs_of, hands_over, number_of, IsTaken, Outcome, outcome, heard_by, made_by, hear}
 use Rattle.bng_lns.proofs.Finding.{some_there, found_at, found_within, none_found}

@@ -6,7 +6,7 @@ use Rattle.bng_l2tp_tunnel.specs.Steps.{Step, stands, due_step, stop_step}
 use Rattle.bng_l2tp_tunnel.specs.TunnelState.{TunnelState}
 use Rattle.bng_l2tp_wire.specs.View.{Said, said}
 use Rattle.bng_lns.specs.declared.place.Place.{Place}
-use Rattle.bng_lns.specs.declared.taken.Told.{Told}
+use Rattle.bng_lns.specs.declared.outcome.TunnelOutcome.{TunnelOutcome}
 use Rattle.bng_lns.specs.Places.{earliest, is_due}
 use Rattle.bng_lns.specs.Tunnels.{TunnelsState, with_step}
 
@@ -16,7 +16,7 @@ pub record Telling : Type 0 where
   pub peer : Peer
   pub said : Said
 
-abbrev pub telling_of : Told → Telling
+abbrev pub telling_of : TunnelOutcome → Telling
 telling_of t = record { number = t.number.0; peer = t.peer; said = said t.step }
 
 pub record Timed : Type 0 where

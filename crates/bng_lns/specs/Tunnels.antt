@@ -15,9 +15,9 @@ use Rattle.bng_l2tp_tunnel.specs.TunnelState.{TunnelState}
 use Rattle.bng_l2tp_wire.specs.Values.{default_window, message_type, assigned_tunnel}
 use Rattle.bng_l2tp_wire.specs.View.{Said, octets_of, said}
 use Rattle.bng_lns.specs.declared.place.Place.{Place}
-use Rattle.bng_lns.specs.declared.taken.Came.{Came}
-use Rattle.bng_lns.specs.declared.taken.Taken.{Taken}
-use Rattle.bng_lns.specs.declared.taken.Taken.TheVariants.{Unknown, Passed, Step as TakenStep}
+use Rattle.bng_lns.specs.declared.outcome.Came.{Came}
+use Rattle.bng_lns.specs.declared.outcome.MessageOutcome.{MessageOutcome}
+use Rattle.bng_lns.specs.declared.outcome.MessageOutcome.TheVariants.{Unknown, Ignored, Step as TakenStep}
 use Rattle.bng_lns.specs.Places.{number_at, is_free, is_numbered, is_named, is_again, place_of, stepped, put_at}
 
 pub record TunnelsState : Type 0 where
@@ -80,9 +80,9 @@ pub data Answer : Type 0 where
   -- a tunnel of this number took it, or it asked for one; 0 where none was made
   Steps : ℕ → Said → Answer
 
-abbrev pub answer_of : Taken → Answer
+abbrev pub answer_of : MessageOutcome → Answer
 answer_of Unknown = NoTunnel
-answer_of Passed = NoRequest
+answer_of Ignored = NoRequest
 answer_of (TakenStep number step) = Steps number.0 (said step)
 
 abbrev pub outs_of : Answer → List (List ℕ)

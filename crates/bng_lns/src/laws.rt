@@ -8,7 +8,7 @@ ghost use Rattle.bng_l2tp_reliable.specs.Timers.{never, due_of};
 ghost use Rattle.bng_l2tp_wire.specs.Judge.{is_type};
 ghost use Rattle.bng_l2tp_wire.specs.Values.{message_type, assigned_tunnel};
 ghost use Rattle.bng_lns.specs.declared.place.Place.{Place};
-ghost use Rattle.bng_lns.specs.declared.taken.Came.{Came};
+ghost use Rattle.bng_lns.specs.declared.outcome.Came.{Came};
 ghost use Rattle.bng_lns.specs.Places.{is_again, is_due};
 ghost use Rattle.bng_lns.specs.Tunnels.{TunnelsState, vacant, lac_of, secret_of, IsGiven, heard_by, hear};
 ghost use Rattle.bng_lns.specs.Timed.{reminded};

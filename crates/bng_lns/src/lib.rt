@@ -15,14 +15,14 @@ mod exchange;
 mod framed;
 mod lac;
 mod laws;
+mod outcome;
 mod place;
 mod places;
-mod taken;
 mod tunnels;
 
 pub use crate::datagram::{TunnelDatagram, carried, datagram_of};
 pub use crate::framed::put_in_call;
 pub use crate::laws::{due_is_done, numbers_rest, one_tunnel_a_request};
+pub use crate::outcome::{Came, MessageOutcome, TunnelOutcome};
 pub use crate::places::TUNNELS_MOST;
-pub use crate::taken::{Came, Taken, Told};
 pub use crate::tunnels::Tunnels;

@@ -7,7 +7,7 @@ ghost use Rattle.bng_lns.specs.Places.{is_free as is_free_at, is_numbered as has
 ghost use Rattle.bng_lns.specs.Tunnels.{Steps, answer_of, outs_of, hands_over};
 ghost use Rattle.bng_lns.specs.Timed.{telling_of};
 
-use crate::taken::{Came, Taken, Told};
+use crate::outcome::{Came, MessageOutcome, TunnelOutcome};
 use bng_base::{Peer, TunnelNo};
 use bng_l2tp_tunnel::Tunnel;
 use bng_l2tp_wire::Control;
@@ -92,7 +92,7 @@ pub(crate) fn is_due(place: &Place, now: u64) -> bool
 
 /// The tunnel takes a message.
 #[inline(never)]
-pub(crate) fn hear_in(place: &mut Place, came: &Came, message: &Control<'_>) -> Taken
+pub(crate) fn hear_in(place: &mut Place, came: &Came, message: &Control<'_>) -> MessageOutcome
     ensures answer { answer_of result ≡ Steps place.old.tunnel.number (message_step place.old.tunnel (control_of message.now) came.now.random came.now.moment).said }
     ensures after { place.new ≡ place_of came.now.moment (message_step place.old.tunnel (control_of message.now) came.now.random came.now.moment).after }
     ensures kept { (number : ℕ) → IsPlace number place.old → IsPlace number place.new }
@@ -104,12 +104,12 @@ pub(crate) fn hear_in(place: &mut Place, came: &Came, message: &Control<'_>) -> 
     let number = place.tunnel.number();
     let step = place.tunnel.on_message(message, &came.random, came.moment);
     place.since = came.moment;
-    Taken::Step { number, step }
+    MessageOutcome::Step { number, step }
 }
 
 /// The tunnel does what its timers ask for.
 #[inline(never)]
-pub(crate) fn remind_in(place: &mut Place, now: u64) -> Told
+pub(crate) fn remind_in(place: &mut Place, now: u64) -> TunnelOutcome
     ensures told { telling_of result ≡ record { number = place.old.tunnel.number; peer = place.old.tunnel.peer; said = (due_step place.old.tunnel now).said } }
     ensures after { place.new ≡ place_of now (due_step place.old.tunnel now).after }
     ensures kept { (number : ℕ) → IsPlace number place.old → IsPlace number place.new }
@@ -120,12 +120,12 @@ pub(crate) fn remind_in(place: &mut Place, now: u64) -> Told
     let peer = place.tunnel.peer();
     let step = place.tunnel.due(now);
     place.since = now;
-    Told { number, peer, step }
+    TunnelOutcome { number, peer, step }
 }
 
 /// The tunnel tells its peer that the gateway shuts down.
 #[inline(never)]
-pub(crate) fn stop_in(place: &mut Place, now: u64) -> Told
+pub(crate) fn stop_in(place: &mut Place, now: u64) -> TunnelOutcome
     ensures told { telling_of result ≡ record { number = place.old.tunnel.number; peer = place.old.tunnel.peer; said = (stop_step place.old.tunnel now).said } }
     ensures after { place.new ≡ place_of now (stop_step place.old.tunnel now).after }
     ensures kept { (number : ℕ) → IsPlace number place.old → IsPlace number place.new }
@@ -136,5 +136,5 @@ pub(crate) fn stop_in(place: &mut Place, now: u64) -> Told
     let peer = place.tunnel.peer();
     let step = place.tunnel.stop(now);
     place.since = now;
-    Told { number, peer, step }
+    TunnelOutcome { number, peer, step }
 }

@@ -45,9 +45,9 @@ use Rattle.bng_steps.specs.declared.rules.Rules.{Rules}
 use Rattle.bng_base.specs.declared.item.At.{At}
 use Rattle.bng_steps.specs.declared.session.Lease.{Lease}
 use Rattle.bng_steps.specs.declared.session.Session.{Session}
-use Rattle.bng_steps.specs.Made.{Made}
-use Rattle.bng_steps.specs.declared.session.Service.TheVariants.{Discovered}
-use Rattle.bng_steps.specs.declared.way.Called.{Called}
+use Rattle.bng_steps.specs.LinkService.{LinkService}
+use Rattle.bng_steps.specs.declared.session.Service.TheVariants.{Linked}
+use Rattle.bng_steps.specs.declared.way.TunnelCall.{TunnelCall}
 use Rattle.bng_steps.specs.declared.way.Way.{Way}
 use Rattle.bng_steps.specs.declared.way.Way.TheVariants.{Port, Call}
 use Rattle.bng_steps.specs.State.{Beside}
@@ -363,7 +363,7 @@ frames_cost a number mac n port (f ∷ frames) =
     let rest = frames_cost a number mac n port frames in
     omega (arith, both, one, rest)
 
-calls_cost : (a : At) (c : Called) (frames : List (List ℕ)) → length (call_outs a c frames) ≤ length frames
+calls_cost : (a : At) (c : TunnelCall) (frames : List (List ℕ)) → length (call_outs a c frames) ≤ length frames
 calls_cost a c [] = omega arith
 calls_cost a c (f ∷ frames) =
     let first = data_outs a c f in
@@ -413,9 +413,9 @@ module _ (r : Rules) (a : At) (now : ℕ) (random : List ℕ) (beside : Beside) 
       omega (arith, frames, said)
 
   -- where the link was told nothing before
-  pub new_by_start : Drives r a beside x (PppSteps r.link told.Start now random) outs cause x' beside' → (made : Made) → x.service ≡ Discovered made → made.link.lcp.lcp ≡ unused → length outs ≤ 1
+  pub new_by_start : Drives r a beside x (PppSteps r.link told.Start now random) outs cause x' beside' → (made : LinkService) → x.service ≡ Linked made → made.link.lcp.lcp ≡ unused → length outs ≤ 1
   new_by_start d made is new =
-      let fresh : d.made.link.lcp.lcp ≡ unused = ap (λ (m : Made). m.link.lcp.lcp) (same_made x.service d.made made d.is_made is) ∙ new in
+      let fresh : d.made.link.lcp.lcp ≡ unused = ap (λ (m : LinkService). m.link.lcp.lcp) (same_made x.service d.made made d.is_made is) ∙ new in
       let frames = few_by_start r.link now random d.made.link d.says d.link fresh d.steps in
       let said = unfinished_costs (PppSteps r.link told.Start now random) d (start_stays r.link now random d.made.link d.says d.link d.steps) in
       omega (arith, frames, said)

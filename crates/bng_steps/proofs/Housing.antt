@@ -31,7 +31,7 @@ use Rattle.bng_steps.specs.declared.rules.Rules.{Rules}
 use Rattle.bng_base.specs.declared.item.At.{At}
 use Rattle.bng_steps.specs.declared.session.Lease.{Lease}
 use Rattle.bng_steps.specs.declared.session.Service.{Service}
-use Rattle.bng_steps.specs.declared.session.Service.TheVariants.{Provisioned, Discovered}
+use Rattle.bng_steps.specs.declared.session.Service.TheVariants.{Provisioned, Linked}
 use Rattle.bng_steps.specs.declared.session.Session.{Session}
 use Rattle.bng_steps.specs.Deed.{Deed, at_of, beside_of}
 use Rattle.bng_steps.specs.Discovery.{IsNewLink, new_session}
@@ -42,7 +42,7 @@ use Rattle.bng_steps.specs.Changes.{Found, changed_by, found_by, lease_after, pl
 use Rattle.bng_steps.specs.Lasting.{AreHoused, HasPhases, IsHousedIn, KeepsTerm}
 use Rattle.bng_steps.specs.Link.{Drives, LinkStep, Told, ended, ended_service, hears, nas_request, settles, told, lost_carrier}
 use Rattle.bng_steps.specs.Metered.{meters_of, plan_for}
-use Rattle.bng_steps.specs.Made.{Made}
+use Rattle.bng_steps.specs.LinkService.{LinkService}
 use Rattle.bng_steps.specs.Passing.{lapsed, looked, looked_on}
 use Rattle.bng_steps.specs.Questions.{open_in}
 use Rattle.bng_steps.specs.State.{Beside, State, with_driven, with_ended, with_session, beside_at}
@@ -109,7 +109,7 @@ record SessionKeeps (x : Session) : Type 0 where
 kept_at : (s : State) (n : ℕ) (x : Session) → value_at s.sessions n ≡ Some x → AreHoused s → SessionKeeps x
 kept_at s n x at h = record { phases = h.phases n x at; lasting = λ l leased. h.lasting n x l at leased }
 
-lasting_in : (v : Service) (m : Made) → v ≡ Discovered m → KeepsTerm v → (m.link.live ≡ true) × (m.ended ≡ false)
+lasting_in : (v : Service) (m : LinkService) → v ≡ Linked m → KeepsTerm v → (m.link.live ≡ true) × (m.ended ≡ false)
 lasting_in v m is h = subst KeepsTerm is h
 
 module _ (r : Rules) (a : At) (beside : Beside) (x x' : Session) (outs : List OutRecord) (cause : Option ℕ) (beside' : Beside) (Steps : LinkStep) (h : Drives r a beside x Steps outs cause x' beside') where
@@ -142,7 +142,7 @@ module _ (r : Rules) (a : At) (beside : Beside) (x x' : Session) (outs : List Ou
 
 ended_phases : (v : Service) → HasPhases v → HasPhases (ended_service v)
 ended_phases (Provisioned over) h = tt
-ended_phases (Discovered m) h = h
+ended_phases (Linked m) h = h
 
 ended_keeps : (x : Session) → SessionKeeps x → SessionKeeps (ended x)
 ended_keeps x h = record { phases = ended_phases x.service h.phases; lasting = λ l leased. absurd (none_some l leased) }

@@ -56,15 +56,15 @@ use Rattle.bng_radius_wire.proofs.Exact.{one_packet}
 use Rattle.bng_sessions.specs.Sessions.{value_at, IsLowestVacant}
 use Rattle.bng_verdict.specs.Verdicts.{Saying, IsVerdict}
 use Rattle.bng_verdict.proofs.One.{one_verdict}
-use Rattle.bng_steps.specs.Made.{Made, Question}
-use Rattle.bng_steps.specs.declared.changes.Answer.{Answer as Answered}
+use Rattle.bng_steps.specs.LinkService.{LinkService, Question}
+use Rattle.bng_steps.specs.declared.changes.ChangeAnswer.{ChangeAnswer as Answered}
 use Rattle.bng_steps.specs.declared.rules.Rules.{Rules}
 use Rattle.bng_base.specs.declared.item.At.{At}
 use Rattle.bng_steps.specs.declared.session.Lease.{Lease}
 use Rattle.bng_steps.specs.declared.session.Service.{Service}
-use Rattle.bng_steps.specs.declared.session.Service.TheVariants.{Provisioned, Discovered}
+use Rattle.bng_steps.specs.declared.session.Service.TheVariants.{Provisioned, Linked}
 use Rattle.bng_steps.specs.declared.session.Session.{Session}
-use Rattle.bng_steps.specs.declared.way.Called.{Called}
+use Rattle.bng_steps.specs.declared.way.TunnelCall.{TunnelCall}
 use Rattle.bng_steps.specs.declared.way.Way.{Way}
 use Rattle.bng_steps.specs.declared.way.Way.TheVariants.{Port, Call}
 use Rattle.bng_steps.specs.State.{Beside, State, beside_at, call_of, lives_in, session_of, with_driven, with_ended, with_session, with_tunnels}
@@ -94,7 +94,7 @@ use Rattle.bng_steps.proofs.Values.{none_some}
 same_found : {X : Type 0} (o : Option X) (x y : X) → o ≡ Some x → o ≡ Some y → x ≡ y
 same_found o x y e f = same_Some x y (sym e ∙ f)
 
-one_call : (c d : Called) → Call c ≡ Call d → c ≡ d
+one_call : (c d : TunnelCall) → Call c ≡ Call d → c ≡ d
 one_call c d e = cc
 
 -- Links -----------------------------------------------------------------------------------------------------------------
@@ -109,7 +109,7 @@ ends_with_one r a number mac n outs outs' h k =
     let offers = same_found _ h.offers k.offers h.at.offers_are k.at.offers_are in
     h.outs_are ∙ ap (λ (q : AccessPort). padt_outs a number mac n q h.offers) port ∙ ap (λ (o : PortRules). padt_outs a number mac n k.port o) offers ∙ sym k.outs_are
 
-hangs_one : (o : Option TunnelState) (c : Called) (a : At) (now : ℕ) (t : TunnelsState) (outs outs' : List OutRecord) (u u' : TunnelsState) → HangsUp o c a now t outs u → HangsUp o c a now t outs' u'
+hangs_one : (o : Option TunnelState) (c : TunnelCall) (a : At) (now : ℕ) (t : TunnelsState) (outs outs' : List OutRecord) (u u' : TunnelsState) → HangsUp o c a now t outs u → HangsUp o c a now t outs' u'
     → (outs ≡ outs') × (u ≡ u')
 hangs_one None c a now t outs outs' u u' h k = (h.0 ∙ sym k.0, h.1 ∙ sym k.1)
 hangs_one (Some tunnel) c a now t outs outs' u u' h k = (h.1 ∙ sym k.1, h.2 ∙ sym k.2)
@@ -136,14 +136,14 @@ module _ (r : Rules) (a : At) (beside : Beside) (Goes : LinkStep) (one : IsOne G
   drives_one : Drives r a beside x Goes outs cause x' beside' → Drives r a beside x Goes outs' cause' x'' beside'' → (outs ≡ outs') × (x' ≡ x'') × (beside' ≡ beside'') × (cause ≡ cause')
   drives_one h k =
       let made = same_made x.service h.made k.made h.is_made k.is_made in
-      let steps : Goes h.made.link k.says k.link = subst (λ (m : Made). Goes m.link k.says k.link) (sym made) k.steps in
+      let steps : Goes h.made.link k.says k.link = subst (λ (m : LinkService). Goes m.link k.says k.link) (sym made) k.steps in
       let says = one h.made.link h.link k.link h.says k.says h.steps steps in
       let first = says_one x.way r a x.number h.says.outs k.says.outs h.first k.first (ap (λ (s : PppSaid). s.outs) says.0) h.tells k.tells in
       let parts : IsParted h.says.finished x.way r a beside.moment x.number beside.tunnels k.last k.tunnels =
       subst (λ (s : PppSaid). IsParted s.finished x.way r a beside.moment x.number beside.tunnels k.last k.tunnels) (sym says.0) k.parts in
       let last = parted_one h.says.finished x.way r a beside.moment x.number beside.tunnels h.last k.last h.tunnels k.tunnels h.parts parts in (
         h.outs_are ∙ ap (λ (os : List OutRecord). os ++ h.last) first ∙ ap (λ (os : List OutRecord). k.first ++ os) last.0 ∙ sym k.outs_are,
-        h.session ∙ ap (λ (m : Made). after_link x m beside.asked h.says h.link) made ∙ ap (λ (l : PppState). after_link x k.made beside.asked h.says l) says.1
+        h.session ∙ ap (λ (m : LinkService). after_link x m beside.asked h.says h.link) made ∙ ap (λ (l : PppState). after_link x k.made beside.asked h.says l) says.1
             ∙ ap (λ (s : PppSaid). after_link x k.made beside.asked s k.link) says.0 ∙ sym k.session,
         h.count ∙ ap (λ (s : PppSaid). beside_at beside.moment (asked_after beside.asked s.asked) h.tunnels) says.0
             ∙ ap (λ (t : TunnelsState). beside_at beside.moment (asked_after beside.asked k.says.asked) t) last.1 ∙ sym k.count,
@@ -171,7 +171,7 @@ on_one (Call c) r a x outs outs' h k = h ∙ sym k
 
 tells_one : (v : Service) (r : Rules) (a : At) (x : Session) (outs outs' : List OutRecord) → TellsEnd v r a x outs → TellsEnd v r a x outs' → outs ≡ outs'
 tells_one (Provisioned p) r a x outs outs' h k = h ∙ sym k
-tells_one (Discovered m) r a x outs outs' h k = on_one x.way r a x outs outs' h k
+tells_one (Linked m) r a x outs outs' h k = on_one x.way r a x outs outs' h k
 
 -- Ticks and Ends --------------------------------------------------------------------------------------------------------
 
@@ -213,7 +213,7 @@ driven_equal s n lease cause cause' x y beside beside' causes same besides =
 -- a session's live term ends in one way
 loses_one : (v : Service) (cause : ℕ) (r : Rules) (e : Entry) (s : State) (n : ℕ) (x : Session) (outs outs' : List OutRecord) (s' s'' : State) → LosesTerm v cause r e s n x outs s' → LosesTerm v cause r e s n x outs' s'' → (outs ≡ outs') × (s' ≡ s'')
 loses_one (Provisioned over) cause r e s n x outs outs' s' s'' h k = (h.0 ∙ sym k.0, h.1 ∙ sym k.1)
-loses_one (Discovered m) cause r e s n x outs outs' s' s'' (after, none, beside, drives, is) (after', none', beside', drives', is') =
+loses_one (Linked m) cause r e s n x outs outs' s' s'' (after, none, beside, drives, is) (after', none', beside', drives', is') =
     let one = drives_one r (at_of s e) (beside_of s e) (told r e Close) (told_is_one r e Close) (lapsed x) outs outs' none none' after after' beside beside' drives drives' in
     (one.0, is ∙ driven_equal s n x.lease (Some cause) (Some cause) after after' beside beside' refl one.1 one.2 ∙ sym is')
 
@@ -226,7 +226,7 @@ module _ (r : Rules) (e : Entry) where
   -- and so is a deadline handled
   times_one : (v : Service) (s : State) (n : ℕ) (x : Session) (outs outs' : List OutRecord) (s' s'' : State) → TimesIn v r e s n x outs s' → TimesIn v r e s n x outs' s'' → (outs ≡ outs') × (s' ≡ s'')
   times_one (Provisioned over) s n x outs outs' s' s'' h k = looks_one (cause_at (passed_at s.passed x.number) x.lease e.moment) r e s n x outs outs' s' s'' h k
-  times_one (Discovered m) s n x outs outs' s' s'' h k =
+  times_one (Linked m) s n x outs outs' s' s'' h k =
       let one = drives_one r (at_of s e) (beside_of s e) (told r e Timer) (told_is_one r e Timer) x h.first k.first h.cause k.cause h.after k.after h.beside k.beside h.drives k.drives in
       let driven : with_driven s n x.lease h.cause h.after h.beside ≡ with_driven s n x.lease k.cause k.after k.beside =
       driven_equal s n x.lease h.cause k.cause h.after k.after h.beside k.beside one.3 one.1 one.2 in
@@ -489,7 +489,7 @@ module _ (r : Rules) (s : State) (e : Entry) (d d' : Deed) where
   data_one found info (fate, is, inr (stays, h)) (fate', is', inl (goes', k)) = absurd (stays (up_once (found_up s found) e.moment info fate fate' is is' ∙ goes'))
   data_one found info (fate, is, inr (stays, h)) (fate', is', inr (stays', k)) = only_one fate fate' (up_once (found_up s found) e.moment info fate fate' is is') h k
 
-  ppp_one : (n : ℕ) (x : Session) (made : Made) (octets : List ℕ) → HearsPpp r s e n x made octets d → HearsPpp r s e n x made octets d' → d ≡ d'
+  ppp_one : (n : ℕ) (x : Session) (made : LinkService) (octets : List ℕ) → HearsPpp r s e n x made octets d → HearsPpp r s e n x made octets d' → d ≡ d'
   ppp_one n x made octets (inl (over, h)) (inl (over', k)) = same_deed _ h k
   ppp_one n x made octets (inl (over, h)) (inr (live', outs', cause', x'', beside'', drives', k)) = absurd (false≢true (sym live' ∙ over))
   ppp_one n x made octets (inr (live, outs, cause, x', beside', drives, h)) (inl (over', k)) = absurd (false≢true (sym live ∙ over'))
@@ -498,7 +498,7 @@ module _ (r : Rules) (s : State) (e : Entry) (d d' : Deed) where
       same_handled outs outs' (with_driven s n x.lease cause x' beside') (with_driven s n x.lease cause' x'' beside'')
       (one.0, driven_equal s n x.lease cause cause' x' x'' beside' beside'' one.3 one.1 one.2) h k
 
-  padt_one : (x : Session) (made : Made) (p : PppoeFrame) → HearsPadt s e x made p d → HearsPadt s e x made p d' → d ≡ d'
+  padt_one : (x : Session) (made : LinkService) (p : PppoeFrame) → HearsPadt s e x made p d → HearsPadt s e x made p d' → d ≡ d'
   padt_one x made p (inl (over, h)) (inl (over', k)) = same_deed _ h k
   padt_one x made p (inl (over, h)) (inr (live', k)) = absurd (false≢true (sym live' ∙ over))
   padt_one x made p (inr (live, h)) (inl (over', k)) = absurd (false≢true (sym live ∙ over'))
@@ -506,10 +506,10 @@ module _ (r : Rules) (s : State) (e : Entry) (d d' : Deed) where
 
   control_one : (v : Service) (x : Session) (p : PppoeFrame) → HearsControl v r s e x p d → HearsControl v r s e x p d' → d ≡ d'
   control_one (Provisioned l) x p h k = same_deed _ h k
-  control_one (Discovered made) x p (inl (padt, h)) (inl (padt', k)) = padt_one x made p h k
-  control_one (Discovered made) x p (inl (padt, h)) (inr (other', k)) = absurd (false≢true (sym other' ∙ padt))
-  control_one (Discovered made) x p (inr (other, h)) (inl (padt', k)) = absurd (false≢true (sym other ∙ padt'))
-  control_one (Discovered made) x p (inr (other, h)) (inr (other', k)) = ppp_one p.session x made p.payload h k
+  control_one (Linked made) x p (inl (padt, h)) (inl (padt', k)) = padt_one x made p h k
+  control_one (Linked made) x p (inl (padt, h)) (inr (other', k)) = absurd (false≢true (sym other' ∙ padt))
+  control_one (Linked made) x p (inr (other, h)) (inl (padt', k)) = absurd (false≢true (sym other ∙ padt'))
+  control_one (Linked made) x p (inr (other, h)) (inr (other', k)) = ppp_one p.session x made p.payload h k
 
   named_one : (found : Option Session) (p : PppoeFrame) → HearsIn found r s e p d → HearsIn found r s e p d' → d ≡ d'
   named_one None p h k = same_deed _ h k
@@ -597,14 +597,14 @@ module _ (r : Rules) (s : State) (e : Entry) (d d' : Deed) where
       h k
 
   -- the call that an ICRQ asks for
-  makes_session_one : (v : Option ℕ) (unmade : Bool) (c : Called) (u next next' : State) → MakesSession v unmade c e.item.random u next → MakesSession v unmade c e.item.random u next' → next ≡ next'
+  makes_session_one : (v : Option ℕ) (unmade : Bool) (c : TunnelCall) (u next next' : State) → MakesSession v unmade c e.item.random u next → MakesSession v unmade c e.item.random u next' → next ≡ next'
   makes_session_one None unmade c u next next' h k = h ∙ sym k
   makes_session_one (Some n) true c u next next' h k = h ∙ sym k
   makes_session_one (Some n) false c u next next' (link, new, is) (link', new', is') =
       is ∙ ap (λ (l : PppState). with_session u n (session_over n c l)) (link_one 1500 e.item.random link link' new new') ∙ sym is'
 
   -- what a message does to its call
-  turns_one : (opened over : Bool) (n : ℕ) (x : Session) (c : Called) (after : CallState) (u : State) (outs outs' : List OutRecord) (next next' : State)
+  turns_one : (opened over : Bool) (n : ℕ) (x : Session) (c : TunnelCall) (after : CallState) (u : State) (outs outs' : List OutRecord) (next next' : State)
       → TurnsCall opened over n x c after r u e outs next → TurnsCall opened over n x c after r u e outs' next' → (outs ≡ outs') × (next ≡ next')
   turns_one true over n x c after u outs outs' next next' h k =
       let link = link_one 1500 e.item.random h.link k.link h.new k.new in
@@ -633,7 +633,7 @@ module _ (r : Rules) (s : State) (e : Entry) (d d' : Deed) where
         let next = makes_session_one h.vacancy (h.step.said.ended || h.step.said.left_out) (called_over e.item.from number h.tunnel (call_after (fresh h.tunnel.secret (number_for h.vacancy)) m)) (stepped u e number h.step) h.next k.next h.makes moved in
         same_handled (step_outs u e h.step) (step_outs u e k.step) h.next k.next (ap (λ (w : TunnelStep). step_outs u e w) step, next) h.done k.done
 
-    abbrev AsTurned : Session → Called → TunnelStep → List OutRecord → State → Type 0
+    abbrev AsTurned : Session → TunnelCall → TunnelStep → List OutRecord → State → Type 0
     AsTurned x c step more next = TurnsCall step.said.opened step.said.ended m.session x c (call_after c.call m) r (stepped u e number step) e more next
 
     takes_one : (x : Session) → TakesForCall number said m x r u e d → TakesForCall number said m x r u e d' → d ≡ d'
@@ -641,9 +641,9 @@ module _ (r : Rules) (s : State) (e : Entry) (d d' : Deed) where
         let tunnel = same_found _ h.tunnel k.tunnel h.stands k.stands in
         let called = one_call h.called k.called (sym h.way_is ∙ k.way_is) in
         let step : h.step ≡ k.step =
-        h.is_step ∙ ap (λ (t : TunnelState). call_step t said h.called.call m e.moment) tunnel ∙ ap (λ (c : Called). call_step k.tunnel said c.call m e.moment) called ∙ sym k.is_step in
+        h.is_step ∙ ap (λ (t : TunnelState). call_step t said h.called.call m e.moment) tunnel ∙ ap (λ (c : TunnelCall). call_step k.tunnel said c.call m e.moment) called ∙ sym k.is_step in
         let moved : AsTurned x h.called h.step k.more k.next =
-        subst (λ (c : Called). AsTurned x c h.step k.more k.next) (sym called) (subst (λ (w : TunnelStep). AsTurned x k.called w k.more k.next) (sym step) k.turns) in
+        subst (λ (c : TunnelCall). AsTurned x c h.step k.more k.next) (sym called) (subst (λ (w : TunnelStep). AsTurned x k.called w k.more k.next) (sym step) k.turns) in
         let one = turns_one h.step.said.opened h.step.said.ended m.session x h.called (call_after h.called.call m) (stepped u e number h.step) h.more k.more h.next k.next h.turns moved in
         same_handled (step_outs u e h.step ++ h.more) (step_outs u e k.step ++ k.more) h.next k.next
         (ap (λ (w : TunnelStep). step_outs u e w ++ h.more) step ∙ ap (λ (os : List OutRecord). step_outs u e k.step ++ os) one.0, one.1) h.done k.done
@@ -681,10 +681,10 @@ module _ (r : Rules) (s : State) (e : Entry) (d d' : Deed) where
 
   over_one : (v : Service) (x : Session) (p : DataMessage) → HearsOver v r s e x p d → HearsOver v r s e x p d' → d ≡ d'
   over_one (Provisioned over) x p h k = same_deed _ h k
-  over_one (Discovered made) x p (inl (connected, h)) (inl (connected', k)) = ppp_one p.session x made p.ppp h k
-  over_one (Discovered made) x p (inl (connected, h)) (inr (waits', k)) = absurd (false≢true (sym waits' ∙ connected))
-  over_one (Discovered made) x p (inr (waits, h)) (inl (connected', k)) = absurd (false≢true (sym waits ∙ connected'))
-  over_one (Discovered made) x p (inr (waits, h)) (inr (waits', k)) = same_deed _ h k
+  over_one (Linked made) x p (inl (connected, h)) (inl (connected', k)) = ppp_one p.session x made p.ppp h k
+  over_one (Linked made) x p (inl (connected, h)) (inr (waits', k)) = absurd (false≢true (sym waits' ∙ connected))
+  over_one (Linked made) x p (inr (waits, h)) (inl (connected', k)) = absurd (false≢true (sym waits ∙ connected'))
+  over_one (Linked made) x p (inr (waits, h)) (inr (waits', k)) = same_deed _ h k
 
   for_one : (found : Option Session) (p : DataMessage) → HearsFor found r s e p d → HearsFor found r s e p d' → d ≡ d'
   for_one None p h k = same_deed _ h k

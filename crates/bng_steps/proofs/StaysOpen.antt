@@ -33,7 +33,7 @@ use Rattle.bng_ppp.proofs.WholePhases.{term_while_opened}
 use Rattle.bng_steps.specs.declared.rules.Rules.{Rules}
 use Rattle.bng_steps.specs.declared.session.Lease.{Lease}
 use Rattle.bng_steps.specs.declared.session.Service.{Service}
-use Rattle.bng_steps.specs.declared.session.Service.TheVariants.{Discovered}
+use Rattle.bng_steps.specs.declared.session.Service.TheVariants.{Linked}
 use Rattle.bng_steps.specs.declared.session.Session.{Session}
 use Rattle.bng_steps.specs.State.{Beside}
 use Rattle.bng_steps.specs.Link.{Drives, after_link}
@@ -198,5 +198,5 @@ module _ (r : Rules) (a : At) (now : ℕ) (random : List ℕ) (beside : Beside) 
   -- nor has one that had a lease before Close
   pub closed_unfinished : (d : Drives r a beside x (PppSteps r.link told.Close now random) outs cause x' beside') (lease : Option Lease) → KeepsLease x.service lease → IsSome lease → d.says.finished ≡ false
   closed_unfinished d lease keeps some =
-      let kept : KeepsLease (Discovered d.made) lease = subst (λ (v : Service). KeepsLease v lease) d.is_made keeps in
+      let kept : KeepsLease (Linked d.made) lease = subst (λ (v : Service). KeepsLease v lease) d.is_made keeps in
       close_stays r.link now random d.made.link d.says d.link d.steps (term_while_opened d.made.link kept.0 (kept.1 some))

@@ -23,7 +23,7 @@ use Rattle.bng_sessions.specs.Sessions.{IsLowestVacant, IsNumberOf, value_at}
 use Rattle.bng_sessions.specs.Listed.{values}
 use Rattle.bng_steps.specs.declared.rules.Rules.{Rules}
 use Rattle.bng_steps.specs.declared.session.Service.{Service}
-use Rattle.bng_steps.specs.declared.session.Service.TheVariants.{Provisioned, Discovered}
+use Rattle.bng_steps.specs.declared.session.Service.TheVariants.{Provisioned, Linked}
 use Rattle.bng_steps.specs.declared.session.Session.{Session}
 use Rattle.bng_steps.specs.declared.way.Way.TheVariants.{Port}
 use Rattle.bng_steps.specs.State.{Beside, State, is_on, port_at, offers_at, with_driven}
@@ -44,7 +44,7 @@ host_uniq_of tags = option_map (λ t. t.value) (first_tag HOST_UNIQ tags)
 -- not ended, and its LCP was never Opened.
 abbrev pub is_repeated_in : Option (List ℕ) → Service → Bool
 is_repeated_in host_uniq (Provisioned l) = false
-is_repeated_in host_uniq (Discovered m) = same_option m.host_uniq host_uniq && (not m.ended && not m.link.lcp.kept.was_opened)
+is_repeated_in host_uniq (Linked m) = same_option m.host_uniq host_uniq && (not m.ended && not m.link.lcp.kept.was_opened)
 
 abbrev pub is_repeated : ℕ → Mac → Option (List ℕ) → Session → Bool
 is_repeated port mac host_uniq x = is_on port mac x && is_repeated_in host_uniq x.service
@@ -68,7 +68,7 @@ abbrev pub new_session : ℕ → ℕ → Mac → Option (List ℕ) → PppState 
 new_session number port mac host_uniq link = record {
   number = record { 0 = number };
   way = Port port mac;
-  service = Discovered (record { host_uniq = host_uniq; link = link; question = None; ended = false });
+  service = Linked (record { host_uniq = host_uniq; link = link; question = None; ended = false });
   lease = None;
 }
 

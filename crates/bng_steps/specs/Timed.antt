@@ -11,7 +11,7 @@ use Rattle.bng_sessions.specs.Sessions.{value_at}
 use Rattle.bng_steps.specs.declared.rules.Rules.{Rules}
 use Rattle.bng_base.specs.declared.item.At.{At}
 use Rattle.bng_steps.specs.declared.session.Service.{Service}
-use Rattle.bng_steps.specs.declared.session.Service.TheVariants.{Provisioned, Discovered}
+use Rattle.bng_steps.specs.declared.session.Service.TheVariants.{Provisioned, Linked}
 use Rattle.bng_steps.specs.declared.session.Session.{Session}
 use Rattle.bng_steps.specs.State.{Beside, State, with_ended, with_tunnels}
 use Rattle.bng_steps.specs.Deed.{at_of}
@@ -21,7 +21,7 @@ use Rattle.bng_steps.specs.Calls.{linked_anew}
 use Rattle.bng_steps.specs.Discovery.{IsNewLink}
 use Rattle.bng_steps.specs.Driven.{Driven}
 use Rattle.bng_steps.specs.Passing.{lapsed, looked}
-use Rattle.bng_steps.specs.Running.{TermsView, closed_rows}
+use Rattle.bng_steps.specs.TermRows.{TermsView, closed_rows}
 use Rattle.bng_steps.specs.Timers.{Ticks, Ends, IsFirstDue, IsTimed, NoneIsDue, Reminds, RemindsOne, IsLowest, NoneStays, StopsTunnels, TellsEnd, at_once}
 
 -- The due deadline that comes first was handled; or none is due, and all is as before.
@@ -33,7 +33,7 @@ TickedOnce true r a now random s s' outs outs' =
 -- The link of a session took Close; a provisioned circuit has no link.
 abbrev pub ClosedLink : Service → Rules → At → ℕ → List ℕ → Beside → Session → Session → Beside → List OutRecord → List OutRecord → Type 0
 ClosedLink (Provisioned over) r a now random beside x x' beside' outs outs' = (x' ≡ x) × (beside' ≡ beside) × (outs' ≡ outs)
-ClosedLink (Discovered m) r a now random beside x x' beside' outs outs' = (none : Option ℕ) × Driven r a (PppSteps r.link Close now random) beside x none x' beside' outs outs'
+ClosedLink (Linked m) r a now random beside x x' beside' outs outs' = (none : Option ℕ) × Driven r a (PppSteps r.link Close now random) beside x none x' beside' outs outs'
 
 -- A session's live term ended by this cause, and its link took Close, if it has one.
 abbrev pub LostTerm : Service → ℕ → Rules → At → ℕ → List ℕ → Beside → Session → Session → Beside → TermsView → TermsView → List OutRecord → List OutRecord → Type 0
@@ -48,7 +48,7 @@ LookedOnce (Some cause) r a now random passed beside x x' beside' t t' outs outs
 -- A session's link took Timer, if it has one.
 abbrev pub RemindedOnce : Service → Rules → At → ℕ → List ℕ → Beside → Session → Session → Beside → TermsView → TermsView → List OutRecord → List OutRecord → Type 0
 RemindedOnce (Provisioned over) r a now random beside x x' beside' t t' outs outs' = (x' ≡ x) × (beside' ≡ beside) × (t' ≡ t) × (outs' ≡ outs)
-RemindedOnce (Discovered m) r a now random beside x x' beside' t t' outs outs' =
+RemindedOnce (Linked m) r a now random beside x x' beside' t t' outs outs' =
     (cause : Option ℕ) × Driven r a (PppSteps r.link Timer now random) beside x cause x' beside' outs outs'
     × (t' ≡ record t { rows = closed_rows x.lease cause t.rows })
 

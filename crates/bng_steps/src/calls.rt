@@ -9,14 +9,14 @@ ghost use Rattle.bng_lns.specs.Tunnels.{tunnel_at, with_step, IsTaken, Steps};
 ghost use Rattle.bng_ppp.specs.PppRelation.{PppSteps};
 ghost use Rattle.bng_ppp.specs.PppState.{PppState};
 ghost use Rattle.bng_steps.specs.declared.session.Session.{Session as Seen};
-ghost use Rattle.bng_steps.specs.declared.way.Called.{Called as CalledOf};
+ghost use Rattle.bng_steps.specs.declared.way.TunnelCall.{TunnelCall as CalledOf};
 ghost use Rattle.bng_steps.specs.declared.way.Way.TheVariants.{Call as CallOf};
 ghost use Rattle.bng_steps.specs.Calls.{call_after, call_step, is_icrq as asks_for_call, linked, linked_anew, turned, AsksForCall, HearsCallMessage, MakesSession, TakesForCall, TakesForNone};
 ghost use Rattle.bng_steps.specs.Discovery.{IsNewLink, IsVacancy};
 ghost use Rattle.bng_steps.specs.Doing.{DoesWith};
 ghost use Rattle.bng_steps.specs.Driven.{Driven};
 ghost use Rattle.bng_steps.specs.Placed.{ArePlaced, IsPlaced};
-ghost use Rattle.bng_steps.specs.Running.{whole, closed_rows, KeepSums, TermsView};
+ghost use Rattle.bng_steps.specs.TermRows.{whole, closed_rows, KeepSums, TermsView};
 ghost use Rattle.bng_steps.specs.Serving.{KeepsLease};
 ghost use Rattle.bng_steps.specs.State.{beside_at, call_of, is_port, with_tunnels};
 ghost use Rattle.bng_steps.specs.Timed.{TurnedOnce};
@@ -27,10 +27,10 @@ use crate::drive::drive;
 use crate::in_turn::send_datagrams;
 use crate::incoming::Incoming;
 use crate::served::Served;
-use crate::session::{Made, Service, Session};
+use crate::session::{LinkService, Service, Session};
 use crate::store::Store;
 use crate::terms::Terms;
-use crate::way::{Called, Way};
+use crate::way::{TunnelCall, Way};
 use bng_base::{Batch, OutRecord, SessionNo, TunnelNo, TunnelStep};
 use bng_l2tp_wire::Control;
 use bng_l2tp_wire::message::ICRQ;
@@ -49,14 +49,14 @@ fn is_icrq(message: &Control<'_>) -> bool
 // Calls that are asked for ----------------------------------------------------------------------------------------------------
 
 // The session of a call that was just made, whose link was told nothing.
-fn session_for(number: SessionNo, called: Called, random: &[u8; 16], now: u64) -> Session
+fn session_for(number: SessionNo, called: TunnelCall, random: &[u8; 16], now: u64) -> Session
     ensures leased { KeepsLease result.service result.lease }
-    ensures is { (link : PppState) × IsNewLink 1500 random.now link × (result ≡ record { number = number; way = CallOf called; service = Service.Discovered (linked link); lease = Nothing }) }
+    ensures is { (link : PppState) × IsNewLink 1500 random.now link × (result ≡ record { number = number; way = CallOf called; service = Service.Linked (linked link); lease = Nothing }) }
 {
     Session {
         number,
         way: Way::Call(called),
-        service: Service::Discovered(Made::linked(random, now)),
+        service: Service::Linked(LinkService::linked(random, now)),
         lease: None,
     }
 }
@@ -73,7 +73,7 @@ fn make_session<S: Store>(
     served: &mut Served<S>,
     vacant: Option<SessionNo>,
     unmade: bool,
-    called: Called,
+    called: TunnelCall,
     random: &[u8; 16],
     now: u64,
 )
@@ -188,7 +188,7 @@ fn turn<S: Store>(
 // A call takes a message that the tunnel with this number handed over.
 fn answer_over<S: Store>(
     served: &mut Served<S>,
-    called: &mut Called,
+    called: &mut TunnelCall,
     number: TunnelNo,
     heard: TunnelStep,
     message: &Control<'_>,

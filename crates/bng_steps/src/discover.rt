@@ -10,18 +10,18 @@ ghost use Rattle.bng_steps.specs.Making.{IsNewSession};
 ghost use Rattle.bng_steps.specs.declared.session.Session.{Session as Seen};
 ghost use Rattle.bng_ppp.specs.PppRelation.{PppSteps};
 ghost use Rattle.std.specs.Prelude.{ℕ, None as Nothing, Option as Maybe};
-ghost use Rattle.bng_steps.specs.Running.{TermsView, whole};
+ghost use Rattle.bng_steps.specs.TermRows.{TermsView, whole};
 ghost use Rattle.bng_steps.specs.Serving.{KeepsLease};
 ghost use Rattle.bng_steps.specs.State.{beside_at, port_at, with_driven, Beside};
 ghost use Rattle.bng_sessions.specs.Sessions.{IsLowestVacant};
 
-use crate::answering::{Reply, reply_to};
+use crate::answering::{DiscoveryReply, reply_to};
 use crate::drive::{drive, offers_of, port_of};
 use crate::host_uniq::host_uniq;
 use crate::incoming::Incoming;
 use crate::replies::{send_offer, send_refusal, send_session};
 use crate::served::Served;
-use crate::session::{Made, Service, Session};
+use crate::session::{LinkService, Service, Session};
 use crate::store::Store;
 use crate::way::Way;
 use arrayvec::ArrayVec;
@@ -66,7 +66,7 @@ fn new_session(
     Session {
         number,
         way: Way::Port { port, mac },
-        service: Service::Discovered(Made {
+        service: Service::Linked(LinkService {
             host_uniq: kept(asked),
             link: WholeLink::new(LinkKind::Pppoe, random, now),
             question: None,
@@ -133,23 +133,23 @@ pub fn hear_discovery<S: Store>(
         unreachable!();
     };
     match reply_to(served, number, offers, frame) {
-        Reply::Offer => {
+        DiscoveryReply::Offer => {
             send_offer(outs, at, number, &port, offers, frame);
             Fate::Consumed
         }
-        Reply::Make(session) => {
+        DiscoveryReply::Make(session) => {
             send_session(outs, at, number, &port, offers, frame, session);
             make(served, incoming, number, frame, session, outs);
             Fate::Consumed
         }
-        Reply::Again(session) => {
+        DiscoveryReply::Again(session) => {
             send_session(outs, at, number, &port, offers, frame, session);
             Fate::Consumed
         }
-        Reply::Refuse(error) => {
+        DiscoveryReply::Refuse(error) => {
             send_refusal(outs, at, number, &port, offers, frame, error);
             Fate::Consumed
         }
-        Reply::Nothing => Fate::Consumed,
+        DiscoveryReply::Nothing => Fate::Consumed,
     }
 }

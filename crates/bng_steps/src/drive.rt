@@ -20,7 +20,7 @@ use crate::sending::push_out;
 use crate::served::Served;
 use crate::session::Session;
 use crate::store::Store;
-use crate::way::{Called, Way};
+use crate::way::{TunnelCall, Way};
 use bng_base::{
     AccessPort, At, Batch, Frame, HEADROOM, LONGEST, Mac, OutRecord, Peer, Role, SessionNo, Written,
 };
@@ -146,7 +146,7 @@ fn push_message(outs: &mut Batch<OutRecord>, at: At, to: Peer, message: &Frame)
 }
 
 // Appends a PPP frame of a call to the peer of its tunnel, where a datagram holds it (RFC 2661 section 3.1).
-fn push_data(outs: &mut Batch<OutRecord>, at: At, called: &Called, ppp: &[u8])
+fn push_data(outs: &mut Batch<OutRecord>, at: At, called: &TunnelCall, ppp: &[u8])
     requires room { length outs.old.items < outs.old.room }
     ensures items { outs.new.items ≡ outs.old.items ++ data_outs at called.now ppp.now }
     ensures capacity { outs.new.room ≡ outs.old.room }
@@ -165,7 +165,7 @@ fn push_data(outs: &mut Batch<OutRecord>, at: At, called: &Called, ppp: &[u8])
 }
 
 // Appends the frames of a call's link, each in a data message.
-fn send_over(at: At, called: &Called, frames: &[Frame], outs: &mut Batch<OutRecord>)
+fn send_over(at: At, called: &TunnelCall, frames: &[Frame], outs: &mut Batch<OutRecord>)
     requires few { length frames.now ≤ 4 }
     requires room { length outs.old.items + 4 ≤ outs.old.room }
     ensures items { outs.new.items ≡ outs.old.items ++ call_outs at called.now (payloads frames.now) }

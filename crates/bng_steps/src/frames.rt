@@ -2,7 +2,7 @@
 ghost use Rattle.std.specs.Prelude.{◌≡◌, ◌<◌, ◌≤◌, ◌+◌, ◌^◌, true, false, length, Some};
 ghost use Rattle.bng_pppoe_wire.specs.View.{frame_of};
 ghost use Rattle.bng_steps.specs.declared.session.Session.{Session as Seen};
-ghost use Rattle.bng_steps.specs.Controlling.{IsControl};
+ghost use Rattle.bng_steps.specs.Controlling.{IsReception};
 ghost use Rattle.bng_steps.specs.Doing.{DoesWith};
 ghost use Rattle.bng_steps.specs.Driven.{Driven, LastsOver};
 ghost use Rattle.bng_steps.specs.Placed.{ArePlaced};
@@ -10,7 +10,7 @@ ghost use Rattle.bng_steps.specs.Frames.{HearsIn};
 ghost use Rattle.bng_steps.specs.Link.{ended, user_request};
 ghost use Rattle.bng_ppp.specs.PppRelation.{PppSteps};
 ghost use Rattle.std.specs.Prelude.{ℕ, Option as Maybe};
-ghost use Rattle.bng_steps.specs.Running.{whole, KeepSums};
+ghost use Rattle.bng_steps.specs.TermRows.{whole, KeepSums};
 ghost use Rattle.bng_steps.specs.State.{beside_at, session_of, with_driven, with_ended, Beside};
 ghost use Rattle.bng_steps.specs.Timers.{lives_at};
 ghost use Rattle.bng_sessions.specs.Sessions.{value_at};
@@ -71,7 +71,7 @@ pub fn drive_at<S: Store>(
 
 // What a frame that names a session is to do.
 #[derive(Clone, Copy)]
-pub enum Control {
+pub enum Reception {
     /// There is no such session.
     Unknown,
     /// It is ignored.
@@ -80,18 +80,18 @@ pub enum Control {
     Heard,
 }
 
-fn control_of<S: Store>(served: &Served<S>, number: u8, frame: &Pppoe<'_>) -> Control
-    ensures { IsControl (session_of served.now number frame.now.src frame.now.session) result }
+fn reception_of<S: Store>(served: &Served<S>, number: u8, frame: &Pppoe<'_>) -> Reception
+    ensures { IsReception (session_of served.now number frame.now.src frame.now.session) result }
 {
     match served.session_of(number, frame.src, SessionNo(frame.session)) {
         Some(session) => {
             if session.lives() {
-                Control::Heard
+                Reception::Heard
             } else {
-                Control::Ignored
+                Reception::Ignored
             }
         }
-        None => Control::Unknown,
+        None => Reception::Unknown,
     }
 }
 
@@ -117,10 +117,10 @@ pub fn hear_control<S: Store>(
     ensures capacity { outs.new.room ≡ outs.old.room }
 {
     let session = SessionNo(frame.session);
-    match control_of(served, number, frame) {
-        Control::Unknown => Fate::Dropped(DropCause::NoSession),
-        Control::Ignored => Fate::Consumed,
-        Control::Heard => {
+    match reception_of(served, number, frame) {
+        Reception::Unknown => Fate::Dropped(DropCause::NoSession),
+        Reception::Ignored => Fate::Consumed,
+        Reception::Heard => {
             if frame.discovery {
                 end_session(served, terms, session);
                 return Fate::Consumed;

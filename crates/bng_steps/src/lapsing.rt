@@ -38,7 +38,7 @@ fn close_link<S: Store>(
 {
     match &session.service {
         Service::Provisioned { .. } => asked,
-        Service::Discovered(_) => {
+        Service::Linked(_) => {
             let (asked, _) = drive(served, session, asked, incoming, WholeInput::Close, outs);
             asked
         }

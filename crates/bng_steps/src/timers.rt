@@ -8,7 +8,7 @@ ghost use Rattle.bng_steps.specs.Driven.{Driven};
 ghost use Rattle.bng_steps.specs.Passing.{cause_at};
 ghost use Rattle.bng_steps.specs.Serving.{KeepsLease};
 ghost use Rattle.bng_steps.specs.Timed.{LookedOnce, RemindedOnce, TickedOnce, EndedOnce, Ticked, Ended, Stopped, TickDone, EndDone};
-ghost use Rattle.bng_steps.specs.Running.{closed_rows, whole, KeepSums};
+ghost use Rattle.bng_steps.specs.TermRows.{closed_rows, whole, KeepSums};
 ghost use Rattle.bng_steps.specs.State.{beside_at, made_one, with_tunnels};
 ghost use Rattle.bng_steps.specs.Timers.{TellsEnd, TellsOn, at_once};
 
@@ -88,7 +88,7 @@ fn remind_link<S: Store>(
 {
     match &session.service {
         Service::Provisioned { .. } => asked,
-        Service::Discovered(_) => remind(served, session, terms, asked, incoming, outs),
+        Service::Linked(_) => remind(served, session, terms, asked, incoming, outs),
     }
 }
 
@@ -180,7 +180,7 @@ fn tell_end(rules: &Rules, at: At, session: &Session, outs: &mut Batch<OutRecord
 {
     match &session.service {
         Service::Provisioned { .. } => {}
-        Service::Discovered(_) => tell_on_way(rules, at, session, outs),
+        Service::Linked(_) => tell_on_way(rules, at, session, outs),
     }
 }
 

@@ -6,7 +6,7 @@ use Rattle.bng_steps.specs.declared.session.Session.{Session}
 use Rattle.bng_steps.specs.Calls.{linked, linked_anew}
 use Rattle.bng_steps.specs.Driven.{Driven}
 use Rattle.bng_steps.specs.Placed.{IsPlaced}
-use Rattle.bng_steps.specs.Running.{TermsView, closed_rows}
+use Rattle.bng_steps.specs.TermRows.{TermsView, closed_rows}
 use Rattle.bng_steps.specs.State.{beside_at, made_one}
 use Rattle.bng_steps.proofs.FewOuts.{new_by_start}
 use Rattle.bng_steps.proofs.calls.connect.Goals as goal

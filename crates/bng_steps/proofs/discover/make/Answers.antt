@@ -7,7 +7,7 @@ use Rattle.bng_ppp.specs.PppRelation.{PppSteps}
 use Rattle.bng_steps.specs.Driven.{Driven}
 use Rattle.bng_steps.specs.Making.{IsNewSession}
 use Rattle.bng_steps.specs.declared.session.Lease.{Lease}
-use Rattle.bng_steps.specs.Running.{whole}
+use Rattle.bng_steps.specs.TermRows.{whole}
 use Rattle.bng_steps.specs.Tenures.{kept_lease}
 use Rattle.bng_steps.specs.Indexed.{address_of}
 use Rattle.bng_steps.specs.State.{State, made_one, with_session, beside_at, with_tunnels}

@@ -1,7 +1,7 @@
 use Rattle.bng_pppoe_wire.specs.View.{frame_of}
 use Rattle.bng_ppp.specs.declared.whole_input.WholeInput.TheVariants.{Frame}
 use Rattle.bng_ppp.specs.PppRelation.{PppSteps}
-use Rattle.bng_steps.specs.Running.{whole}
+use Rattle.bng_steps.specs.TermRows.{whole}
 use Rattle.bng_steps.proofs.Controls.{no_session, stays_idle, ends_it, hears_it}
 use Rattle.bng_steps.proofs.Speaking.{heard}
 use Rattle.bng_steps.proofs.frames.hear_control.Goals as goal

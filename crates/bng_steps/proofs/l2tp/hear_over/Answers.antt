@@ -1,7 +1,7 @@
 use Rattle.bng_l2tp_wire.specs.View.{data_of}
 use Rattle.bng_ppp.specs.PppRelation.{PppSteps}
 use Rattle.bng_ppp.specs.declared.whole_input.WholeInput.TheVariants.{Frame}
-use Rattle.bng_steps.specs.Running.{whole}
+use Rattle.bng_steps.specs.TermRows.{whole}
 use Rattle.bng_steps.proofs.Controls.{call_hears_it, call_lives, call_stays_idle, no_call}
 use Rattle.bng_steps.proofs.Speaking.{heard}
 use Rattle.bng_steps.proofs.SumsKept.{keeps_same}

@@ -10,7 +10,7 @@ use Rattle.bng_steps.specs.Link.{IsToldVerdict, Told}
 use Rattle.bng_steps.specs.Metered.{meters_of}
 use Rattle.bng_steps.specs.Passing.{place_in}
 use Rattle.bng_steps.specs.Questions.{open_of}
-use Rattle.bng_steps.specs.Running.{tenures_in}
+use Rattle.bng_steps.specs.TermRows.{tenures_in}
 use Rattle.bng_steps.specs.Tenures.{Tenure}
 use Rattle.bng_steps.specs.Serving.{KeepsLease}
 use Rattle.bng_steps.specs.State.{State, beside_at, with_tunnels}

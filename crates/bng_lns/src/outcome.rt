@@ -10,7 +10,7 @@ pub struct Came {
 
 /// What became of a control message.
 #[derive(Drop)]
-pub enum Taken {
+pub enum MessageOutcome {
     /// No tunnel of its sender has the Tunnel ID.
     Unknown,
     /// Its Tunnel ID is 0, and it is no SCCRQ: it gets no answer.
@@ -21,7 +21,7 @@ pub enum Taken {
 
 /// What a tunnel does by itself: its number, and its peer, to which the datagrams of the step go.
 #[derive(Drop)]
-pub struct Told {
+pub struct TunnelOutcome {
     pub number: TunnelNo,
     pub peer: Peer,
     pub step: TunnelStep,

@@ -18,7 +18,7 @@ use bng_l2tp_wire::values::{number_at, type_in};
 
 /// What a call tells when a message comes to it.
 #[derive(Drop)]
-pub(crate) struct Told {
+pub(crate) struct CallOutcome {
     /// The control message that is to go out, whose Tunnel ID, Ns and Nr are 0.
     pub(crate) answer: Option<Frame>,
     /// The call after the message, if it has not ended.
@@ -30,11 +30,11 @@ pub(crate) struct Told {
 }
 
 // A message that changes nothing.
-fn passed(call: LacCall) -> Told
+fn passed(call: LacCall) -> CallOutcome
     ensures step { call_step_of result ≡ passes call }
     ensures short { IfSome result.answer (λ f. length f.payload ≤ 512) }
 {
-    Told {
+    CallOutcome {
         answer: None,
         after: Some(call),
         opened: false,
@@ -43,12 +43,12 @@ fn passed(call: LacCall) -> Told
 }
 
 // An ICRP.
-fn opened(call: LacCall, avps: &[Avp<'_>], secret: &Option<ArrayVec<u8, 64>>) -> Told
+fn opened(call: LacCall, avps: &[Avp<'_>], secret: &Option<ArrayVec<u8, 64>>) -> CallOutcome
     ensures step { call_step_of result ≡ opens (octets_of secret.now) call (avps_of avps.now) }
     ensures short { IfSome result.answer (λ f. length f.payload ≤ 512) }
 {
     let peer = number_at(avps, secret, ASSIGNED_SESSION_ID);
-    Told {
+    CallOutcome {
         answer: Some(iccn(peer.unwrap_or(0))),
         after: Some(LacCall {
             session: call.session,
@@ -60,11 +60,11 @@ fn opened(call: LacCall, avps: &[Avp<'_>], secret: &Option<ArrayVec<u8, 64>>) ->
 }
 
 // A CDN of the server.
-fn ended() -> Told
+fn ended() -> CallOutcome
     ensures step { call_step_of result ≡ ends }
     ensures short { IfSome result.answer (λ f. length f.payload ≤ 512) }
 {
-    Told {
+    CallOutcome {
         answer: None,
         after: None,
         opened: false,
@@ -88,12 +88,12 @@ fn refused(
     avps: &[Avp<'_>],
     secret: &Option<ArrayVec<u8, 64>>,
     cause: Refusal,
-) -> Told
+) -> CallOutcome
     ensures step { call_step_of result ≡ refuses (octets_of secret.now) call (avps_of avps.now) cause }
     ensures short { IfSome result.answer (λ f. length f.payload ≤ 512) }
 {
     let session = answered_session(call, avps, secret);
-    Told {
+    CallOutcome {
         answer: Some(cdn(session, call.session.0, code_of(cause))),
         after: None,
         opened: false,
@@ -102,7 +102,7 @@ fn refused(
 }
 
 // A message that is not refused.
-fn taken(call: LacCall, avps: &[Avp<'_>], secret: &Option<ArrayVec<u8, 64>>) -> Told
+fn taken(call: LacCall, avps: &[Avp<'_>], secret: &Option<ArrayVec<u8, 64>>) -> CallOutcome
     ensures step { call_step_of result ≡ judged (octets_of secret.now) call (avps_of avps.now) None }
     ensures short { IfSome result.answer (λ f. length f.payload ≤ 512) }
 {
@@ -115,7 +115,11 @@ fn taken(call: LacCall, avps: &[Avp<'_>], secret: &Option<ArrayVec<u8, 64>>) -> 
 
 /// What a message does to a call.
 #[tactic(auto, unfolding(crate::specs::CallSteps::call_step))]
-pub(crate) fn tell(call: LacCall, avps: &[Avp<'_>], secret: &Option<ArrayVec<u8, 64>>) -> Told
+pub(crate) fn tell(
+    call: LacCall,
+    avps: &[Avp<'_>],
+    secret: &Option<ArrayVec<u8, 64>>,
+) -> CallOutcome
     ensures step { call_step_of result ≡ step_of_call (octets_of secret.now) call (avps_of avps.now) }
     ensures short { IfSome result.answer (λ f. length f.payload ≤ 512) }
 {

@@ -10,7 +10,7 @@ pub record Question : Type 0 where
 
 -- the Host-Uniq with which it was asked for, its link, what the link asked last, as long as the peer's authentication goes on, and
 -- whether it has ended
-pub record Made : Type 0 where
+pub record LinkService : Type 0 where
   pub host_uniq : Option (List ℕ)
   pub link : PppState
   pub question : Option Question
