@@ -9,13 +9,13 @@ use std::marker::Model;
 /// Numbers below a bound, each at most once. Each number has a place, which has the numbers after it and before it; the
 /// place of the bound has the first and the last.
 #[derive(Drop)]
-pub(crate) struct Line {
+pub(crate) struct NumberList {
     after: Vec<u32>,
     before: Vec<u32>,
     end: u32,
 }
 
-impl Model for Line {
+impl Model for NumberList {
     ghost use Rattle.bng_acct.specs.Row.{Row, row, IsRow};
 
     ghost Value = { Row };
@@ -36,13 +36,13 @@ fn link(after: &mut Vec<u32>, before: &mut Vec<u32>, front: u32, behind: u32)
     before[behind as usize] = front;
 }
 
-impl Line {
+impl NumberList {
     /// No number, and room for those below a bound.
-    pub(crate) fn open(alloc: Global, bound: u32) -> Result<Line, AllocError>
+    pub(crate) fn open(alloc: Global, bound: u32) -> Result<NumberList, AllocError>
         ensures { IfOk result (λ l. l ≡ record { numbers = []; room = bound }) }
     {
         let places = bound as usize + 1;
-        Ok(Line {
+        Ok(NumberList {
             after: vec![in alloc; bound; places]?,
             before: vec![in alloc; bound; places]?,
             end: bound,

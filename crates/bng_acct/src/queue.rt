@@ -5,7 +5,7 @@ ghost use Rattle.slab.specs.Slab.{get, slab_len};
 ghost use Rattle.bng_acct.specs.declared.sheet.Sheet.{Sheet};
 ghost use Rattle.bng_acct.specs.Queue.{sheet_at, count, without, Sets, HandsOut, AreWaiting, AllBelow};
 
-use crate::line::Line;
+use crate::line::NumberList;
 use crate::rules::SpoolError;
 use crate::sheet::Sheet;
 use slab::Slab;
@@ -14,13 +14,13 @@ use std::marker::Model;
 
 /// The open records. All their memory is taken by `open`.
 #[derive(Drop)]
-pub(crate) struct Queue {
+pub(crate) struct RecordQueue {
     sheets: Slab<Sheet>,
-    waiting: Line,
+    waiting: NumberList,
     most: usize,
 }
 
-impl Model for Queue {
+impl Model for RecordQueue {
     ghost use Rattle.bng_acct.specs.Queue.{Open, IsQueue};
 
     ghost Value = { Open };
@@ -41,8 +41,8 @@ fn mark_handed(sheets: &mut Slab<Sheet>, number: u32)
     }
 }
 
-impl Queue {
-    pub(crate) fn open(alloc: Global, most: usize) -> Result<Queue, SpoolError>
+impl RecordQueue {
+    pub(crate) fn open(alloc: Global, most: usize) -> Result<RecordQueue, SpoolError>
         ensures { IfOk result (λ q. q ≡ record { sheets = []; waiting = []; most = most }) }
     {
         let Ok(sheets) = Slab::with_capacity(alloc, most) else {
@@ -53,10 +53,10 @@ impl Queue {
         if bound > 0xffff_ffff {
             return Err(SpoolError::OutOfMemory);
         }
-        let Ok(waiting) = Line::open(alloc, bound as u32) else {
+        let Ok(waiting) = NumberList::open(alloc, bound as u32) else {
             return Err(SpoolError::OutOfMemory);
         };
-        Ok(Queue {
+        Ok(RecordQueue {
             sheets,
             waiting,
             most,

@@ -11,7 +11,7 @@ ghost use Rattle.bng_acct.specs.Texts.{session_id};
 
 use crate::facts::{Moment, Record, RecordNo, StatusType, TermFacts};
 use crate::held::{Held, ended_by, is_kept, unknown, with_number};
-use crate::queue::Queue;
+use crate::queue::RecordQueue;
 use crate::record::write;
 use crate::roster::Roster;
 use crate::rules::{AcctRules, SpoolError};
@@ -27,7 +27,7 @@ use std::marker::Model;
 #[derive(Drop)]
 pub struct Spool {
     rules: AcctRules,
-    queue: Queue,
+    queue: RecordQueue,
     roster: Roster,
     stops: u32,
 }
@@ -117,7 +117,7 @@ fn release(roster: &mut Roster, term: TermId, status: StatusType)
 }
 
 // The facts of the record with a number.
-fn facts_of(queue: &Queue, number: u32) -> Option<&TermFacts>
+fn facts_of(queue: &RecordQueue, number: u32) -> Option<&TermFacts>
     ensures { option_copied result ≡ facts_at queue.now.sheets number }
 {
     match queue.get(number) {
@@ -157,7 +157,7 @@ impl Spool {
         ensures { IfOk result (λ s. IsOpened rules.now s) }
     {
         let room = rules.terms as usize;
-        let queue = Queue::open(alloc, 3 * room)?;
+        let queue = RecordQueue::open(alloc, 3 * room)?;
         let Ok(roster) = Roster::open(alloc, room) else {
             return Err(SpoolError::OutOfMemory);
         };

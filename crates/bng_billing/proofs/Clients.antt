@@ -10,8 +10,8 @@ use Rattle.bng_radius_wire.specs.Digests.{IsSigned}
 use Rattle.bng_radius_wire.proofs.Exact.{one_packet}
 use Rattle.bng_rad_client.specs.declared.due.Sought.TheVariants.{Endless}
 use Rattle.bng_rad_client.specs.declared.pending.Pending.{Pending}
-use Rattle.bng_rad_client.specs.declared.replies.Ignored.{Ignored as Cause}
-use Rattle.bng_rad_client.specs.declared.replies.Ignored.TheVariants.{Stranger, Malformed, NotPending, WrongDigest}
+use Rattle.bng_rad_client.specs.declared.replies.IgnoredReply.{IgnoredReply as Cause}
+use Rattle.bng_rad_client.specs.declared.replies.IgnoredReply.TheVariants.{Stranger, Malformed, NotPending, WrongDigest}
 use Rattle.bng_rad_client.specs.declared.replies.Replied.TheVariants.{Matched, Ignored}
 use Rattle.bng_rad_client.specs.declared.rules.Lane.{Lane}
 use Rattle.bng_rad_client.specs.declared.rules.Lane.TheVariants.{Auth, Acct}

@@ -3,8 +3,8 @@ use Rattle.std.proofs.Common.{◌≡◌, ℕ, suc, ◌+◌, ◌<◌, Bool, true,
 use Rattle.std.specs.Prelude.{find, slice_get, position}
 use Rattle.std.specs.List.{list_any, prefix_len, position_or_len}
 use Rattle.std.proofs.lemmas.Bool.{ltb-true, lt-ltb}
-use Rattle.bng_coa.specs.declared.request.Stage.{Stage}
-use Rattle.bng_coa.specs.declared.request.Stage.TheVariants.{InHand, Answered}
+use Rattle.bng_coa.specs.declared.request.RequestStage.{RequestStage}
+use Rattle.bng_coa.specs.declared.request.RequestStage.TheVariants.{InHand, Answered}
 use Rattle.bng_coa.specs.Requests.{is_in_hand_at, is_numbered_at}
 
 module _ {X : Type 0} (p : X → Bool) where
@@ -62,6 +62,6 @@ module _ {X : Type 0} (p : X → Bool) where
   found_any (y ∷ ys) x e = found_or (p y) y x ys (found_any ys x) e
 
 -- a request that has a number is in hand
-pub numbered_in_hand : (number : ℕ) (s : Stage) → is_numbered_at number s ≡ true → is_in_hand_at s ≡ true
+pub numbered_in_hand : (number : ℕ) (s : RequestStage) → is_numbered_at number s ≡ true → is_in_hand_at s ≡ true
 numbered_in_hand number (InHand n packet) is = refl
 numbered_in_hand number (Answered reply) is = is

@@ -4,24 +4,24 @@ use Rattle.std.specs.Prelude.{count_by, filter, position, remove}
 use Rattle.std.specs.List.{prefix_len, position_or_len}
 use Rattle.std.proofs.lemmas.List.Sums.{sum_by-cons}
 use Rattle.std.proofs.lemmas.Bool.{ltb-false, le-ltb}
-use Rattle.bng_coa.specs.declared.request.Request.{Request}
-use Rattle.bng_coa.specs.declared.request.Stage.{Stage}
-use Rattle.bng_coa.specs.declared.request.Stage.TheVariants.{InHand, Answered}
+use Rattle.bng_coa.specs.declared.request.ChangeRequest.{ChangeRequest}
+use Rattle.bng_coa.specs.declared.request.RequestStage.{RequestStage}
+use Rattle.bng_coa.specs.declared.request.RequestStage.TheVariants.{InHand, Answered}
 use Rattle.bng_coa.specs.Requests.{is_in_hand, is_in_hand_at, is_answered, is_answered_at, with_room, without}
 
-counted : (p : Request → Bool) (r : Request) (rs : List Request) → count_by p (r ∷ rs) ≡ cond (p r) 1 0 + count_by p rs
+counted : (p : ChangeRequest → Bool) (r : ChangeRequest) (rs : List ChangeRequest) → count_by p (r ∷ rs) ≡ cond (p r) 1 0 + count_by p rs
 counted p r rs = sum_by-cons (λ x. cond (p x) 1 0) r rs
 
-fewer_cons : (b c : Bool) (p : Request → Bool) (r : Request) (rs kept : List Request) → p r ≡ b → count_by p kept ≤ count_by p rs → count_by p (cond c (r ∷ kept) kept) ≤ cond b 1 0 + count_by p rs
+fewer_cons : (b c : Bool) (p : ChangeRequest → Bool) (r : ChangeRequest) (rs kept : List ChangeRequest) → p r ≡ b → count_by p kept ≤ count_by p rs → count_by p (cond c (r ∷ kept) kept) ≤ cond b 1 0 + count_by p rs
 fewer_cons b true p r rs kept e le = omega (arith, le, counted p r kept ∙ ap (λ (t : Bool). cond t 1 0 + count_by p kept) e)
 fewer_cons b false p r rs kept e le = omega (arith, le)
 
 -- a filter leaves no more
-pub fewer : (p q : Request → Bool) (rs : List Request) → count_by p (filter q rs) ≤ count_by p rs
+pub fewer : (p q : ChangeRequest → Bool) (rs : List ChangeRequest) → count_by p (filter q rs) ≤ count_by p rs
 fewer p q [] = omega arith
 fewer p q (r ∷ rs) = omega (arith, counted p r rs, fewer_cons (p r) (q r) p r rs (filter q rs) refl (fewer p q rs))
 
-either : (s : Stage) → is_in_hand_at s ≡ not (is_answered_at s)
+either : (s : RequestStage) → is_in_hand_at s ≡ not (is_answered_at s)
 either (InHand number packet) = refl
 either (Answered reply) = refl
 
@@ -34,7 +34,7 @@ rest_step true n k le = absurd (omega arith)
 rest_step false n k le = omega arith
 
 -- where none is answered, all are in hand
-pub all_in_hand : (rs : List Request) → length rs ≤ prefix_len (λ r. not (is_answered r)) rs → count_by is_in_hand rs ≡ length rs
+pub all_in_hand : (rs : List ChangeRequest) → length rs ≤ prefix_len (λ r. not (is_answered r)) rs → count_by is_in_hand rs ≡ length rs
 all_in_hand [] le = refl
 all_in_hand (r ∷ rs) le =
     let one : ◌≡◌ {A = ℕ} (cond (is_in_hand r) 1 0) 1 = ap (λ (b : Bool). cond b 1 0) (either r.stage) ∙ all_step (is_answered r) (length rs) (prefix_len (λ x. not (is_answered x)) rs) le in
@@ -44,12 +44,12 @@ none_of : (n k : ℕ) (b : Bool) → ltb k n ≡ b → ◌≡◌ {A = Option ℕ
 none_of n k true e none = absurd cc
 none_of n k false e none = ltb-false k n e
 
-pub none_answered : (rs : List Request) → position is_answered rs ≡ None → count_by is_in_hand rs ≡ length rs
+pub none_answered : (rs : List ChangeRequest) → position is_answered rs ≡ None → count_by is_in_hand rs ≡ length rs
 none_answered rs none =
     all_in_hand rs (none_of (length rs) (position_or_len is_answered rs) (ltb (position_or_len is_answered rs) (length rs)) refl none)
 
 -- where 256 stand, the first that is answered goes
-pub room_made : (rs : List Request) (place : ℕ) → 256 ≤ length rs → position is_answered rs ≡ Some place → with_room rs ≡ remove rs place
+pub room_made : (rs : List ChangeRequest) (place : ℕ) → 256 ≤ length rs → position is_answered rs ≡ Some place → with_room rs ≡ remove rs place
 room_made rs place full first =
     ap (λ (b : Bool). cond b rs (without (position is_answered rs) rs)) (le-ltb (length rs) 256 full)
     ∙ ap (λ (o : Option ℕ). without o rs) first

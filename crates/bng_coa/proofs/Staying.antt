@@ -6,9 +6,9 @@ use Rattle.std.proofs.lemmas.List.Sums.{sum_by-cons, sum_by-append}
 use Rattle.std.proofs.lemmas.Bool.Decides.{Decides-eqb}
 use Rattle.bng_base.specs.declared.address.Peer.{Peer}
 use Rattle.bng_radius_wire.specs.Grammar.{length_in}
-use Rattle.bng_coa.specs.declared.request.Request.{Request}
-use Rattle.bng_coa.specs.declared.request.Stage.{Stage}
-use Rattle.bng_coa.specs.declared.request.Stage.TheVariants.{InHand, Answered}
+use Rattle.bng_coa.specs.declared.request.ChangeRequest.{ChangeRequest}
+use Rattle.bng_coa.specs.declared.request.RequestStage.{RequestStage}
+use Rattle.bng_coa.specs.declared.request.RequestStage.TheVariants.{InHand, Answered}
 use Rattle.bng_coa.specs.declared.rules.Admitted.{Admitted}
 use Rattle.bng_coa.specs.declared.rules.Admitted.TheVariants.{New, Repeat, InHand as StillInHand, Ignored}
 use Rattle.bng_coa.specs.Requests.{is_in_hand, is_in_hand_at, is_answered, is_answered_at, is_numbered, is_numbered_at, is_held, is_held_at, key_of, without, with_room, admitted}
@@ -19,8 +19,8 @@ use Rattle.bng_coa.proofs.Places.{passes_at, numbered_in_hand}
 
 -- ---- whatever is true of some element
 
-module _ (q : Request → Bool) where
-  any_front : (xs ys : List Request) → list_any q xs ≡ true → list_any q (xs ++ ys) ≡ true
+module _ (q : ChangeRequest → Bool) where
+  any_front : (xs ys : List ChangeRequest) → list_any q xs ≡ true → list_any q (xs ++ ys) ≡ true
   any_front [] ys any = absurd cc
   any_front (x ∷ xs) ys any = front (q x) (list_any q xs) (list_any q (xs ++ ys)) (λ h. any_front xs ys h) any
     where
@@ -28,7 +28,7 @@ module _ (q : Request → Bool) where
       front true rest more h any = refl
       front false rest more h any = h any
 
-  any_last : (xs : List Request) (y : Request) → q y ≡ true → list_any q (xs ++ y ∷ []) ≡ true
+  any_last : (xs : List ChangeRequest) (y : ChangeRequest) → q y ≡ true → list_any q (xs ++ y ∷ []) ≡ true
   any_last [] y is = ap (λ (b : Bool). b || false) is
   any_last (x ∷ xs) y is = ap (λ (b : Bool). q x || b) (any_last xs y is) ∙ or_true (q x)
     where
@@ -36,14 +36,14 @@ module _ (q : Request → Bool) where
       or_true true = refl
       or_true false = refl
 
-  kept_cons : (b c : Bool) (x : Request) (rest kept : List Request) → q x ≡ c → (c ≡ true → b ≡ true) → (list_any q rest ≡ true → list_any q kept ≡ true) → c || list_any q rest ≡ true
+  kept_cons : (b c : Bool) (x : ChangeRequest) (rest kept : List ChangeRequest) → q x ≡ c → (c ≡ true → b ≡ true) → (list_any q rest ≡ true → list_any q kept ≡ true) → c || list_any q rest ≡ true
       → list_any q (cond b (x ∷ kept) kept) ≡ true
   kept_cons true true x rest kept e h later any = ap (λ (t : Bool). t || list_any q kept) e
   kept_cons true false x rest kept e h later any = ap (λ (t : Bool). t || list_any q kept) e ∙ later any
   kept_cons false true x rest kept e h later any = absurd (let no : false ≡ true = h refl in cc)
   kept_cons false false x rest kept e h later any = later any
 
-  any_filter : (p : Request → Bool) → ((r : Request) → q r ≡ true → p r ≡ true) → (xs : List Request) → list_any q xs ≡ true → list_any q (filter p xs) ≡ true
+  any_filter : (p : ChangeRequest → Bool) → ((r : ChangeRequest) → q r ≡ true → p r ≡ true) → (xs : List ChangeRequest) → list_any q xs ≡ true → list_any q (filter p xs) ≡ true
   any_filter p implies [] any = any
   any_filter p implies (x ∷ xs) any = kept_cons (p x) (q x) x xs (filter p xs) refl (λ h. implies x h) (λ h. any_filter p implies xs h) any
 
@@ -59,23 +59,23 @@ module _ (q : Request → Bool) where
   either_way true rest more h any = refl
   either_way false rest more h any = h any
 
-  any_remove : (xs : List Request) (i : ℕ) (x : Request) → slice_get xs i ≡ Some x → q x ≡ false → list_any q xs ≡ true → list_any q (remove xs i) ≡ true
+  any_remove : (xs : List ChangeRequest) (i : ℕ) (x : ChangeRequest) → slice_get xs i ≡ Some x → q x ≡ false → list_any q xs ≡ true → list_any q (remove xs i) ≡ true
   any_remove [] i x is none any = absurd cc
   any_remove (y ∷ xs) zero x is none any = tail_any (q y) (list_any q xs) (ap q (let e : y ≡ x = cc in e) ∙ none) any
   any_remove (y ∷ xs) (suc i) x is none any = either_way (q y) (list_any q xs) (list_any q (remove xs i)) (λ h. any_remove xs i x is none h) any
 
-  any_set : (xs : List Request) (i : ℕ) (x y : Request) → slice_get xs i ≡ Some x → q x ≡ false → list_any q xs ≡ true → list_any q (slice_set xs i y) ≡ true
+  any_set : (xs : List ChangeRequest) (i : ℕ) (x y : ChangeRequest) → slice_get xs i ≡ Some x → q x ≡ false → list_any q xs ≡ true → list_any q (slice_set xs i y) ≡ true
   any_set [] i x y is none any = absurd cc
   any_set (z ∷ xs) zero x y is none any = or_later (q y) (list_any q xs) (tail_any (q z) (list_any q xs) (ap q (let e : z ≡ x = cc in e) ∙ none) any)
   any_set (z ∷ xs) (suc i) x y is none any = either_way (q z) (list_any q xs) (list_any q (slice_set xs i y)) (λ h. any_set xs i x y is none h) any
 
 -- ---- a request in hand is held, and not answered
 
-held_in_hand : (passed : ℕ) (s : Stage) → is_in_hand_at s ≡ true → is_held_at passed s ≡ true
+held_in_hand : (passed : ℕ) (s : RequestStage) → is_in_hand_at s ≡ true → is_held_at passed s ≡ true
 held_in_hand passed (InHand number packet) is = refl
 held_in_hand passed (Answered reply) is = absurd (let no : false ≡ true = is in cc)
 
-answered_not : (s : Stage) → is_answered_at s ≡ true → is_in_hand_at s ≡ false
+answered_not : (s : RequestStage) → is_answered_at s ≡ true → is_in_hand_at s ≡ false
 answered_not (InHand number packet) is = absurd (let no : false ≡ true = is in cc)
 answered_not (Answered reply) is = refl
 
@@ -83,31 +83,31 @@ not_q : (b : Bool) → (b ≡ true → ⊥) → b ≡ false
 not_q true never = absurd (never refl)
 not_q false never = refl
 
-one_number : (m n : ℕ) (s : Stage) → is_numbered_at m s ≡ true → is_numbered_at n s ≡ true → m ≡ n
+one_number : (m n : ℕ) (s : RequestStage) → is_numbered_at m s ≡ true → is_numbered_at n s ≡ true → m ≡ n
 one_number m n (InHand k packet) a b = sym ((Decides-eqb k m).0 a) ∙ (Decides-eqb k n).0 b
 one_number m n (Answered reply) a b = absurd (let no : false ≡ true = a in cc)
 
-module _ (number : ℕ) (q : Request → Bool) (numbered : (r : Request) → q r ≡ true → is_numbered number r ≡ true) where
-  in_hand : (r : Request) → q r ≡ true → is_in_hand r ≡ true
+module _ (number : ℕ) (q : ChangeRequest → Bool) (numbered : (r : ChangeRequest) → q r ≡ true → is_numbered number r ≡ true) where
+  in_hand : (r : ChangeRequest) → q r ≡ true → is_in_hand r ≡ true
   in_hand r is = numbered_in_hand number r.stage (numbered r is)
 
-  not_answered : (r : Request) → is_answered r ≡ true → q r ≡ false
+  not_answered : (r : ChangeRequest) → is_answered r ≡ true → q r ≡ false
   not_answered r is = not_q (q r) (λ h. let no : true ≡ false = sym (in_hand r h) ∙ answered_not r.stage is in cc)
 
-  any_without : (o : Option ℕ) (xs : List Request) → position is_answered xs ≡ o → list_any q xs ≡ true → list_any q (without o xs) ≡ true
+  any_without : (o : Option ℕ) (xs : List ChangeRequest) → position is_answered xs ≡ o → list_any q xs ≡ true → list_any q (without o xs) ≡ true
   any_without None xs e any = any
   any_without (Some i) xs e any =
       let h = passes_at is_answered xs i e in
       any_remove q xs i h.element h.is (not_answered h.element h.passes) any
 
-  any_room : (b : Bool) (xs : List Request) → list_any q xs ≡ true → list_any q (cond b xs (without (position is_answered xs) xs)) ≡ true
+  any_room : (b : Bool) (xs : List ChangeRequest) → list_any q xs ≡ true → list_any q (cond b xs (without (position is_answered xs) xs)) ≡ true
   any_room true xs any = any
   any_room false xs any = any_without (position is_answered xs) xs refl any
 
-  other_number : (m : ℕ) (r : Request) → is_numbered m r ≡ true → eqb m number ≡ false → q r ≡ false
+  other_number : (m : ℕ) (r : ChangeRequest) → is_numbered m r ≡ true → eqb m number ≡ false → q r ≡ false
   other_number m r is differs = not_q (q r) (λ h. let no : true ≡ false = sym ((Decides-eqb m number).1 (one_number m number r.stage is (numbered r h))) ∙ differs in cc)
 
-  step_stays : (event : Event) (old new : List Request) → settles number event ≡ false → Follows old event new → list_any q old ≡ true → list_any q new ≡ true
+  step_stays : (event : Event) (old new : List ChangeRequest) → settles number event ≡ false → Follows old event new → list_any q old ≡ true → list_any q new ≡ true
   step_stays (Takes key packet now n) old new other h any =
       ap (list_any q) h.list
       ∙ any_front q (with_room (filter (is_held now) old)) _
@@ -124,7 +124,7 @@ module _ (number : ℕ) (q : Request → Bool) (numbered : (r : Request) → q r
   rest_other true rest e = absurd (let no : true ≡ false = e in cc)
   rest_other false rest e = e
 
-  pub stays : (events : List Event) (old new : List Request) → list_any (settles number) events ≡ false → Run old events new → list_any q old ≡ true → list_any q new ≡ true
+  pub stays : (events : List Event) (old new : List ChangeRequest) → list_any (settles number) events ≡ false → Run old events new → list_any q old ≡ true → list_any q new ≡ true
   stays [] old new other run any = ap (list_any q) run ∙ any
   stays (event ∷ events) old new other run any =
       stays events run.0 new (rest_other (settles number event) (list_any (settles number) events) other) run.2
@@ -132,39 +132,39 @@ module _ (number : ℕ) (q : Request → Bool) (numbered : (r : Request) → q r
 
 -- ---- how many are in hand
 
-counted : (r : Request) (rs : List Request) → count_by is_in_hand (r ∷ rs) ≡ cond (is_in_hand r) 1 0 + count_by is_in_hand rs
+counted : (r : ChangeRequest) (rs : List ChangeRequest) → count_by is_in_hand (r ∷ rs) ≡ cond (is_in_hand r) 1 0 + count_by is_in_hand rs
 counted r rs = sum_by-cons (λ x. cond (is_in_hand x) 1 0) r rs
 
-filter_cons : (b c : Bool) (r : Request) (rs kept : List Request) → is_in_hand r ≡ c → (c ≡ true → b ≡ true) → count_by is_in_hand kept ≡ count_by is_in_hand rs
+filter_cons : (b c : Bool) (r : ChangeRequest) (rs kept : List ChangeRequest) → is_in_hand r ≡ c → (c ≡ true → b ≡ true) → count_by is_in_hand kept ≡ count_by is_in_hand rs
     → count_by is_in_hand (cond b (r ∷ kept) kept) ≡ cond c 1 0 + count_by is_in_hand rs
 filter_cons true c r rs kept e h same = counted r kept ∙ ap (λ (t : Bool). cond t 1 0 + count_by is_in_hand kept) e ∙ ap (λ (n : ℕ). cond c 1 0 + n) same
 filter_cons false true r rs kept e h same = absurd (let no : false ≡ true = h refl in cc)
 filter_cons false false r rs kept e h same = omega (arith, same)
 
-count_held : (now : ℕ) (rs : List Request) → count_by is_in_hand (filter (is_held now) rs) ≡ count_by is_in_hand rs
+count_held : (now : ℕ) (rs : List ChangeRequest) → count_by is_in_hand (filter (is_held now) rs) ≡ count_by is_in_hand rs
 count_held now [] = refl
 count_held now (r ∷ rs) =
     filter_cons (is_held now r) (is_in_hand r) r rs (filter (is_held now) rs) refl (λ is. held_in_hand _ r.stage is) (count_held now rs) ∙ sym (counted r rs)
 
-none_of : (r : Request) → is_in_hand r ≡ false → ◌≡◌ {A = ℕ} (cond (is_in_hand r) 1 0) 0
+none_of : (r : ChangeRequest) → is_in_hand r ≡ false → ◌≡◌ {A = ℕ} (cond (is_in_hand r) 1 0) 0
 none_of r e = ap (λ (t : Bool). cond t 1 0) e
 
-count_remove : (rs : List Request) (i : ℕ) (x : Request) → slice_get rs i ≡ Some x → is_in_hand x ≡ false → count_by is_in_hand (remove rs i) ≡ count_by is_in_hand rs
+count_remove : (rs : List ChangeRequest) (i : ℕ) (x : ChangeRequest) → slice_get rs i ≡ Some x → is_in_hand x ≡ false → count_by is_in_hand (remove rs i) ≡ count_by is_in_hand rs
 count_remove [] i x is none = absurd cc
 count_remove (r ∷ rs) zero x is none = omega (arith, counted r rs, none_of r (ap is_in_hand (let e : r ≡ x = cc in e) ∙ none))
 count_remove (r ∷ rs) (suc i) x is none = omega (arith, counted r rs, counted r (remove rs i), count_remove rs i x is none)
 
-count_without : (o : Option ℕ) (rs : List Request) → position is_answered rs ≡ o → count_by is_in_hand (without o rs) ≡ count_by is_in_hand rs
+count_without : (o : Option ℕ) (rs : List ChangeRequest) → position is_answered rs ≡ o → count_by is_in_hand (without o rs) ≡ count_by is_in_hand rs
 count_without None rs e = refl
 count_without (Some i) rs e =
     let h = passes_at is_answered rs i e in
     count_remove rs i h.element h.is (answered_not h.element.stage h.passes)
 
-count_room : (b : Bool) (rs : List Request) → count_by is_in_hand (cond b rs (without (position is_answered rs) rs)) ≡ count_by is_in_hand rs
+count_room : (b : Bool) (rs : List ChangeRequest) → count_by is_in_hand (cond b rs (without (position is_answered rs) rs)) ≡ count_by is_in_hand rs
 count_room true rs = refl
 count_room false rs = count_without (position is_answered rs) rs refl
 
-count_admitted : (now : ℕ) (r : Request) (rs : List Request) → is_in_hand r ≡ true → count_by is_in_hand (admitted now r rs) ≡ count_by is_in_hand rs + 1
+count_admitted : (now : ℕ) (r : ChangeRequest) (rs : List ChangeRequest) → is_in_hand r ≡ true → count_by is_in_hand (admitted now r rs) ≡ count_by is_in_hand rs + 1
 count_admitted now r rs is =
     omega (
       arith,
@@ -175,16 +175,16 @@ count_admitted now r rs is =
       count_held now rs,
     )
 
-count_set : (rs : List Request) (i : ℕ) (x y : Request) → slice_get rs i ≡ Some x → is_in_hand x ≡ true → is_in_hand y ≡ false → count_by is_in_hand (slice_set rs i y) + 1 ≡ count_by is_in_hand rs
+count_set : (rs : List ChangeRequest) (i : ℕ) (x y : ChangeRequest) → slice_get rs i ≡ Some x → is_in_hand x ≡ true → is_in_hand y ≡ false → count_by is_in_hand (slice_set rs i y) + 1 ≡ count_by is_in_hand rs
 count_set [] i x y is a b = absurd cc
 count_set (r ∷ rs) zero x y is a b =
     let here : ◌≡◌ {A = ℕ} (cond (is_in_hand r) 1 0) 1 = ap (λ (t : Bool). cond t 1 0) (ap is_in_hand (let e : r ≡ x = cc in e) ∙ a) in
     omega (arith, counted r rs, counted y rs, none_of y b, here)
 count_set (r ∷ rs) (suc i) x y is a b = omega (arith, counted r rs, counted r (slice_set rs i y), count_set rs i x y is a b)
 
-pub count_settled : (old new : List Request) (number : ℕ) (reply : List ℕ) → IsSettled old new number reply → count_by is_in_hand new + 1 ≡ count_by is_in_hand old
+pub count_settled : (old new : List ChangeRequest) (number : ℕ) (reply : List ℕ) → IsSettled old new number reply → count_by is_in_hand new + 1 ≡ count_by is_in_hand old
 count_settled old new number reply h =
-    ap (λ (rs : List Request). count_by is_in_hand rs + 1) h.list
+    ap (λ (rs : List ChangeRequest). count_by is_in_hand rs + 1) h.list
     ∙ count_set old h.place h.request (record { key = h.request.key; admitted_at = h.request.admitted_at; stage = Answered reply }) h.stands (numbered_in_hand number h.request.stage h.numbered) refl
 
 -- ---- what a caller of `admit` is told

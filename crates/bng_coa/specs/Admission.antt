@@ -7,13 +7,13 @@ use Rattle.bng_base.specs.declared.address.Peer.{Peer}
 use Rattle.bng_radius_wire.specs.Attributes.{Field}
 use Rattle.bng_radius_wire.specs.Grammar.{Packet, IsRadius, length_in}
 use Rattle.bng_radius_wire.specs.Digests.{zeros, IsSigned}
-use Rattle.bng_coa.specs.declared.request.Key.{Key}
-use Rattle.bng_coa.specs.declared.request.Request.{Request}
-use Rattle.bng_coa.specs.declared.request.Stage.TheVariants.{InHand, Answered}
+use Rattle.bng_coa.specs.declared.request.RequestKey.{RequestKey}
+use Rattle.bng_coa.specs.declared.request.ChangeRequest.{ChangeRequest}
+use Rattle.bng_coa.specs.declared.request.RequestStage.TheVariants.{InHand, Answered}
 use Rattle.bng_coa.specs.declared.rules.Admitted.{Admitted}
 use Rattle.bng_coa.specs.declared.rules.Admitted.TheVariants.{New, Repeat, InHand as StillInHand, Ignored}
-use Rattle.bng_coa.specs.declared.rules.Ignored.{Ignored as Cause}
-use Rattle.bng_coa.specs.declared.rules.Ignored.TheVariants.{Stranger, Malformed, WrongDigest, Stale}
+use Rattle.bng_coa.specs.declared.rules.IgnoredRequest.{IgnoredRequest as Cause}
+use Rattle.bng_coa.specs.declared.rules.IgnoredRequest.TheVariants.{Stranger, Malformed, WrongDigest, Stale}
 use Rattle.bng_coa.specs.Requests.{key_of, standing}
 use Rattle.bng_coa.specs.Runs.{IsTakenIn}
 use Rattle.bng_coa.specs.State.{State}
@@ -53,7 +53,7 @@ WhyIgnored secret bytes wall WrongDigest = (p : Packet) × IsRequestIn p bytes �
 WhyIgnored secret bytes wall Stale = (p : Packet) × IsRequestIn p bytes × IsSigned p zeros secret × IsTrue (list_any (is_stale wall) p.attributes)
 
 -- what a request is to the equal one that stands, if there is one
-abbrev pub Stands : Option Request → Admitted → Type 0
+abbrev pub Stands : Option ChangeRequest → Admitted → Type 0
 Stands (Some r) (Repeat frame) = r.stage ≡ Answered frame.payload
 Stands (Some r) StillInHand = (number : ℕ) × (packet : List ℕ) × (r.stage ≡ InHand number packet)
 Stands (Some r) (New number) = ⊥
@@ -76,7 +76,7 @@ Admits s from bytes now wall StillInHand = IsTrue (is_peer from.ip s.peers) × T
 Admits s from bytes now wall (New number) = IsTrue (is_peer from.ip s.peers) × Takes s from bytes now wall (New number)
 
 -- only a new request changes what is in hand and kept
-abbrev pub TakesIn : (old new : List Request) → Key → (bytes : List ℕ) → ℕ → Admitted → Type 0
+abbrev pub TakesIn : (old new : List ChangeRequest) → RequestKey → (bytes : List ℕ) → ℕ → Admitted → Type 0
 TakesIn old new key bytes now (New number) = IsTakenIn old new key (take (length_in bytes) bytes) now number
 TakesIn old new key bytes now (Repeat frame) = new ≡ old
 TakesIn old new key bytes now StillInHand = new ≡ old

@@ -5,8 +5,8 @@ use Rattle.bng_base.specs.Packet.{Packet as Bytes}
 use Rattle.bng_radius_wire.specs.Attributes.{Field}
 use Rattle.bng_radius_wire.specs.Grammar.{Packet, IsRadius, spelling}
 use Rattle.bng_radius_wire.specs.Digests.{zeros, signed_reply}
-use Rattle.bng_coa.specs.declared.request.Request.{Request}
-use Rattle.bng_coa.specs.declared.request.Stage.TheVariants.{InHand}
+use Rattle.bng_coa.specs.declared.request.ChangeRequest.{ChangeRequest}
+use Rattle.bng_coa.specs.declared.request.RequestStage.TheVariants.{InHand}
 use Rattle.bng_coa.specs.declared.rules.ChangeVerdict.{ChangeVerdict}
 use Rattle.bng_coa.specs.declared.rules.ChangeVerdict.TheVariants.{Applied, Refused}
 use Rattle.bng_coa.specs.Kinds.{has_kind, has_some}
@@ -76,7 +76,7 @@ pub record IsDrafted (reply : Packet) (frame : Bytes) : Type 0 where
   pub headroom : frame.headroom ≡ 64
 
 -- the frame has the reply to a request in hand
-pub record IsReplied (request : Request) (verdict : ChangeVerdict) (secret : List ℕ) (frame : Bytes) : Type 0 where
+pub record IsReplied (request : ChangeRequest) (verdict : ChangeVerdict) (secret : List ℕ) (frame : Bytes) : Type 0 where
   pub number : ℕ
   pub octets : List ℕ
   pub packet : Packet

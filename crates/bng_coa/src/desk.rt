@@ -7,9 +7,9 @@ ghost use Rattle.bng_coa.specs.Admission.{is_peer, Stands, TakesIn, Admits, Keep
 ghost use Rattle.bng_coa.specs.Replies.{IsAnswered};
 
 use crate::admission::admissible;
-use crate::request::{Key, Request, Stage};
-use crate::requests::Requests;
-use crate::rules::{Admitted, ChangeVerdict, CoaError, CoaRules, Ignored};
+use crate::request::{RequestKey, ChangeRequest, RequestStage};
+use crate::requests::ChangeRequests;
+use crate::rules::{Admitted, ChangeVerdict, CoaError, CoaRules, IgnoredRequest};
 use arrayvec::ArrayVec;
 use bng_base::{Frame, Ip4, Octets, Peer};
 use std::alloc::Global;
@@ -20,7 +20,7 @@ use std::marker::Model;
 pub struct CoaDesk {
     peers: ArrayVec<Ip4, 16>,
     secret: ArrayVec<u8, 64>,
-    requests: Requests,
+    requests: ChangeRequests,
 }
 
 impl Model for CoaDesk {
@@ -81,7 +81,7 @@ fn packet_in(bytes: &[u8]) -> Octets
 }
 
 // What a request of this key is to those that stand. Where it is new, it is in hand from now on.
-fn take_in(requests: &mut Requests, key: &Key, bytes: &[u8], now: u64) -> Admitted
+fn take_in(requests: &mut ChangeRequests, key: &RequestKey, bytes: &[u8], now: u64) -> Admitted
     requires few { count_by is_in_hand requests.old < 256 }
     requires packet { (p : Packet) × IsRadius p bytes.now }
     requires answerable { (p : Packet) × IsAnswerable p (take (length_in bytes.now) bytes.now) }
@@ -90,16 +90,16 @@ fn take_in(requests: &mut Requests, key: &Key, bytes: &[u8], now: u64) -> Admitt
 {
     match requests.standing(now, key) {
         Some(request) => match &request.stage {
-            Stage::InHand { .. } => Admitted::InHand,
-            Stage::Answered { reply } => Admitted::Repeat(frame_of(reply.as_slice())),
+            RequestStage::InHand { .. } => Admitted::InHand,
+            RequestStage::Answered { reply } => Admitted::Repeat(frame_of(reply.as_slice())),
         },
         None => {
             let number = requests.free_number();
             let packet = packet_in(bytes);
-            requests.admit(Request {
+            requests.admit(ChangeRequest {
                 key: *key,
                 admitted_at: now,
-                stage: Stage::InHand { number, packet },
+                stage: RequestStage::InHand { number, packet },
             });
             Admitted::New(number)
         }
@@ -111,7 +111,7 @@ impl CoaDesk {
     pub fn open(alloc: Global, rules: &CoaRules) -> Result<CoaDesk, CoaError>
         ensures { IfOk result (λ d. d ≡ record { peers = rules.now.peers.items; secret = rules.now.secret.items; requests = [] }) }
     {
-        let Ok(requests) = Requests::open(alloc) else {
+        let Ok(requests) = ChangeRequests::open(alloc) else {
             return Err(CoaError::OutOfMemory);
         };
         Ok(CoaDesk {
@@ -149,7 +149,7 @@ impl CoaDesk {
         ensures in_hand { count_by is_in_hand self.new.requests ≡ count_by is_in_hand self.old.requests + more_in_hand result }
     {
         if !is_peer(from.ip, self.peers.as_slice()) {
-            return Admitted::Ignored(Ignored::Stranger);
+            return Admitted::Ignored(IgnoredRequest::Stranger);
         }
         match admissible(from, bytes, self.secret.as_slice(), wall) {
             Ok(key) => take_in(&mut self.requests, &key, bytes, now),

@@ -7,7 +7,7 @@ ghost use Rattle.bng_coa.specs.Requests.{is_in_hand, IsAnswerable, IsSound};
 ghost use Rattle.bng_coa.specs.Replies.{repeated, signature, with_more, reply_with, fits, more_of, ack_of, nak_of, reply_to, reply_octets, IsDrafted, IsReplied};
 
 use crate::attributes::{first, has};
-use crate::request::{Request, Stage};
+use crate::request::{ChangeRequest, RequestStage};
 use crate::rules::ChangeVerdict;
 use arrayvec::ArrayVec;
 use bng_base::{Frame, LONGEST, Octets, Written};
@@ -217,7 +217,7 @@ fn write_reply(request: &[u8], verdict: ChangeVerdict, secret: &[u8], into: &mut
 
 /// Writes the reply with this verdict to a request that is in hand, and answers its octets.
 pub(crate) fn reply(
-    request: &Request,
+    request: &ChangeRequest,
     verdict: ChangeVerdict,
     secret: &[u8],
     into: &mut Frame,
@@ -230,7 +230,7 @@ pub(crate) fn reply(
     ensures octets { result ≡ into.new.payload }
 {
     match &request.stage {
-        Stage::InHand { packet, .. } => write_reply(packet.as_slice(), verdict, secret, into),
-        Stage::Answered { .. } => unreachable!(),
+        RequestStage::InHand { packet, .. } => write_reply(packet.as_slice(), verdict, secret, into),
+        RequestStage::Answered { .. } => unreachable!(),
     }
 }

@@ -8,7 +8,7 @@ pub const KEPT: u64 = 30_000;
 
 /// What makes two requests equal: the sender, and the header of the packet (RFC 5176 section 2.3).
 #[derive(Clone, Copy)]
-pub struct Key {
+pub struct RequestKey {
     pub from: Peer,
     pub code: u8,
     pub id: u8,
@@ -17,7 +17,7 @@ pub struct Key {
 
 /// How far a request is: it is in hand under a number, or it is answered.
 #[derive(Drop)]
-pub enum Stage {
+pub enum RequestStage {
     /// `packet` has its octets, without what pads it.
     InHand { number: u32, packet: Octets },
     Answered { reply: Octets },
@@ -25,14 +25,14 @@ pub enum Stage {
 
 /// A request that was admitted at a moment, in milliseconds.
 #[derive(Drop)]
-pub struct Request {
-    pub key: Key,
+pub struct ChangeRequest {
+    pub key: RequestKey,
     pub admitted_at: u64,
-    pub stage: Stage,
+    pub stage: RequestStage,
 }
 
-impl Key {
-    pub fn is_same(&self, other: &Key) -> bool
+impl RequestKey {
+    pub fn is_same(&self, other: &RequestKey) -> bool
         ensures { result ≡ is_same self.now other.now }
     {
         self.from.ip.0 == other.from.ip.0
@@ -43,13 +43,13 @@ impl Key {
     }
 }
 
-impl Request {
+impl ChangeRequest {
     pub fn is_in_hand(&self) -> bool
         ensures { result ≡ is_in_hand self.now }
     {
         match &self.stage {
-            Stage::InHand { .. } => true,
-            Stage::Answered { .. } => false,
+            RequestStage::InHand { .. } => true,
+            RequestStage::Answered { .. } => false,
         }
     }
 
@@ -57,8 +57,8 @@ impl Request {
         ensures { result ≡ is_answered self.now }
     {
         match &self.stage {
-            Stage::InHand { .. } => false,
-            Stage::Answered { .. } => true,
+            RequestStage::InHand { .. } => false,
+            RequestStage::Answered { .. } => true,
         }
     }
 
@@ -67,8 +67,8 @@ impl Request {
         ensures { result ≡ is_numbered number self.now }
     {
         match &self.stage {
-            Stage::InHand { number: own, .. } => *own == number,
-            Stage::Answered { .. } => false,
+            RequestStage::InHand { number: own, .. } => *own == number,
+            RequestStage::Answered { .. } => false,
         }
     }
 
@@ -77,13 +77,13 @@ impl Request {
         ensures { result ≡ is_held now self.now }
     {
         match &self.stage {
-            Stage::InHand { .. } => true,
-            Stage::Answered { .. } => now.saturating_sub(self.admitted_at) < KEPT,
+            RequestStage::InHand { .. } => true,
+            RequestStage::Answered { .. } => now.saturating_sub(self.admitted_at) < KEPT,
         }
     }
 
     /// Whether it is held and equal.
-    pub fn is_standing(&self, now: u64, key: &Key) -> bool
+    pub fn is_standing(&self, now: u64, key: &RequestKey) -> bool
         ensures { result ≡ is_standing now key.now self.now }
     {
         self.is_held(now) && self.key.is_same(key)

@@ -1,12 +1,12 @@
 ghost use Rattle.std.specs.Prelude.{◌≡◌, ◌<◌, ◌≤◌, ◌++◌, ◌∷◌, IsTrue, IsFalse, IfOk, IfSome, [], length, filter, find, position, slice_get, slice_set, Some, count_by};
 ghost use Rattle.std.specs.List.{list_any};
 ghost use Rattle.std.specs.Option.{option_copied, option_map};
-ghost use Rattle.bng_coa.specs.declared.request.Request.{Request};
+ghost use Rattle.bng_coa.specs.declared.request.ChangeRequest.{ChangeRequest};
 ghost use Rattle.bng_coa.specs.Requests.{is_in_hand, is_numbered, is_held, standing, with_room, admitted, IsSound};
 ghost use Rattle.bng_coa.specs.Replies.{IsReplied};
 
 use crate::reply::reply;
-use crate::request::{Key, Request, Stage};
+use crate::request::{RequestKey, ChangeRequest, RequestStage};
 use crate::rules::ChangeVerdict;
 use bng_base::{Frame, Peer};
 use std::alloc::{AllocError, Global};
@@ -17,29 +17,29 @@ pub const MOST: usize = 256;
 
 /// The requests that are in hand or were answered, in the order in which they were admitted. There is always room for 256.
 #[derive(Drop)]
-pub struct Requests {
-    list: Vec<Request>,
+pub struct ChangeRequests {
+    list: Vec<ChangeRequest>,
 }
 
-impl Model for Requests {
+impl Model for ChangeRequests {
     ghost use Rattle.std.specs.Prelude.{◌≤◌, List, length, vec_capacity};
     ghost use Rattle.std.specs.List.{AllByRecursion};
-    ghost use Rattle.bng_coa.specs.declared.request.Request.{Request};
+    ghost use Rattle.bng_coa.specs.declared.request.ChangeRequest.{ChangeRequest};
     ghost use Rattle.bng_coa.specs.Requests.{IsSound};
 
-    ghost Value = { List Request };
+    ghost Value = { List ChangeRequest };
 
     ghost view = { λ r. r.list.items };
 
     ghost invariant = { λ r. (length r.list.items ≤ 256) × (256 ≤ vec_capacity r.list) × AllByRecursion IsSound r.list.items };
 }
 
-impl Requests {
-    pub fn open(alloc: Global) -> Result<Requests, AllocError>
+impl ChangeRequests {
+    pub fn open(alloc: Global) -> Result<ChangeRequests, AllocError>
         ensures { IfOk result (λ r. r ≡ []) }
     {
         let list = Vec::with_capacity(alloc, MOST)?;
-        Ok(Requests { list })
+        Ok(ChangeRequests { list })
     }
 
     /// How many are in hand.
@@ -50,7 +50,7 @@ impl Requests {
     }
 
     /// The equal request that is in hand or has a kept reply at this moment.
-    pub fn standing(&self, now: u64, key: &Key) -> Option<&Request>
+    pub fn standing(&self, now: u64, key: &RequestKey) -> Option<&ChangeRequest>
         ensures first { option_copied result ≡ standing now key.now self.now }
         ensures sound { IfSome result (λ r. IsSound r.now) }
     {
@@ -58,7 +58,7 @@ impl Requests {
     }
 
     /// The request that is in hand under this number.
-    pub fn numbered(&self, number: u32) -> Option<&Request>
+    pub fn numbered(&self, number: u32) -> Option<&ChangeRequest>
         ensures { option_copied result ≡ find (is_numbered number) self.now }
     {
         self.list.iter().find(|r| r.is_numbered(number))
@@ -119,7 +119,7 @@ impl Requests {
         }
     }
 
-    fn push(&mut self, request: Request)
+    fn push(&mut self, request: ChangeRequest)
         requires room { length self.old < 256 }
         requires sound { IsSound request }
         ensures { self.new ≡ self.old ++ request ∷ [] }
@@ -132,7 +132,7 @@ impl Requests {
 
     /// Takes in one more request, which is admitted now. Replies that are kept no longer are forgotten, and where 256
     /// stand then, the one that was kept first.
-    pub fn admit(&mut self, request: Request)
+    pub fn admit(&mut self, request: ChangeRequest)
         requires few { count_by is_in_hand self.old < 256 }
         requires sound { IsSound request }
         ensures { self.new ≡ admitted request.admitted_at request self.old }
@@ -152,12 +152,12 @@ impl Requests {
     /// Writes the reply with this verdict to the request that is in hand at this place, and keeps it.
     pub fn answer(&mut self, place: usize, verdict: ChangeVerdict, secret: &[u8], into: &mut Frame)
         requires within { place < length self.old }
-        requires in_hand { (r : Request) → slice_get self.old place ≡ Some r → IsTrue (is_in_hand r) }
+        requires in_hand { (r : ChangeRequest) → slice_get self.old place ≡ Some r → IsTrue (is_in_hand r) }
         requires key { length secret.now ≤ 64 }
-        ensures { (r : Request) → slice_get self.old place ≡ Some r → IsReplied r verdict secret.now into.new
-            × (self.new ≡ slice_set self.old place (record r { stage = Stage.Answered into.new.payload })) }
+        ensures { (r : ChangeRequest) → slice_get self.old place ≡ Some r → IsReplied r verdict secret.now into.new
+            × (self.new ≡ slice_set self.old place (record r { stage = RequestStage.Answered into.new.payload })) }
     {
         let reply = reply(&self.list[place], verdict, secret, into);
-        self.list[place].stage = Stage::Answered { reply };
+        self.list[place].stage = RequestStage::Answered { reply };
     }
 }

@@ -24,7 +24,7 @@ pub enum ChangeVerdict {
 /// Why a datagram is passed over: its sender is no peer; it is no CoA-Request or Disconnect-Request, or has more than 64
 /// attributes; a digest is wrong; or its Event-Timestamp is more than 300 s away.
 #[derive(Clone, Copy, PartialEq, Eq)]
-pub enum Ignored {
+pub enum IgnoredRequest {
     Stranger,
     Malformed,
     WrongDigest,
@@ -40,5 +40,5 @@ pub enum Admitted {
     Repeat(Frame),
     /// A request that is in hand.
     InHand,
-    Ignored(Ignored),
+    Ignored(IgnoredRequest),
 }

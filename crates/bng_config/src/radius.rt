@@ -11,7 +11,7 @@ use toml::Value;
 
 /// What stands at the keys of authentication and accounting, and the default of the tries where nothing stands there.
 #[derive(Drop)]
-pub(crate) struct Radius {
+pub(crate) struct RadiusKeys {
     pub auth_local: Peer,
     pub auth_server: Peer,
     pub acct_local: Peer,
@@ -21,7 +21,7 @@ pub(crate) struct Radius {
 }
 
 /// What a document that breaks no rule says of authentication and accounting.
-pub(crate) fn radius_of(document: &Value) -> Radius
+pub(crate) fn radius_of(document: &Value) -> RadiusKeys
     requires { IsSound (view document.now) }
     ensures { IsRadius (view document.now) result }
 {
@@ -31,7 +31,7 @@ pub(crate) fn radius_of(document: &Value) -> Radius
     let acct_server = peer_of(document, Key::Of(Field::RadiusAcctServer, 0));
     let secret = secret_of(document, Key::Of(Field::RadiusSecret, 0));
     let tries = number_or(document, Key::Of(Field::RadiusTries, 0), 1, 10, 4);
-    Radius {
+    RadiusKeys {
         auth_local,
         auth_server,
         acct_local,

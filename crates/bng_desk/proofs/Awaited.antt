@@ -13,7 +13,7 @@ use Rattle.bng_engine.specs.Journals.{after, AreSteps}
 use Rattle.bng_engine.specs.Lists.{Zip3}
 use Rattle.bng_engine.specs.Terms.{Key, Stop}
 use Rattle.bng_engine.specs.Views.{Row}
-use Rattle.bng_steps.specs.declared.changes.Answer.{Answer}
+use Rattle.bng_steps.specs.declared.changes.ChangeAnswer.{ChangeAnswer}
 use Rattle.bng_steps.specs.Interims.{AwaitsInterims, Reports}
 use Rattle.bng_steps.specs.Protocol.{ShardState, Handled, pppoe}
 use Rattle.bng_steps.specs.Tenures.{Tenure}
@@ -64,7 +64,7 @@ awaited_within moment vs rs all = zip_onward (WaitsAt moment) (AwaitsAt moment) 
 -- Along a journal -----------------------------------------------------------------------------------------------------------
 
 -- nothing was answered before an entry, nor was it, where nothing is answered after it
-none_answered : (answers : List Answer) (o : Option Answer) → answers ++ option_to_list o ≡ [] → (answers ≡ []) × (o ≡ None)
+none_answered : (answers : List ChangeAnswer) (o : Option ChangeAnswer) → answers ++ option_to_list o ≡ [] → (answers ≡ []) × (o ≡ None)
 none_answered [] None e = (refl, refl)
 none_answered [] (Some a) e = absurd (let never : ⊥ = cc in never)
 none_answered (a ∷ answers) o e = absurd (let never : ⊥ = cc in never)

@@ -21,7 +21,7 @@ use Rattle.bng_base.specs.Stretch.{ExtendsPlant, PlantStretch, plant_joined}
 use Rattle.bng_base.specs.Told.{PlantTold}
 use Rattle.bng_base.proofs.ChainLaws.{chain_append, chain_more}
 use Rattle.bng_base.proofs.StretchLaws.{plant_more, plant_stays}
-use Rattle.bng_coa.specs.declared.request.Request.{Request}
+use Rattle.bng_coa.specs.declared.request.ChangeRequest.{ChangeRequest}
 use Rattle.bng_coa.specs.declared.rules.Admitted.{Admitted}
 use Rattle.bng_coa.specs.declared.rules.Admitted.TheVariants.{New, Repeat, InHand, Ignored}
 use Rattle.bng_coa.specs.declared.rules.ChangeVerdict.{ChangeVerdict}
@@ -30,9 +30,9 @@ use Rattle.bng_coa.specs.Replies.{IsAnswered}
 use Rattle.bng_coa.specs.Requests.{is_in_hand, is_numbered}
 use Rattle.bng_coa.specs.State.{State as CoaState}
 use Rattle.bng_engine.proofs.Walks.{same_at}
-use Rattle.bng_steps.specs.declared.changes.Answer.{Answer}
+use Rattle.bng_steps.specs.declared.changes.ChangeAnswer.{ChangeAnswer}
 use Rattle.bng_steps.specs.declared.rules.Rules.{Rules}
-use Rattle.bng_desk.specs.declared.reading.Ended.{Ended}
+use Rattle.bng_desk.specs.declared.reading.ReadEnd.{ReadEnd}
 use Rattle.bng_desk.specs.Coa.{AdmitsAll, AdmitsOne, AnswersLooseKind, AreLooseAnswers, CoaReply, CoaSend, Given, GivesAnswer, IsNotInHand, Requested, TargetOf, change_in, change_item, change_items, coa_datagram, coa_stretch, has_places, repeat_in, repeats_of, requests_most}
 use Rattle.bng_desk.specs.Intake.{AddsRequest, GivesItem, GivesLoose, GivesOne, GivesSome, RepeatsAll, SendsReplies, TakesCoa, TakesRequests}
 use Rattle.bng_desk.specs.Items.{drawn_from, is_change_item, is_change_kind, is_verdict_item, is_verdict_kind}
@@ -103,7 +103,7 @@ asked_more now wall p₀ p₁ p₂ c₀ c₁ c₂ d₀ d₁ d₂ i₀ i₁ i₂ 
     }
 
 -- and Coa was read
-pub coa_read : (now wall : ℕ) (old was new : PlantTold) (c c' : CoaState) (draws draws' : Drawn) (items items' : List Item) (repeats repeats' : List CoaReply) (quiet : Bool) (requested : List Requested) (ended : Ended)
+pub coa_read : (now wall : ℕ) (old was new : PlantTold) (c c' : CoaState) (draws draws' : Drawn) (items items' : List Item) (repeats repeats' : List CoaReply) (quiet : Bool) (requested : List Requested) (ended : ReadEnd)
     → EndsRight requests_most (length requested) ended → AskedSome now wall old was c c' draws draws' items items' repeats repeats' quiet requested → ExtendsPlant was new (ending_stretch Coa ended)
     → TakesRequests now wall old new c c' draws draws' items items' repeats repeats' quiet
 coa_read now wall old was new c c' draws draws' items items' repeats repeats' quiet requested ended ends x last = record {
@@ -246,7 +246,7 @@ changes_few [] = omega arith
 changes_few (q ∷ qs) = omega (arith, length-append (change_in q.arrival q.admitted q.target) (change_items qs), one_few q.arrival q.admitted q.target, changes_few qs)
 
 -- there are at most 32 requests
-requests_few : (serves places : Bool) (kept : List Item) (qs : List Requested) (last : Option Ended) → ReadsWhere requests_most (serves && (is_empty kept && places)) qs last → count_by is_change_item kept ≤ 32
+requests_few : (serves places : Bool) (kept : List Item) (qs : List Requested) (last : Option ReadEnd) → ReadsWhere requests_most (serves && (is_empty kept && places)) qs last → count_by is_change_item kept ≤ 32
     → count_by is_change_item kept + length (change_items qs) ≤ 32
 requests_few true true [] qs last (ended, is, ends) few = omega (arith, changes_few qs, taken_within 32 (length qs) ended ends)
 requests_few true false [] qs last (none, empty) few = omega (arith, ap (λ (xs : List Requested). length (change_items xs)) empty)
@@ -325,11 +325,11 @@ repeats_next p₀ p₁ p₂ rs r sent so_far told =
 -- To one answer
 
 -- the request that is in hand under a number, by who sent it
-found_by : (number : ℕ) (c : CoaState) (o : Option Request) (to : Peer) → find (is_numbered number) c.requests ≡ o → Some to ≡ option_map (λ (r : Request). r.key.from) o → (q : Request) × (find (is_numbered number) c.requests ≡ Some q) × (to ≡ q.key.from)
+found_by : (number : ℕ) (c : CoaState) (o : Option ChangeRequest) (to : Peer) → find (is_numbered number) c.requests ≡ o → Some to ≡ option_map (λ (r : ChangeRequest). r.key.from) o → (q : ChangeRequest) × (find (is_numbered number) c.requests ≡ Some q) × (to ≡ q.key.from)
 found_by number c None to is e = absurd (let never : ⊥ = cc in never)
 found_by number c (Some q) to is e = (q, is, cc)
 
-none_by : (number : ℕ) (c : CoaState) (o : Option Request) → find (is_numbered number) c.requests ≡ o → None ≡ option_map (λ (r : Request). r.key.from) o → find (is_numbered number) c.requests ≡ None
+none_by : (number : ℕ) (c : CoaState) (o : Option ChangeRequest) → find (is_numbered number) c.requests ≡ o → None ≡ option_map (λ (r : ChangeRequest). r.key.from) o → find (is_numbered number) c.requests ≡ None
 none_by number c None is e = is
 none_by number c (Some q) is e = absurd (let never : ⊥ = cc in never)
 
@@ -342,16 +342,16 @@ pub the_number : (ask number : ℕ) (o : Option ℕ) → ((o ≡ None) × (2 ^ 3
 the_number ask number o (inl high) some = absurd (let same : None ≡ Some number = sym high.0 ∙ some in let never : ⊥ = cc in never)
 the_number ask number o (inr is) some = let same : Some number ≡ Some ask = sym some ∙ is in cc
 
-pub gives_none : (a : Answer) (p : PlantTold) (c : CoaState) → IsNotInHand c a.ask → ExtendsPlant p p (coa_stretch []) → GivesOne a p p c c
+pub gives_none : (a : ChangeAnswer) (p : PlantTold) (c : CoaState) → IsNotInHand c a.ask → ExtendsPlant p p (coa_stretch []) → GivesOne a p p c c
 gives_none a p c none stays = record { send = None; gives = (none, refl); told = stays }
 
-pub not_in_hand : (number ask : ℕ) (c : CoaState) → number ≡ ask → None ≡ option_map (λ (r : Request). r.key.from) (find (is_numbered number) c.requests) → IsNotInHand c ask
+pub not_in_hand : (number ask : ℕ) (c : CoaState) → number ≡ ask → None ≡ option_map (λ (r : ChangeRequest). r.key.from) (find (is_numbered number) c.requests) → IsNotInHand c ask
 not_in_hand number ask c same none = inr (subst (λ (n : ℕ). find (is_numbered n) c.requests ≡ None) same (none_by number c (find (is_numbered number) c.requests) refl none))
 
-pub gives_reply : (a : Answer) (number : ℕ) (to : Peer) (frame : Bytes) (octets : List ℕ) (sent : Bool) (p p' : PlantTold) (c c' : CoaState) → number ≡ a.ask → Some to ≡ option_map (λ (r : Request). r.key.from) (find (is_numbered number) c.requests)
+pub gives_reply : (a : ChangeAnswer) (number : ℕ) (to : Peer) (frame : Bytes) (octets : List ℕ) (sent : Bool) (p p' : PlantTold) (c c' : CoaState) → number ≡ a.ask → Some to ≡ option_map (λ (r : ChangeRequest). r.key.from) (find (is_numbered number) c.requests)
     → IsAnswered c c' number a.verdict frame → octets ≡ frame.payload → ExtendsPlant p p' (sending Coa to octets sent) → GivesOne a p p' c c'
 gives_reply a number to frame octets sent p p' c c' same known answered octets_are told =
-    let found = subst (λ (n : ℕ). (q : Request) × (find (is_numbered n) c.requests ≡ Some q) × (to ≡ q.key.from)) same (found_by number c (find (is_numbered number) c.requests) to refl known) in
+    let found = subst (λ (n : ℕ). (q : ChangeRequest) × (find (is_numbered n) c.requests ≡ Some q) × (to ≡ q.key.from)) same (found_by number c (find (is_numbered number) c.requests) to refl known) in
     record {
       send = Some (record { reply = record { to = to; octets = octets }; sent = sent });
       gives = (found.0, found.1, found.2, frame, subst (λ (n : ℕ). IsAnswered c c' n a.verdict frame) same answered, octets_are);
@@ -366,22 +366,22 @@ sends_of gs = flat_map (λ (g : Given). option_to_list g.send) gs
 pub some_none : (p : PlantTold) (c : CoaState) → ExtendsPlant p p (coa_stretch []) → GivesSome [] p p c c
 some_none p c stays = record { given = []; are = refl; gives = refl; told = stays }
 
-pub some_more : (answers : List Answer) (a : Answer) (p₀ p₁ p₂ : PlantTold) (c₀ c₁ c₂ : CoaState) → GivesSome answers p₀ p₁ c₀ c₁ → GivesOne a p₁ p₂ c₁ c₂ → GivesSome (answers ++ a ∷ []) p₀ p₂ c₀ c₂
+pub some_more : (answers : List ChangeAnswer) (a : ChangeAnswer) (p₀ p₁ p₂ : PlantTold) (c₀ c₁ c₂ : CoaState) → GivesSome answers p₀ p₁ c₀ c₁ → GivesOne a p₁ p₂ c₁ c₂ → GivesSome (answers ++ a ∷ []) p₀ p₂ c₀ c₂
 some_more answers a p₀ p₁ p₂ c₀ c₁ c₂ so_far one =
     let g : Given = record { answer = a; send = one.send } in
     let all : sends_of so_far.given ++ option_to_list one.send ≡ sends_of (so_far.given ++ g ∷ []) =
     ap (λ (xs : List CoaSend). sends_of so_far.given ++ xs) (sym (append-nil (option_to_list one.send))) ∙ sym (flat_map-append (λ (x : Given). option_to_list x.send) so_far.given (g ∷ [])) in
     record {
       given = so_far.given ++ g ∷ [];
-      are = map-append (λ (x : Given). x.answer) so_far.given (g ∷ []) ∙ ap (λ (xs : List Answer). xs ++ a ∷ []) so_far.are;
+      are = map-append (λ (x : Given). x.answer) so_far.given (g ∷ []) ∙ ap (λ (xs : List ChangeAnswer). xs ++ a ∷ []) so_far.are;
       gives = chain_more GivesAnswer c₀ c₁ c₂ so_far.given g so_far.gives one.gives;
       told = subst (λ (ss : List CoaSend). ExtendsPlant p₀ p₂ (coa_stretch ss)) all (replies_then p₀ p₁ p₂ (sends_of so_far.given) (option_to_list one.send) so_far.told one.told);
     }
 
-pub some_then : (answers more : List Answer) (p₀ p₁ p₂ : PlantTold) (c₀ c₁ c₂ : CoaState) → GivesSome answers p₀ p₁ c₀ c₁ → GivesSome more p₁ p₂ c₁ c₂ → GivesSome (answers ++ more) p₀ p₂ c₀ c₂
+pub some_then : (answers more : List ChangeAnswer) (p₀ p₁ p₂ : PlantTold) (c₀ c₁ c₂ : CoaState) → GivesSome answers p₀ p₁ c₀ c₁ → GivesSome more p₁ p₂ c₁ c₂ → GivesSome (answers ++ more) p₀ p₂ c₀ c₂
 some_then answers more p₀ p₁ p₂ c₀ c₁ c₂ so_far rest = record {
   given = so_far.given ++ rest.given;
-  are = map-append (λ (x : Given). x.answer) so_far.given rest.given ∙ ap (λ (xs : List Answer). xs ++ map (λ (x : Given). x.answer) rest.given) so_far.are ∙ ap (λ (xs : List Answer). answers ++ xs) rest.are;
+  are = map-append (λ (x : Given). x.answer) so_far.given rest.given ∙ ap (λ (xs : List ChangeAnswer). xs ++ map (λ (x : Given). x.answer) rest.given) so_far.are ∙ ap (λ (xs : List ChangeAnswer). answers ++ xs) rest.are;
   gives = chain_append GivesAnswer c₀ c₁ c₂ so_far.given rest.given so_far.gives rest.gives;
   told = subst (λ (ss : List CoaSend). ExtendsPlant p₀ p₂ (coa_stretch ss)) (sym (flat_map-append (λ (x : Given). option_to_list x.send) so_far.given rest.given))
       (replies_then p₀ p₁ p₂ (sends_of so_far.given) (sends_of rest.given) so_far.told rest.told);
@@ -389,22 +389,22 @@ some_then answers more p₀ p₁ p₂ c₀ c₁ c₂ so_far rest = record {
 
 -- Loose requests
 
-loose_push : (r : Rules) (ls : List Loose) (l : Loose) (answers : List Answer) (o : Option Answer) → AreLooseAnswers r ls answers → AnswersLooseKind l.item.kind r l.item o → AreLooseAnswers r (ls ++ l ∷ []) (answers ++ option_to_list o)
-loose_push r [] l answers o are one = (o, [], one, refl, ap (λ (bs : List Answer). bs ++ option_to_list o) are ∙ sym (append-nil (option_to_list o)))
+loose_push : (r : Rules) (ls : List Loose) (l : Loose) (answers : List ChangeAnswer) (o : Option ChangeAnswer) → AreLooseAnswers r ls answers → AnswersLooseKind l.item.kind r l.item o → AreLooseAnswers r (ls ++ l ∷ []) (answers ++ option_to_list o)
+loose_push r [] l answers o are one = (o, [], one, refl, ap (λ (bs : List ChangeAnswer). bs ++ option_to_list o) are ∙ sym (append-nil (option_to_list o)))
 loose_push r (k ∷ ls) l answers o (first, rest, at, more, is) one =
-    (first, rest ++ option_to_list o, at, loose_push r ls l rest o more one, ap (λ (bs : List Answer). bs ++ option_to_list o) is ∙ append_assoc (option_to_list first) rest (option_to_list o))
+    (first, rest ++ option_to_list o, at, loose_push r ls l rest o more one, ap (λ (bs : List ChangeAnswer). bs ++ option_to_list o) is ∙ append_assoc (option_to_list first) rest (option_to_list o))
 
 pub loose_none : (r : Rules) (p : PlantTold) (c : CoaState) → ExtendsPlant p p (coa_stretch []) → GivesLoose r [] p p c c
 loose_none r p c stays = record { answers = []; are_loose = refl; gives = some_none p c stays }
 
 -- one that is not answered, and one that is
-pub item_silent : (r : Rules) (item : Item) (p : PlantTold) (c : CoaState) (o : Option Answer) → AnswersLooseKind item.kind r item o → o ≡ None → ExtendsPlant p p (coa_stretch []) → GivesItem r item p p c c
-item_silent r item p c o is none stays = record { answer = None; is = subst (λ (x : Option Answer). AnswersLooseKind item.kind r item x) none is; gives = some_none p c stays }
+pub item_silent : (r : Rules) (item : Item) (p : PlantTold) (c : CoaState) (o : Option ChangeAnswer) → AnswersLooseKind item.kind r item o → o ≡ None → ExtendsPlant p p (coa_stretch []) → GivesItem r item p p c c
+item_silent r item p c o is none stays = record { answer = None; is = subst (λ (x : Option ChangeAnswer). AnswersLooseKind item.kind r item x) none is; gives = some_none p c stays }
 
-pub item_answered : (r : Rules) (item : Item) (p p' : PlantTold) (c c' : CoaState) (o : Option Answer) (a : Answer) → AnswersLooseKind item.kind r item o → o ≡ Some a → GivesOne a p p' c c' → ExtendsPlant p p (coa_stretch []) → GivesItem r item p p' c c'
+pub item_answered : (r : Rules) (item : Item) (p p' : PlantTold) (c c' : CoaState) (o : Option ChangeAnswer) (a : ChangeAnswer) → AnswersLooseKind item.kind r item o → o ≡ Some a → GivesOne a p p' c c' → ExtendsPlant p p (coa_stretch []) → GivesItem r item p p' c c'
 item_answered r item p p' c c' o a is some gives stays = record {
   answer = Some a;
-  is = subst (λ (x : Option Answer). AnswersLooseKind item.kind r item x) some is;
+  is = subst (λ (x : Option ChangeAnswer). AnswersLooseKind item.kind r item x) some is;
   gives = some_more [] a p p p' c c c' (some_none p c stays) gives;
 }
 
@@ -420,28 +420,28 @@ loose_more r ls l p₀ p₁ p₂ c₀ c₁ c₂ so_far one = record {
 
 -- the first answers of a shard were given, and the others are left
 pub record GivesFirst (v w : Shown) (old new : PlantTold) (c c' : CoaState) : Type 0 where
-  pub answers : List Answer
+  pub answers : List ChangeAnswer
   pub all : v.state.changed ≡ answers ++ w.state.changed
   pub gives : GivesSome answers old new c c'
   pub rest : told_all w ≡ told_all v
 
-first_of : (bs : List Answer) (a : Answer) → Some a ≡ slice_get bs 0 → bs ≡ a ∷ drop 1 bs
+first_of : (bs : List ChangeAnswer) (a : ChangeAnswer) → Some a ≡ slice_get bs 0 → bs ≡ a ∷ drop 1 bs
 first_of [] a e = absurd (let never : ⊥ = cc in never)
-first_of (b ∷ bs) a e = let same : a ≡ b = cc in ap (λ (x : Answer). x ∷ bs) (sym same)
+first_of (b ∷ bs) a e = let same : a ≡ b = cc in ap (λ (x : ChangeAnswer). x ∷ bs) (sym same)
 
-none_of : (bs : List Answer) → None ≡ slice_get bs 0 → bs ≡ []
+none_of : (bs : List ChangeAnswer) → None ≡ slice_get bs 0 → bs ≡ []
 none_of [] e = refl
 none_of (b ∷ bs) e = absurd (let never : ⊥ = cc in never)
 
 -- an answer, by its two parts
-abbrev parts : Answer → ℕ × ChangeVerdict
+abbrev parts : ChangeAnswer → ℕ × ChangeVerdict
 parts a = (a.ask, a.verdict)
 
-unpaired : (o : Option Answer) (ask : ℕ) (verdict : ChangeVerdict) → Some (ask, verdict) ≡ option_map parts o → Some (record { ask = ask; verdict = verdict }) ≡ o
+unpaired : (o : Option ChangeAnswer) (ask : ℕ) (verdict : ChangeVerdict) → Some (ask, verdict) ≡ option_map parts o → Some (record { ask = ask; verdict = verdict }) ≡ o
 unpaired None ask verdict e = absurd (let never : ⊥ = cc in never)
-unpaired (Some a) ask verdict e = ap (λ (x : ℕ × ChangeVerdict). let b : Answer = record { ask = x.0; verdict = x.1 } in Some b) (let same : (ask, verdict) ≡ parts a = cc in same)
+unpaired (Some a) ask verdict e = ap (λ (x : ℕ × ChangeVerdict). let b : ChangeAnswer = record { ask = x.0; verdict = x.1 } in Some b) (let same : (ask, verdict) ≡ parts a = cc in same)
 
-unpaired_none : (o : Option Answer) → None ≡ option_map parts o → None ≡ o
+unpaired_none : (o : Option ChangeAnswer) → None ≡ option_map parts o → None ≡ o
 unpaired_none None e = refl
 unpaired_none (Some a) e = absurd (let never : ⊥ = cc in never)
 
@@ -450,19 +450,19 @@ first_none v p c stays = record { answers = []; all = refl; gives = some_none p 
 
 module _ (v w w' : Shown) (after : w' ≡ record w { state = record w.state { changed = drop 1 w.state.changed }; room = 0 }) where
   module _ (ask : ℕ) (verdict : ChangeVerdict) (first : Some (ask, verdict) ≡ option_map parts (slice_get w.state.changed 0)) where
-    abbrev answer : Answer
+    abbrev answer : ChangeAnswer
     answer = record { ask = ask; verdict = verdict }
 
     was : w.state.changed ≡ answer ∷ w'.state.changed
     was = first_of w.state.changed answer (unpaired (slice_get w.state.changed 0) ask verdict first) ∙ ap (λ (x : Shown). answer ∷ x.state.changed) (sym after)
 
     pub first_fewer : length w'.state.changed < length w.state.changed
-    first_fewer = omega (arith, ap (λ (bs : List Answer). length bs) was)
+    first_fewer = omega (arith, ap (λ (bs : List ChangeAnswer). length bs) was)
 
     pub first_more : (p₀ p₁ p₂ : PlantTold) (c₀ c₁ c₂ : CoaState) → GivesFirst v w p₀ p₁ c₀ c₁ → GivesOne answer p₁ p₂ c₁ c₂ → GivesFirst v w' p₀ p₂ c₀ c₂
     first_more p₀ p₁ p₂ c₀ c₁ c₂ so_far one = record {
       answers = so_far.answers ++ answer ∷ [];
-      all = so_far.all ∙ ap (λ (bs : List Answer). so_far.answers ++ bs) was ∙ sym (append_assoc so_far.answers (answer ∷ []) w'.state.changed);
+      all = so_far.all ∙ ap (λ (bs : List ChangeAnswer). so_far.answers ++ bs) was ∙ sym (append_assoc so_far.answers (answer ∷ []) w'.state.changed);
       gives = some_more so_far.answers answer p₀ p₁ p₂ c₀ c₁ c₂ so_far.gives one;
       rest = ap told_all after ∙ so_far.rest;
     }
@@ -473,11 +473,11 @@ module _ (v w w' : Shown) (after : w' ≡ record w { state = record w.state { ch
 
     pub first_all : (p₀ p₁ : PlantTold) (c₀ c₁ : CoaState) → GivesFirst v w p₀ p₁ c₀ c₁ → GivesSome v.state.changed p₀ p₁ c₀ c₁
     first_all p₀ p₁ c₀ c₁ so_far =
-        subst (λ (bs : List Answer). GivesSome bs p₀ p₁ c₀ c₁) (sym (so_far.all ∙ ap (λ (bs : List Answer). so_far.answers ++ bs) empty ∙ append-nil so_far.answers)) so_far.gives
+        subst (λ (bs : List ChangeAnswer). GivesSome bs p₀ p₁ c₀ c₁) (sym (so_far.all ∙ ap (λ (bs : List ChangeAnswer). so_far.answers ++ bs) empty ∙ append-nil so_far.answers)) so_far.gives
 
     pub first_told : (p₀ p₁ : PlantTold) (c₀ c₁ : CoaState) → GivesFirst v w p₀ p₁ c₀ c₁ → w' ≡ told_all v
     first_told p₀ p₁ c₀ c₁ so_far =
-        after ∙ ap (λ (bs : List Answer). let x : Shown = record w { state = record w.state { changed = drop 1 bs }; room = 0 } in x) empty ∙ so_far.rest
+        after ∙ ap (λ (bs : List ChangeAnswer). let x : Shown = record w { state = record w.state { changed = drop 1 bs }; room = 0 } in x) empty ∙ so_far.rest
 
 -- What the shards answered
 
@@ -494,7 +494,7 @@ tails : (xs ys : Shards) (i : ℕ) → drop i xs ≡ drop i ys → drop (i + 1) 
 tails xs ys i e = sym (drop-drop 1 i xs) ∙ ap (drop 1) e ∙ drop-drop 1 i ys
 
 untold_push : (vs : Shards) (v : Shown) → untold (vs ++ v ∷ []) ≡ untold vs ++ v.state.changed
-untold_push vs v = flat_map-append (λ (x : Shown). x.state.changed) vs (v ∷ []) ∙ ap (λ (bs : List Answer). untold vs ++ bs) (append-nil v.state.changed)
+untold_push vs v = flat_map-append (λ (x : Shown). x.state.changed) vs (v ∷ []) ∙ ap (λ (bs : List ChangeAnswer). untold vs ++ bs) (append-nil v.state.changed)
 
 module _ (vs ws : Shards) (i : ℕ) (d : Shown) (p₀ p₁ p₂ : PlantTold) (c₀ c₁ c₂ : CoaState) (lt : i < length vs) (same : length ws ≡ length vs) (w : Shown) (so_far : GivesThem vs ws i p₀ p₁ c₀ c₁) where
   abbrev v : Shown
@@ -508,7 +508,7 @@ module _ (vs ws : Shards) (i : ℕ) (d : Shown) (p₀ p₁ p₂ : PlantTold) (c�
 
   pub them_more : GivesSome (get_or ws i d).state.changed p₁ p₂ c₁ c₂ → w ≡ told_all (get_or ws i d) → GivesThem vs (set ws i w) (i + 1) p₀ p₂ c₀ c₂
   them_more gives told = record {
-    gives = subst (λ (bs : List Answer). GivesSome bs p₀ p₂ c₀ c₂) (sym (ap untold one ∙ untold_push (take i vs) v))
+    gives = subst (λ (bs : List ChangeAnswer). GivesSome bs p₀ p₂ c₀ c₂) (sym (ap untold one ∙ untold_push (take i vs) v))
         (some_then (untold (take i vs)) v.state.changed p₀ p₁ p₂ c₀ c₁ c₂ so_far.gives (subst (λ (x : Shown). GivesSome x.state.changed p₁ p₂ c₁ c₂) at gives));
     done = take_more_set ws i w (omega (arith, lt, same)) ∙ ap (λ (xs : Shards). xs ++ w ∷ []) so_far.done ∙ ap (λ (x : Shown). map told_all (take i vs) ++ x ∷ []) (told ∙ ap told_all at)
         ∙ sym (map-append told_all (take i vs) (v ∷ [])) ∙ ap (λ (xs : Shards). map told_all xs) (sym one);

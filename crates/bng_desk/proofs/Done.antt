@@ -16,14 +16,14 @@ use Rattle.bng_billing.specs.State.{BillingState}
 use Rattle.bng_engine.specs.Journals.{after as after_journal}
 use Rattle.bng_engine.specs.Lists.{Zip3}
 use Rattle.bng_engine.specs.Views.{ShardView}
-use Rattle.bng_ppp.specs.LinkRelation.{earliest}
+use Rattle.bng_ppp.specs.LcpRelation.{earliest}
 use Rattle.bng_pool.specs.Plain.{PlainView}
 use Rattle.bng_steps.specs.Interims.{Reports}
 use Rattle.bng_steps.specs.Protocol.{Handled, ShardState, pppoe}
 use Rattle.bng_desk.specs.declared.accounts.Stopped.{Stopped}
 use Rattle.bng_desk.specs.declared.drops.Drops.{Drops}
 use Rattle.bng_desk.specs.declared.holding.Named.{Named}
-use Rattle.bng_desk.specs.declared.line.Line.{Line}
+use Rattle.bng_desk.specs.declared.line.CircuitLine.{CircuitLine}
 use Rattle.bng_desk.specs.Accounting.{FormedRecord, Forms, IsStartOf, IsStopOf, acct_reading, records_stretch}
 use Rattle.bng_desk.specs.Allowing.{Allows, allowance_of, free_in}
 use Rattle.bng_desk.specs.Coa.{coa_sends, coa_stretch}
@@ -171,18 +171,18 @@ pub after_parts : (d : Desk) (items : List Item) (round : Option Round)
 after_parts d items None = refl
 after_parts d items (Some round) = refl
 
-abbrev with_round : Desk → Shards → PlainView → List Line → Stopped → Drops → List Book → List Item → Desk
+abbrev with_round : Desk → Shards → PlainView → List CircuitLine → Stopped → Drops → List Book → List Item → Desk
 with_round d shards pool lines stopped drops tallies kept = record d { shards = shards; pool = pool; lines = lines; stopped_book = stopped.carried; stops = stopped.stops; drops = drops; tallies = tallies; kept = kept }
 
 -- the desk after its round, from its parts
-module _ (d : Desk) (items : List Item) (round : Option Round) (shards : Shards) (pool : PlainView) (lines : List Line) (stopped : Stopped) (drops : Drops) (tallies : List Book) (kept : List Item) where
+module _ (d : Desk) (items : List Item) (round : Option Round) (shards : Shards) (pool : PlainView) (lines : List CircuitLine) (stopped : Stopped) (drops : Drops) (tallies : List Book) (kept : List Item) where
   pub is_after_round : shards ≡ (after_round d items round).shards → pool ≡ (after_round d items round).pool → lines ≡ (after_round d items round).lines → stopped ≡ stopped_in (after_round d items round) → drops ≡ (after_round d items round).drops → tallies ≡ (after_round d items round).tallies → kept ≡ (after_round d items round).kept
       → record d { shards = shards; pool = pool; lines = lines; stopped_book = stopped.carried; stops = stopped.stops; drops = drops; tallies = tallies; kept = kept } ≡ after_round d items round
   is_after_round shards_are pool_is lines_are stopped_is drops_are tallies_are kept_is =
       let r = after_round d items round in
       ap (λ (xs : Shards). with_round d xs pool lines stopped drops tallies kept) shards_are
       ∙ ap (λ (hs : PlainView). with_round d r.shards hs lines stopped drops tallies kept) pool_is
-      ∙ ap (λ (ls : List Line). with_round d r.shards r.pool ls stopped drops tallies kept) lines_are
+      ∙ ap (λ (ls : List CircuitLine). with_round d r.shards r.pool ls stopped drops tallies kept) lines_are
       ∙ ap (λ (t : Stopped). with_round d r.shards r.pool r.lines t drops tallies kept) stopped_is
       ∙ ap (λ (y : Drops). with_round d r.shards r.pool r.lines (stopped_in r) y tallies kept) drops_are
       ∙ ap (λ (bs : List Book). with_round d r.shards r.pool r.lines (stopped_in r) r.drops bs kept) tallies_are

@@ -25,13 +25,13 @@ use Rattle.bng_steps.specs.declared.rules.Rules.{Rules}
 use Rattle.bng_steps.specs.declared.whose.Whose.{Whose}
 use Rattle.bng_steps.specs.declared.whose.Whose.TheVariants.{Stands}
 use Rattle.bng_steps.specs.declared.session.Service.{Service}
-use Rattle.bng_steps.specs.declared.session.Service.TheVariants.{Provisioned, Discovered}
+use Rattle.bng_steps.specs.declared.session.Service.TheVariants.{Provisioned, Linked}
 use Rattle.bng_steps.specs.declared.session.Session.{Session}
 use Rattle.bng_coa.specs.Wants.{wanted}
 use Rattle.bng_steps.specs.Changes.{HearsChange, lease_after, place_of}
 use Rattle.bng_steps.specs.Deed.{Deed}
 use Rattle.bng_steps.specs.Link.{Told, admin_reset}
-use Rattle.bng_steps.specs.Made.{Question}
+use Rattle.bng_steps.specs.LinkService.{Question}
 use Rattle.bng_steps.specs.Passing.{lapsed}
 use Rattle.bng_steps.specs.Protocol.{ShardState, Handled, pppoe, entry_of, sessions_of}
 use Rattle.bng_steps.specs.State.{Beside, State, count_in}
@@ -239,7 +239,7 @@ verdict_leaves_all s h is kind =
 -- and so does a request for a change
 lost_count : (service : Service) (r : Rules) (e : Entry) (s : State) (n : ℕ) (x : Session) (outs : List OutRecord) (s' : State) → value_at s.sessions n ≡ Some x → LosesTerm service admin_reset r e s n x outs s' → count_in s' ≡ count_in s
 lost_count (Provisioned over) r e s n x outs s' found (_, is) = ap count_in is ∙ replaced_count s n x (lapsed x) found
-lost_count (Discovered m) r e s n x outs s' found (after, _, beside, drives, is) = ap count_in is ∙ replaced_count s n x after found
+lost_count (Linked m) r e s n x outs s' found (after, _, beside, drives, is) = ap count_in is ∙ replaced_count s n x after found
 
 changed_count : (r : Rules) (s : State) (e : Entry) (d : Deed) → Comes r s e d → count_in d.next ≡ count_in s
 changed_count r s e d (inl is) = ap (λ (x : Deed). count_in x.next) is

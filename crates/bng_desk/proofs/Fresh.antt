@@ -23,7 +23,7 @@ use Rattle.bng_steps.specs.declared.rules.Rules.{Rules}
 use Rattle.bng_base.specs.declared.item.Item.{Item}
 use Rattle.bng_desk.specs.declared.accounts.Stopped.{Stopped}
 use Rattle.bng_desk.specs.declared.drops.Drops.{Drops}
-use Rattle.bng_desk.specs.declared.line.Line.{Line}
+use Rattle.bng_desk.specs.declared.line.CircuitLine.{CircuitLine}
 use Rattle.bng_desk.specs.Accounting.{AreBilled, KnowsBegun}
 use Rattle.bng_desk.specs.Counting.{Within, no_drops}
 use Rattle.bng_desk.specs.Interims.{AreWaiting, WaitsAt}
@@ -97,7 +97,7 @@ module _ (rules : Rules) (statics : ℕ → List Static) (now : ℕ) where
   fresh_books most n k d lt = subst (λ (v : ShardView ShardState Entry). AreLow most v.books) (sym (fresh_at n k d lt)) (empties_low most (length rules.profiles))
 
   -- and no circuit has carried anything
-  kept_none : (input : Bool) (l : Line) (ns : List ℕ) → sum_by (kept_in input l) (map fresh ns) ≡ 0
+  kept_none : (input : Bool) (l : CircuitLine) (ns : List ℕ) → sum_by (kept_in input l) (map fresh ns) ≡ 0
   kept_none input l [] = refl
   kept_none input l (n ∷ ns) = omega (arith, sum_by-cons (kept_in input l) (fresh n) (map fresh ns), none_carried Octets (has_lease l.address) input (keys (terms_of (fresh n).state)), kept_none input l ns)
 
@@ -166,7 +166,7 @@ kept_fresh d statics now cs shards few lines stopped counts some_port few_ports 
       books = subst (λ (xs : List (ShardView ShardState Entry)). All (λ v. AreLow (octets_most * all_turns d) v.books) xs) (sym shards) (fresh_books d.rules statics now (octets_most * all_turns d) d.rules.shards);
       one_seat = ap (λ (bs : List Book). length bs) tallies;
       tallies = subst (λ (bs : List Book). AreLow (octets_most * all_turns d) bs) (sym tallies) (one_low (octets_most * all_turns d) empty_book (empty_low (octets_most * all_turns d)));
-      tallied = subst (λ (ls : List Line). AreTallied (book_at 0 d.tallies) d.shards ls) (sym lines)
+      tallied = subst (λ (ls : List CircuitLine). AreTallied (book_at 0 d.tallies) d.shards ls) (sym lines)
           (subst (λ (xs : List (ShardView ShardState Entry)). AreTallied (book_at 0 d.tallies) xs (map line_of cs)) (sym shards) (fresh_tallied d.rules statics now (book_at 0 d.tallies) (range_with_len 0 d.rules.shards) cs));
       adds_up = subst (λ (t : Stopped). AddsUp (book_at 0 d.tallies) d.shards t) (sym stopped)
           (subst (λ (xs : List (ShardView ShardState Entry)). AddsUp (book_at 0 d.tallies) xs no_stops) (sym shards)

@@ -12,7 +12,7 @@ use Rattle.bng_lane.specs.State.{LaneState}
 use Rattle.bng_steps.specs.declared.rules.Rules.{Rules}
 use Rattle.bng_steps.specs.Hearing.{outs_most}
 use Rattle.bng_verdict.specs.declared.question.QuestionNo.{QuestionNo}
-use Rattle.bng_desk.specs.declared.reading.Ended.{Ended}
+use Rattle.bng_desk.specs.declared.reading.ReadEnd.{ReadEnd}
 use Rattle.bng_desk.specs.Intake.{AddsTimeouts, Gathers, Takes, TakesAuth, TakesReplies}
 use Rattle.bng_desk.specs.Items.{DataReading, drawn_from, taken_items, ticks_of}
 use Rattle.bng_desk.specs.Kept.{IsAsked, StandsFirst}
@@ -38,7 +38,7 @@ replies_few [] = omega arith
 replies_few (a ∷ answers) = omega (arith, length-append (reply_in a.arrival a.found) (reply_items answers), reply_few a a.found, replies_few answers)
 
 -- there are at most 128 verdicts
-pub auth_few : (reads : Bool) (verdicts : ℕ) (answers : List Answered) (auth_end : Option Ended) → ReadsWhere verdicts_most reads answers auth_end → verdicts ≤ 128 → (reads ≡ true → verdicts ≡ 0) → verdicts + length (reply_items answers) ≤ 128
+pub auth_few : (reads : Bool) (verdicts : ℕ) (answers : List Answered) (auth_end : Option ReadEnd) → ReadsWhere verdicts_most reads answers auth_end → verdicts ≤ 128 → (reads ≡ true → verdicts ≡ 0) → verdicts + length (reply_items answers) ≤ 128
 auth_few true verdicts answers auth_end (ended, is, ends) few none = omega (arith, none refl, replies_few answers, taken_within 128 (length answers) ended ends)
 auth_few false verdicts answers auth_end (left, empty) few none = omega (arith, few, ap (λ (rs : List Answered). length (reply_items rs)) empty)
 

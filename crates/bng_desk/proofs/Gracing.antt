@@ -9,7 +9,7 @@ use Rattle.bng_base.specs.Told.{PlantTold, ClockTold, TraceTold, GrowsIfTold}
 use Rattle.bng_base.proofs.StretchLaws.{plant_more}
 use Rattle.bng_base.proofs.ToldLaws.{grows_if_told_more, grows_none}
 use Rattle.bng_billing.specs.State.{BillingState, places_of}
-use Rattle.bng_ppp.specs.LinkRelation.{earliest}
+use Rattle.bng_ppp.specs.LcpRelation.{earliest}
 use Rattle.bng_rad_client.specs.DueRequests.{IsDeadline}
 use Rattle.bng_desk.specs.declared.desk.Turned.TheVariants.{Ok}
 use Rattle.bng_desk.specs.declared.settlement.Works.{Works}

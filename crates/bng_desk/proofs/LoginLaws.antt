@@ -16,7 +16,7 @@ use Rattle.bng_base.specs.Stretch.{ExtendsPlant}
 use Rattle.bng_base.specs.Told.{PlantTold}
 use Rattle.bng_base.proofs.StretchLaws.{plant_more}
 use Rattle.bng_lane.specs.Replies.{Takes as IsTaken}
-use Rattle.bng_desk.specs.declared.reading.Ended.{Ended}
+use Rattle.bng_desk.specs.declared.reading.ReadEnd.{ReadEnd}
 use Rattle.bng_desk.specs.Intake.{AddsReply, TakesReplies}
 use Rattle.bng_desk.specs.Items.{drawn_from}
 use Rattle.bng_desk.specs.Logins.{Answered, Hears, TimesOut, reply_in, reply_items, timeout_items, verdict_item, silence, verdicts_most}
@@ -135,7 +135,7 @@ heard_more p₀ p₁ p₂ l₀ l₁ l₂ d₀ d₁ d₂ i₀ i₁ i₂ quiet bs 
     }
 
 -- and Auth was read
-pub auth_read : (old was new : PlantTold) (l l' : LaneState) (draws draws' : Drawn) (items items' : List Item) (quiet : Bool) (answers : List Answered) (ended : Ended)
+pub auth_read : (old was new : PlantTold) (l l' : LaneState) (draws draws' : Drawn) (items items' : List Item) (quiet : Bool) (answers : List Answered) (ended : ReadEnd)
     → EndsRight verdicts_most (length answers) ended → HeardSome old was l l' draws draws' items items' quiet answers → ExtendsPlant was new (ending_stretch Auth ended)
     → TakesReplies old new l l' draws draws' items items' quiet
 auth_read old was new l l' draws draws' items items' quiet answers ended ends x last = record {

@@ -13,7 +13,7 @@ use Rattle.bng_steps.specs.Tenures.{Tenure}
 use Rattle.bng_steps.proofs.GrantLaws.{settled_sound}
 use Rattle.bng_steps.proofs.Numbered.{tenures_settled}
 use Rattle.bng_desk.specs.declared.accounts.Stopped.{Stopped}
-use Rattle.bng_desk.specs.declared.line.Line.{Line}
+use Rattle.bng_desk.specs.declared.line.CircuitLine.{CircuitLine}
 use Rattle.bng_desk.specs.Accounting.{KnowsBegun}
 use Rattle.bng_desk.specs.Model.{begun_in}
 use Rattle.bng_desk.specs.Round.{news_in, terms_in}
@@ -41,15 +41,15 @@ module _ (left zs : Shards) (kss : List (List Key)) (begun : Zip3 BegunTo left z
   pub started_order : AreInOrder left → AreInOrder zs
   started_order order k d lt = ap (λ (v : Shown). v.number) (each_started k d lt) ∙ order k d (omega (arith, lt, zip3_length BegunTo left zs kss begun))
 
-started_rows : (input : Bool) (l : Line) (left zs : Shards) (kss : List (List Key)) → Zip3 BegunTo left zs kss → sum_by (kept_in input l) zs ≡ sum_by (kept_in input l) left
+started_rows : (input : Bool) (l : CircuitLine) (left zs : Shards) (kss : List (List Key)) → Zip3 BegunTo left zs kss → sum_by (kept_in input l) zs ≡ sum_by (kept_in input l) left
 started_rows input l [] [] [] begun = refl
 started_rows input l (w ∷ left) (z ∷ zs) (ks ∷ kss) begun =
     omega (arith, sum_by-cons (kept_in input l) z zs, sum_by-cons (kept_in input l) w left, ap (kept_in input l) begun.0.after, started_rows input l left zs kss begun.1)
 started_rows input l left zs kss begun = absurd begun
 
-pub started_within : (most : Bool → ℕ) (left zs : Shards) (kss : List (List Key)) (ls ls' : List Line) → Zip3 BegunTo left zs kss → ls' ≡ ls → LinesWithin most left ls → LinesWithin most zs ls'
+pub started_within : (most : Bool → ℕ) (left zs : Shards) (kss : List (List Key)) (ls ls' : List CircuitLine) → Zip3 BegunTo left zs kss → ls' ≡ ls → LinesWithin most left ls → LinesWithin most zs ls'
 started_within most left zs kss ls ls' begun same within =
-    subst (λ (xs : List Line). LinesWithin most zs xs) (sym same) (λ k e lt input. omega (arith, within k e lt input, started_rows input (get_or ls k e) left zs kss begun))
+    subst (λ (xs : List CircuitLine). LinesWithin most zs xs) (sym same) (λ k e lt input. omega (arith, within k e lt input, started_rows input (get_or ls k e) left zs kss begun))
 
 -- whatever is summed over the shards that a Start does not change
 started_sum : (f : Shown → ℕ) → ((w : Shown) → f (started w) ≡ f w) → (left zs : Shards) (kss : List (List Key)) → Zip3 BegunTo left zs kss → sum_by f zs ≡ sum_by f left

@@ -24,7 +24,7 @@ use Rattle.bng_engine.proofs.SameLists.{same_equal}
 use Rattle.bng_engine.proofs.Walks.{same_at}
 use Rattle.bng_pool.specs.Plain.{PlainView}
 use Rattle.bng_pool.specs.Tables.{TableFrees, entry}
-use Rattle.bng_steps.specs.declared.changes.Answer.{Answer}
+use Rattle.bng_steps.specs.declared.changes.ChangeAnswer.{ChangeAnswer}
 use Rattle.bng_steps.specs.declared.rules.Rules.{Rules}
 use Rattle.bng_steps.specs.Lasting.{AreTenures}
 use Rattle.bng_steps.specs.Protocol.{ShardState, Handled, pppoe, ended_terms, key_in, term_in, terms_of}
@@ -32,7 +32,7 @@ use Rattle.bng_shard.specs.Handling.{AreHeld, Leaves}
 use Rattle.bng_steps.specs.State.{State, reaped as reaped_slots}
 use Rattle.bng_steps.specs.Sums.{AreLow, RowsAreLow}
 use Rattle.bng_steps.specs.Tenures.{LeavesTerms, Tenure}
-use Rattle.bng_desk.specs.declared.line.Line.{Line}
+use Rattle.bng_desk.specs.declared.line.CircuitLine.{CircuitLine}
 use Rattle.bng_desk.specs.Accounting.{AreSettling, FormedRecord, Forms, IsStopOf}
 use Rattle.bng_desk.specs.Model.{keys_in}
 use Rattle.bng_desk.specs.Round.{IsReturned, news_in, terms_in}
@@ -150,7 +150,7 @@ reaps_begin moment wall v pool a tenures held = record {
 }
 
 -- the line has room for what leaves the row
-pub takes_in : (w w' : ShardView ShardState Entry) (s : Stop) (ls : List Line) → Leaves w w' s → LinesWithin far (w ∷ []) ls → All (TakesIn (s ∷ [])) ls
+pub takes_in : (w w' : ShardView ShardState Entry) (s : Stop) (ls : List CircuitLine) → Leaves w w' s → LinesWithin far (w ∷ []) ls → All (TakesIn (s ∷ [])) ls
 takes_in w w' s ls one within k e lt input =
     let l = get_or ls k e in
     omega (arith, within k e lt input, one.rows Octets (has_lease l.address) input, sum_by-cons (kept_in input l) w [])
@@ -204,7 +204,7 @@ reaps_on moment wall v w w' s t k pool pool' pool'' a a' a'' so_far one left is 
   some = leaves_more v w w' so_far.stops s t so_far.some one left;
   returned = returned_more so_far.stops (s ∷ []) pool pool' pool'' so_far.returned (returned_one s k pool' pool'' frees rest);
   booked = books_more v.state.slots.terms moment wall so_far.stops (s ∷ []) a a' a'' so_far.booked booked;
-  within = λ most h. subst (λ (ls : List Line). LinesWithin most (w' ∷ []) ls) (sym booked.lines_are) (within_more most (w ∷ []) 0 w w' (s ∷ []) a'.lines (omega arith) one.rows (so_far.within most h));
+  within = λ most h. subst (λ (ls : List CircuitLine). LinesWithin most (w' ∷ []) ls) (sym booked.lines_are) (within_more most (w ∷ []) 0 w w' (s ∷ []) a'.lines (omega arith) one.rows (so_far.within most h));
   same = same_next (v ∷ []) (w ∷ []) (w' ∷ []) a.stopped a'.stopped a''.stopped so_far.same (same_more (w ∷ []) 0 w w' (s ∷ []) a'.stopped a''.stopped (omega arith) one.rows (one_less w w' t left) booked.stopped_is);
   tenures = tenures_left moment w.state.slots w'.state.slots t left one.slots so_far.tenures;
   settling = λ front back began h. left_settling front back began w w' t s.key left is v.state.slots.terms moment wall s a' a'' refl booked (so_far.settling front back began h);
@@ -226,7 +226,7 @@ over room w = record w { state = record w.state { slots = reaped_slots w.state.s
 pub settled_is : (v : ShardView ShardState Entry) → reaped_slots v.state.slots ≡ v.state.slots → v ≡ over v.room v
 settled_is v same = ap (λ (s : State). record v { state = record v.state { slots = s } }) (sym same)
 
-abbrev state_with : Rules → State → List Answer → ShardState
+abbrev state_with : Rules → State → List ChangeAnswer → ShardState
 state_with rules slots changed = record { rules = rules; slots = slots; changed = changed }
 
 module _ (w w' : ShardView ShardState Entry) (room : ℕ) (none : filter is_ended (terms_of w.state) ≡ []) (is : w' ≡ over room w) where
@@ -252,7 +252,7 @@ module _ (w w' : ShardView ShardState Entry) (room : ℕ) (none : filter is_ende
     order = some.reaping.order;
     each = reaping_ends pppoe (seen v []) (seen w stops) some.reaping none;
     state = ap (λ (x : ShardView ShardState Entry). x.state) is ∙ ap (λ (r : Rules). state_with r (reaped_slots w.state.slots) w.state.changed) some.rules
-        ∙ ap (λ (s : State). state_with v.state.rules s w.state.changed) some.slots ∙ ap (λ (answers : List Answer). state_with v.state.rules (reaped_slots v.state.slots) answers) some.changed;
+        ∙ ap (λ (s : State). state_with v.state.rules s w.state.changed) some.slots ∙ ap (λ (answers : List ChangeAnswer). state_with v.state.rules (reaped_slots v.state.slots) answers) some.changed;
     fit = λ h. same_fit (some.fit h);
     rows = λ q pick input. omega (arith, some.reaping.rows q pick input, ap (rows_where q pick input) rows_are);
     count = omega (arith, some.count, ap (λ (ts : List Tenure). length (map term_in ts)) same_terms);
@@ -353,7 +353,7 @@ module _ (moment wall : ℕ) (olds shards : Shards) (i : ℕ) (d w : ShardView S
         held = all_hold shards i w within d pool'.table pool''.table so_far.order held others so_far.held;
         booked = subst (λ (xs : List Stop). BooksStops (terms_in (states_of olds)) moment wall xs a a'') (sym all)
             (books_more (terms_in (states_of olds)) moment wall (joined sss) ss a a' a'' so_far.booked (books_wider was.state.slots.terms (terms_in (states_of olds)) moment wall ss a' a'' among one.booked));
-        within = λ most h. subst (λ (ls : List Line). LinesWithin most (set shards i w) ls) (sym one.booked.lines_are) (within_more most shards i d w ss a'.lines within one.reaped.rows (so_far.within most h));
+        within = λ most h. subst (λ (ls : List CircuitLine). LinesWithin most (set shards i w) ls) (sym one.booked.lines_are) (within_more most shards i d w ss a'.lines within one.reaped.rows (so_far.within most h));
         same = same_next olds shards (set shards i w) a.stopped a'.stopped a''.stopped so_far.same (same_more shards i d w ss a'.stopped a''.stopped within one.reaped.rows one.reaped.count one.booked.stopped_is);
         tenures = all_set (λ (x : ShardView ShardState Entry). AreTenures moment x.state.slots) shards i w tenures so_far.tenures;
         settling = settling_set shards i w began a''.billing within (keeps (keys_in (take i shards)) (keys_in (drop (i + 1) shards)) began (settling_at shards i d began a'.billing within so_far.settling));

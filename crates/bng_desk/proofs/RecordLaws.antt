@@ -16,7 +16,7 @@ use Rattle.bng_billing.specs.Replies.{Takes}
 use Rattle.bng_billing.specs.Sending.{IsSentBy, NoneToSend}
 use Rattle.bng_billing.specs.State.{BillingState, noted}
 use Rattle.bng_lane.specs.Sends.{LaneSend}
-use Rattle.bng_desk.specs.declared.reading.Ended.{Ended}
+use Rattle.bng_desk.specs.declared.reading.ReadEnd.{ReadEnd}
 use Rattle.bng_desk.specs.Accounting.{Acknowledged, Gives, HearsRecords, RecordSend, Resends, acknowledged_most, record_stretch}
 use Rattle.bng_desk.specs.Intake.{GivesRecords, ResendsRecords, SendsRecords, TakesAcknowledgements}
 use Rattle.bng_desk.specs.Reading.{EndsRight, is_empty, receiving, ending_stretch, sending}
@@ -49,7 +49,7 @@ heard_more p₀ p₁ p₂ b₀ b₁ b₂ quiet acks a so_far told takes = record
 }
 
 -- and Acct was read
-pub acct_read : (old was new : PlantTold) (b b' : BillingState) (quiet : Bool) (acks : List Acknowledged) (ended : Ended) → EndsRight acknowledged_most (length acks) ended → HeardRecords old was b b' quiet acks
+pub acct_read : (old was new : PlantTold) (b b' : BillingState) (quiet : Bool) (acks : List Acknowledged) (ended : ReadEnd) → EndsRight acknowledged_most (length acks) ended → HeardRecords old was b b' quiet acks
     → ExtendsPlant was new (ending_stretch Acct ended) → TakesAcknowledgements old new b b' quiet
 acct_read old was new b b' quiet acks ended ends x last = record {
   acknowledged = acks;

@@ -15,13 +15,13 @@ use Rattle.bng_engine.specs.Showing.{with_journal}
 use Rattle.bng_engine.specs.Turns.{TurnOf}
 use Rattle.bng_engine.specs.Views.{Row, ShardView}
 use Rattle.bng_engine.proofs.Adding.{sum_map}
-use Rattle.bng_ppp.specs.LinkRelation.{earliest}
+use Rattle.bng_ppp.specs.LcpRelation.{earliest}
 use Rattle.bng_pool.specs.Plain.{PlainView}
-use Rattle.bng_steps.specs.declared.changes.Answer.{Answer}
+use Rattle.bng_steps.specs.declared.changes.ChangeAnswer.{ChangeAnswer}
 use Rattle.bng_steps.specs.declared.rules.Rules.{Rules}
 use Rattle.bng_steps.specs.declared.sums.Traffic.{Traffic}
 use Rattle.bng_steps.specs.Protocol.{ShardState, Handled, pppoe, deadline_of, sessions_of}
-use Rattle.bng_desk.specs.declared.line.Line.{Line}
+use Rattle.bng_desk.specs.declared.line.CircuitLine.{CircuitLine}
 use Rattle.bng_desk.specs.Items.{for_shard, is_due, ticks_of}
 use Rattle.bng_desk.specs.Kept.{rested}
 use Rattle.bng_desk.specs.Model.{begun_in, sessions_in, carried_on, live_of, live_terms, plus_traffic, traffic_at, traffic_under}
@@ -46,10 +46,10 @@ traffic_rested [] n a = refl
 traffic_rested (v ∷ vs) zero a = refl
 traffic_rested (v ∷ vs) (suc n) a = traffic_rested vs n a
 
-pub carried_rested : (vs : Shards) (l : Line) → carried_on (map rested vs) l ≡ carried_on vs l
+pub carried_rested : (vs : Shards) (l : CircuitLine) → carried_on (map rested vs) l ≡ carried_on vs l
 carried_rested vs l = ap (plus_traffic l.stopped) (traffic_rested vs _ l.address)
 
-pub all_carried_rested : (vs : Shards) (ls : List Line) → map (carried_on vs) ls ≡ map (carried_on (map rested vs)) ls
+pub all_carried_rested : (vs : Shards) (ls : List CircuitLine) → map (carried_on vs) ls ≡ map (carried_on (map rested vs)) ls
 all_carried_rested vs [] = refl
 all_carried_rested vs (l ∷ ls) = ap (λ (t : Traffic). t ∷ map (carried_on vs) ls) (sym (carried_rested vs l)) ∙ ap (λ (ts : List Traffic). carried_on (map rested vs) l ∷ ts) (all_carried_rested vs ls)
 
@@ -130,7 +130,7 @@ left_rested (w ∷ ws) (x ∷ xs) h =
 pub told_rested : (vs : Shards) → AllByRecursion AllTold vs → map rested (map told_all vs) ≡ map rested vs
 told_rested [] told = refl
 told_rested (v ∷ vs) told =
-    ap (λ (bs : List Answer). let s : ShardState = record v.state { changed = bs } in made v.number s v.rows v.books ∷ map rested (map told_all vs)) (sym told.0)
+    ap (λ (bs : List ChangeAnswer). let s : ShardState = record v.state { changed = bs } in made v.number s v.rows v.books ∷ map rested (map told_all vs)) (sym told.0)
     ∙ ap (λ (xs : Shards). rested v ∷ xs) (told_rested vs told.1)
 
 -- a turn sees of a shard before it what is kept

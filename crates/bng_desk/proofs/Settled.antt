@@ -11,7 +11,7 @@ use Rattle.bng_base.proofs.StretchLaws.{plant_more}
 use Rattle.bng_billing.specs.State.{BillingState}
 use Rattle.bng_coa.specs.State.{State as CoaState}
 use Rattle.bng_lane.specs.State.{LaneState}
-use Rattle.bng_steps.specs.declared.changes.Answer.{Answer}
+use Rattle.bng_steps.specs.declared.changes.ChangeAnswer.{ChangeAnswer}
 use Rattle.bng_desk.specs.declared.holding.Named.{Named}
 use Rattle.bng_desk.specs.declared.lists.Lists.{Lists}
 use Rattle.bng_desk.specs.declared.settlement.Settled.{Settled}
@@ -65,7 +65,7 @@ module _ (d : Desk) (w w' : Works) (heard : BillingState) (coa : CoaState) (lane
       let rested_are : map rested w'.shards.items ≡ map rested (map told_all s.held) = ap (λ (xs : Shards). map rested xs) s.replies.shards_are in
       let shards_are = rested_are ∙ done.shards_are in
       let answered = subst (λ (ls : List Loose). SettlesCoa d.rules repeats ls (answers_of done.round) coa s.replies.replies w'.coa) done.loose_are
-      (subst (λ (bs : List Answer). SettlesCoa d.rules repeats s.round.loose bs coa s.replies.replies w'.coa) done.answers_are s.replies.settles) in
+      (subst (λ (bs : List ChangeAnswer). SettlesCoa d.rules repeats s.round.loose bs coa s.replies.replies w'.coa) done.answers_are s.replies.settles) in
       let q = s.asks.requests in
       let asks = subst (λ (xs : Shards). SettlesLane moment lane xs w.handed.items w.draws.seed drawn q w'.lane w'.handed.items) shards_are
       (subst (λ (x : Drawn). SettlesLane moment lane (map rested w'.shards.items) w.handed.items x.seed x.drawn q w'.lane w'.handed.items) drew (settles_rested moment lane w'.lane w'.shards.items w.handed.items w'.handed.items draws.seed draws.drawn q s.asks.settles)) in

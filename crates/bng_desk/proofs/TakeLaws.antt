@@ -17,8 +17,8 @@ use Rattle.bng_base.specs.Packet.{Packet}
 use Rattle.bng_base.specs.Told.{PlantTold}
 use Rattle.bng_base.specs.Stretch.{PlantStretch, plant_joined, ExtendsPlant}
 use Rattle.bng_base.proofs.StretchLaws.{plant_assoc, plant_left, plant_right, plant_more, plant_stays}
-use Rattle.bng_desk.specs.declared.reading.Ended.{Ended}
-use Rattle.bng_desk.specs.declared.reading.Ended.TheVariants.{Full, Dry, Broken}
+use Rattle.bng_desk.specs.declared.reading.ReadEnd.{ReadEnd}
+use Rattle.bng_desk.specs.declared.reading.ReadEnd.TheVariants.{Full, Dry, Broken}
 use Rattle.bng_desk.specs.Items.{DataReading, kind_of, arrived, taken_items, drawn_from}
 use Rattle.bng_desk.specs.Random.{Drawn, draw}
 use Rattle.bng_desk.specs.Reading.{EndsRight, is_empty, receives, taken_in, receiving, ending_stretch}
@@ -84,7 +84,7 @@ taken_more role p₀ p₁ p₂ d₀ d₁ d₂ i₀ i₁ i₂ quiet bs a x told i
 
 -- a receive that took nothing ends the reading
 pub record IsOver (role : Role) (old new : PlantTold) : Type 0 where
-  pub ended : Ended
+  pub ended : ReadEnd
   pub told : ExtendsPlant old new (ending_stretch role ended)
   pub right : (most n : ℕ) → n < most → EndsRight most n ended
 
@@ -93,7 +93,7 @@ over role p p' answer octets told (inl is) = record { ended = Dry; told = subst 
 over role p p' answer octets told (inr is) = record { ended = Broken; told = subst (λ (x : Received). ExtendsPlant p p' (receiving role x octets)) is told; right = λ most n l. l }
 
 -- the reading of the role, once it has ended
-pub role_read : (role : Role) (most : ℕ) (old was new : PlantTold) (draws draws' : Drawn) (items items' : List Item) (quiet : Bool) (arrivals : List Arrival) (ended : Ended)
+pub role_read : (role : Role) (most : ℕ) (old was new : PlantTold) (draws draws' : Drawn) (items items' : List Item) (quiet : Bool) (arrivals : List Arrival) (ended : ReadEnd)
     → EndsRight most (length arrivals) ended → length arrivals ≤ most → Taken role old was draws draws' items items' quiet arrivals → ExtendsPlant was new (ending_stretch role ended)
     → Takes (role ∷ []) (λ _. most) most old new draws draws' items items' quiet
 role_read role most old was new draws draws' items items' quiet arrivals ended ends within x last =
@@ -112,7 +112,7 @@ role_read role most old was new draws draws' items items' quiet arrivals ended e
     }
 
 -- no more was taken than the number
-pub taken_within : (most n : ℕ) (ended : Ended) → EndsRight most n ended → n ≤ most
+pub taken_within : (most n : ℕ) (ended : ReadEnd) → EndsRight most n ended → n ≤ most
 taken_within most n Full ends = omega arith
 taken_within most n Dry ends = omega arith
 taken_within most n Broken ends = omega arith

@@ -24,7 +24,7 @@ use Rattle.bng_steps.specs.Protocol.{ShardState, row_at, terms_of}
 use Rattle.bng_steps.specs.Sums.{IsLow, traffic_in}
 use Rattle.bng_desk.specs.declared.accounts.Stopped.{Stopped}
 use Rattle.bng_desk.specs.declared.drops.Drops.{Drops}
-use Rattle.bng_desk.specs.declared.line.Line.{Line}
+use Rattle.bng_desk.specs.declared.line.CircuitLine.{CircuitLine}
 use Rattle.bng_desk.specs.Model.{begun_in, live_terms, no_traffic, traffic_at, traffic_or}
 use Rattle.bng_desk.specs.Round.{views_of}
 use Rattle.bng_desk.specs.Taking.{AddsUp, AllWithin, AreTallied, CarriesWithin, Deals, IsTurning, LinesWithin, SendsAll, SentTo, far, joined, kept_in, stopped_in}
@@ -97,16 +97,16 @@ rows_kept q pick input (v ∷ vs) (w ∷ ws) h =
 
 -- Lines -----------------------------------------------------------------------------------------------------------------
 
-pub lines_kept : (most : Bool → ℕ) (vs ws : Shards) (ls : List Line) → AllZip Kept vs ws → LinesWithin most vs ls → LinesWithin most ws ls
+pub lines_kept : (most : Bool → ℕ) (vs ws : Shards) (ls : List CircuitLine) → AllZip Kept vs ws → LinesWithin most vs ls → LinesWithin most ws ls
 lines_kept most vs ws ls kept within k e lt input =
     let l = get_or ls k e in
     omega (arith, within k e lt input, rows_kept Octets (has_lease l.address) input vs ws kept)
 
-pub lines_far : (most : ℕ) (tally : Book) (vs : Shards) (ls : List Line) → most ≤ 2 ^ 63 → IsLow most tally → AreTallied tally vs ls → LinesWithin far vs ls
+pub lines_far : (most : ℕ) (tally : Book) (vs : Shards) (ls : List CircuitLine) → most ≤ 2 ^ 63 → IsLow most tally → AreTallied tally vs ls → LinesWithin far vs ls
 lines_far most tally vs ls le low within k e lt input = omega (arith, within k e lt input, low Octets input, le)
 
 -- the outs of the shards were sent: what each circuit has carried stands in the tally still
-pub sent_tallied : (r : Rules) (pool pool' : PlainView) (moment : ℕ) (items : List Item) (vs ws us : Shards) (loose : List Loose) (d d' d'' : Drops) (t t' t'' : Book) (p p' : PlantTold) (outs : List OutRecord) (journals : List (List Entry)) (ls : List Line)
+pub sent_tallied : (r : Rules) (pool pool' : PlainView) (moment : ℕ) (items : List Item) (vs ws us : Shards) (loose : List Loose) (d d' d'' : Drops) (t t' t'' : Book) (p p' : PlantTold) (outs : List OutRecord) (journals : List (List Entry)) (ls : List CircuitLine)
     → (deals : Deals r pool pool' moment items vs ws loose d d' t t') → SendsAll ws us p p' outs journals d' d'' t' t'' → AreTallied t vs ls → AreTallied t'' us ls
 sent_tallied r pool pool' moment items vs ws us loose d d' d'' t t' t'' p p' outs journals ls deals s within k e lt input =
     let l = get_or ls k e in
@@ -203,11 +203,11 @@ row_within input a (r ∷ rows) =
       sum_by-cons (λ (x : Row). cond (has_lease a x.key) (in_book Octets input x.carried) 0) r rows,
     )
 
-shard_within : (input : Bool) (l : Line) (vs : Shards) (n : ℕ) → octets_of input (traffic_at (slice_get vs n) l.address) ≤ sum_by (kept_in input l) vs
+shard_within : (input : Bool) (l : CircuitLine) (vs : Shards) (n : ℕ) → octets_of input (traffic_at (slice_get vs n) l.address) ≤ sum_by (kept_in input l) vs
 shard_within input l [] n = omega (arith, none_of input)
 shard_within input l (v ∷ vs) zero = omega (arith, row_within input l.address v.rows, sum_by-cons (kept_in input l) v vs)
 shard_within input l (v ∷ vs) (suc n) = omega (arith, shard_within input l vs n, sum_by-cons (kept_in input l) v vs)
 
 -- what its Stops say and what its row says, together, is no more than it has carried
-pub told_within : (most : Bool → ℕ) (input : Bool) (l : Line) (vs : Shards) (n : ℕ) → CarriesWithin most vs l → stopped_in input l + octets_of input (traffic_at (slice_get vs n) l.address) ≤ most input
+pub told_within : (most : Bool → ℕ) (input : Bool) (l : CircuitLine) (vs : Shards) (n : ℕ) → CarriesWithin most vs l → stopped_in input l + octets_of input (traffic_at (slice_get vs n) l.address) ≤ most input
 told_within most input l vs n within = omega (arith, within input, shard_within input l vs n)

@@ -11,12 +11,12 @@ use Rattle.bng_engine.specs.Journals.{after}
 use Rattle.bng_engine.specs.Terms.{Key, keys}
 use Rattle.bng_engine.specs.Views.{ShardView}
 use Rattle.bng_engine.proofs.Adding.{sum_map}
-use Rattle.bng_steps.specs.declared.changes.Answer.{Answer}
+use Rattle.bng_steps.specs.declared.changes.ChangeAnswer.{ChangeAnswer}
 use Rattle.bng_steps.specs.declared.rules.Rules.{Rules}
 use Rattle.bng_steps.specs.Interims.{Reports}
 use Rattle.bng_steps.specs.Protocol.{Handled, ShardState, pppoe, sessions_of, terms_of}
 use Rattle.bng_desk.specs.declared.accounts.Stopped.{Stopped}
-use Rattle.bng_desk.specs.declared.line.Line.{Line}
+use Rattle.bng_desk.specs.declared.line.CircuitLine.{CircuitLine}
 use Rattle.bng_desk.specs.declared.settlement.Works.{Works}
 use Rattle.bng_desk.specs.Accounting.{AreBilled, KnowsBegun}
 use Rattle.bng_desk.specs.Coa.{answers_in, shard_answers}
@@ -60,7 +60,7 @@ told_waits moment [] rs all = all
 told_waits moment (v ∷ vs) [] all = absurd all
 told_waits moment (v ∷ vs) (r ∷ rs) all = (record { waits = all.0.waits; soon = all.0.soon }, told_waits moment vs rs all.1)
 
-told_tallied : (tally : Book) (vs : Shards) (lines : List Line) → AreTallied tally vs lines → AreTallied tally (map told_all vs) lines
+told_tallied : (tally : Book) (vs : Shards) (lines : List CircuitLine) → AreTallied tally vs lines → AreTallied tally (map told_all vs) lines
 told_tallied tally vs lines all k d lt input = omega (arith, all k d lt input, sum_map told_all (kept_in input (get_or lines k d)) vs)
 
 told_adds_up : (tally : Book) (vs : Shards) (stopped : Stopped) → AddsUp tally vs stopped → AddsUp tally (map told_all vs) stopped
@@ -127,7 +127,7 @@ told_keep moment w h ws is k =
 -- What is told -----------------------------------------------------------------------------------------------------------------
 
 -- the answers of all shards that were not told yet
-abbrev pub untold : {E : Type 0} → List (ShardView ShardState E) → List Answer
+abbrev pub untold : {E : Type 0} → List (ShardView ShardState E) → List ChangeAnswer
 untold vs = flat_map (λ v. v.state.changed) vs
 
 -- along a journal the answers of its entries stand behind those before
@@ -146,8 +146,8 @@ answers_of_round vs xs moves told = by vs xs moves (recursion_from_All AllTold v
     by (v ∷ vs) [] m t = absurd m
     by (v ∷ vs) (x ∷ xs) m t =
         let here : x.state.changed ≡ answers_in x.journal =
-        ap (λ (s : ShardState). s.changed) m.0.state ∙ answered_along v.state x.journal ∙ ap (λ (bs : List Answer). bs ++ answers_in x.journal) t.0 in
-        ap (λ (bs : List Answer). bs ++ untold xs) here ∙ ap (λ (bs : List Answer). answers_in x.journal ++ bs) (by vs xs m.1 t.1)
+        ap (λ (s : ShardState). s.changed) m.0.state ∙ answered_along v.state x.journal ∙ ap (λ (bs : List ChangeAnswer). bs ++ answers_in x.journal) t.0 in
+        ap (λ (bs : List ChangeAnswer). bs ++ untold xs) here ∙ ap (λ (bs : List ChangeAnswer). answers_in x.journal ++ bs) (by vs xs m.1 t.1)
 
 -- the desk has of them what the engine left
 pub untold_left : (ws : Shards) (xs : List Sight) → AllZip IsLeftBy ws xs → untold ws ≡ untold xs
@@ -155,7 +155,7 @@ untold_left [] [] h = refl
 untold_left [] (x ∷ xs) h = absurd h
 untold_left (w ∷ ws) [] h = absurd h
 untold_left (w ∷ ws) (x ∷ xs) h =
-    ap (λ (s : ShardState). s.changed ++ untold ws) h.0.state ∙ ap (λ (bs : List Answer). x.state.changed ++ bs) (untold_left ws xs h.1)
+    ap (λ (s : ShardState). s.changed ++ untold ws) h.0.state ∙ ap (λ (bs : List ChangeAnswer). x.state.changed ++ bs) (untold_left ws xs h.1)
 
 -- making shards ready tells nothing
 pub told_kept : (vs ws : Shards) → AllZip Kept vs ws → All AllTold vs → All AllTold ws
@@ -163,7 +163,7 @@ told_kept vs ws kept told = all_onward Kept AllTold (λ x y k here. ap (λ (s : 
 
 none_by : (vs : Shards) → AllByRecursion AllTold vs → untold vs ≡ []
 none_by [] t = refl
-none_by (v ∷ vs) t = ap (λ (bs : List Answer). bs ++ untold vs) t.0 ∙ none_by vs t.1
+none_by (v ∷ vs) t = ap (λ (bs : List ChangeAnswer). bs ++ untold vs) t.0 ∙ none_by vs t.1
 
 -- and where no round was opened there are none
 pub untold_none : (vs ws : Shards) → AllZip Kept vs ws → All AllTold vs → untold ws ≡ []

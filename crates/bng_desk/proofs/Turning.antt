@@ -11,7 +11,7 @@ use Rattle.bng_base.proofs.ToldLaws.{grows_if_told_more}
 use Rattle.bng_billing.specs.State.{BillingState, places_of}
 use Rattle.bng_coa.specs.State.{State as CoaState}
 use Rattle.bng_lane.specs.State.{LaneState}
-use Rattle.bng_ppp.specs.LinkRelation.{earliest}
+use Rattle.bng_ppp.specs.LcpRelation.{earliest}
 use Rattle.bng_rad_client.specs.DueRequests.{IsDeadline}
 use Rattle.bng_desk.specs.declared.control.Heeding.{Heeding}
 use Rattle.bng_desk.specs.declared.desk.Turned.{Turned}

@@ -30,7 +30,7 @@ use Rattle.bng_engine.specs.Views.{ShardView}
 use Rattle.bng_lane.specs.Sends.{LaneSend}
 use Rattle.bng_steps.specs.Protocol.{SaysOf, ShardState}
 use Rattle.bng_steps.specs.Tenures.{Tenure}
-use Rattle.bng_desk.specs.declared.reading.Ended.{Ended}
+use Rattle.bng_desk.specs.declared.reading.ReadEnd.{ReadEnd}
 use Rattle.bng_desk.specs.Items.{DataReading}
 
 -- What was taken from Acct ---------------------------------------------------------------------------------------------------
@@ -49,7 +49,7 @@ abbrev pub acknowledged_most : ℕ
 acknowledged_most = 128
 
 -- what was taken from Acct, as a reading
-abbrev pub acct_reading : List Acknowledged → Ended → DataReading
+abbrev pub acct_reading : List Acknowledged → ReadEnd → DataReading
 acct_reading heard ended = record { role = Acct; arrivals = map (λ a. a.arrival) heard; ended = ended }
 
 -- Records that are formed ----------------------------------------------------------------------------------------------------

@@ -12,7 +12,7 @@ use Rattle.bng_base.specs.Chain.{Chain}
 use Rattle.bng_base.specs.FateOf.{Arrival}
 use Rattle.bng_base.specs.Packet.{Packet as Bytes}
 use Rattle.bng_base.specs.Stretch.{PlantStretch}
-use Rattle.bng_coa.specs.declared.request.Request.{Request}
+use Rattle.bng_coa.specs.declared.request.ChangeRequest.{ChangeRequest}
 use Rattle.bng_coa.specs.declared.rules.Admitted.{Admitted}
 use Rattle.bng_coa.specs.declared.rules.Admitted.TheVariants.{New, Repeat, InHand, Ignored}
 use Rattle.bng_coa.specs.Admission.{Admits, IsRequestIn, Keeps, WhenNew}
@@ -22,12 +22,12 @@ use Rattle.bng_coa.specs.Requests.{is_in_hand, is_numbered}
 use Rattle.bng_coa.specs.State.{State}
 use Rattle.bng_engine.specs.Views.{ShardView}
 use Rattle.bng_radius_wire.specs.Grammar.{Packet}
-use Rattle.bng_steps.specs.declared.changes.Answer.{Answer}
+use Rattle.bng_steps.specs.declared.changes.ChangeAnswer.{ChangeAnswer}
 use Rattle.bng_steps.specs.declared.rules.Rules.{Rules}
 use Rattle.bng_steps.specs.Changes.{refusal_of, verdict_by}
 use Rattle.bng_steps.specs.Protocol.{ShardState, Handled}
 use Rattle.bng_desk.specs.declared.coa.Repeated.{Repeated}
-use Rattle.bng_desk.specs.declared.reading.Ended.{Ended}
+use Rattle.bng_desk.specs.declared.reading.ReadEnd.{ReadEnd}
 use Rattle.bng_desk.specs.Items.{DataReading}
 
 -- Requests -----------------------------------------------------------------------------------------------------------------
@@ -88,7 +88,7 @@ abbrev pub change_items : List Requested → List Item
 change_items requested = flat_map (λ q. change_in q.arrival q.admitted q.target) requested
 
 -- what was taken from Coa, as a reading
-abbrev pub coa_reading : List Requested → Ended → DataReading
+abbrev pub coa_reading : List Requested → ReadEnd → DataReading
 coa_reading requested ended = record { role = Coa; arrivals = map (λ q. q.arrival) requested; ended = ended }
 
 -- Replies ------------------------------------------------------------------------------------------------------------------
@@ -134,7 +134,7 @@ coa_stretch sends = record {
 
 -- what a request was answered, and the reply to it, if it was in hand
 pub record Given : Type 0 where
-  pub answer : Answer
+  pub answer : ChangeAnswer
   pub send : Option CoaSend
 
 -- no request is in hand under this number
@@ -143,10 +143,10 @@ IsNotInHand c number = (2 ^ 32 ≤ number) ⊎ (find (is_numbered number) c.requ
 
 -- The reply goes to the sender of the request that is in hand under the answer's number, and says the answer's verdict; from then on it is
 -- kept. Where none is in hand nothing is sent.
-abbrev pub GivesTo : State → Answer → Option CoaSend → State → Type 0
+abbrev pub GivesTo : State → ChangeAnswer → Option CoaSend → State → Type 0
 GivesTo c a None c' = IsNotInHand c a.ask × (c' ≡ c)
 GivesTo c a (Some s) c' =
-    (q : Request) × (find (is_numbered a.ask) c.requests ≡ Some q) × (s.reply.to ≡ q.key.from)
+    (q : ChangeRequest) × (find (is_numbered a.ask) c.requests ≡ Some q) × (s.reply.to ≡ q.key.from)
     × (frame : Bytes) × IsAnswered c c' a.ask a.verdict frame × (s.reply.octets ≡ frame.payload)
 
 abbrev pub GivesAnswer : State → Given → State → Type 0
@@ -154,13 +154,13 @@ GivesAnswer c g c' = GivesTo c g.answer g.send c'
 
 -- A request that stands in no shard has no term: it is refused for the first cause that holds of the request itself, and else for want of a
 -- session. What is no request is not answered.
-abbrev pub AnswersLoose : Rules → Item → Option Answer → Type 0
+abbrev pub AnswersLoose : Rules → Item → Option ChangeAnswer → Type 0
 AnswersLoose r item answer =
     (((p : Packet) → ¬ (IsRequestIn p item.frame.payload)) × (answer ≡ None))
     ⊎ ((p : Packet) × IsRequestIn p item.frame.payload × (answer ≡ Some (record { ask = item.ask; verdict = verdict_by (refusal_of r p) None })))
 
 -- no other item is answered so
-abbrev pub AnswersLooseKind : ItemKind → Rules → Item → Option Answer → Type 0
+abbrev pub AnswersLooseKind : ItemKind → Rules → Item → Option ChangeAnswer → Type 0
 AnswersLooseKind (kind.Access number) r item answer = answer ≡ None
 AnswersLooseKind kind.Core r item answer = answer ≡ None
 AnswersLooseKind kind.Tunnel r item answer = answer ≡ None
@@ -170,17 +170,17 @@ AnswersLooseKind kind.Tick r item answer = answer ≡ None
 AnswersLooseKind kind.End r item answer = answer ≡ None
 
 -- the answers to loose items, in their order
-abbrev pub AreLooseAnswers : Rules → List Loose → List Answer → Type 0
+abbrev pub AreLooseAnswers : Rules → List Loose → List ChangeAnswer → Type 0
 AreLooseAnswers r [] answers = answers ≡ []
 AreLooseAnswers r (l ∷ ls) answers =
-    (first : Option Answer) × (rest : List Answer) × AnswersLooseKind l.item.kind r l.item first × AreLooseAnswers r ls rest × (answers ≡ option_to_list first ++ rest)
+    (first : Option ChangeAnswer) × (rest : List ChangeAnswer) × AnswersLooseKind l.item.kind r l.item first × AreLooseAnswers r ls rest × (answers ≡ option_to_list first ++ rest)
 
 -- what the entries of a journal were answered, in their order
-abbrev pub answers_in : List Handled → List Answer
+abbrev pub answers_in : List Handled → List ChangeAnswer
 answers_in journal = flat_map (λ (h : Handled). option_to_list h.answer) journal
 
 -- the answers of the shards, of the first shard first
-abbrev pub shard_answers : List (ShardView ShardState Handled) → List Answer
+abbrev pub shard_answers : List (ShardView ShardState Handled) → List ChangeAnswer
 shard_answers shards = flat_map (λ v. answers_in v.journal) shards
 
 -- the replies that a settlement sends: those of requests that were repeated, and those that were given to answers
@@ -194,9 +194,9 @@ coa_sends q = q.repeated ++ flat_map (λ (g : Given). option_to_list g.send) q.g
 
 -- First the replies of requests that were repeated are sent, in the order taken. Then those to loose requests, by seat and place, and then
 -- those to what the shards answered, of the first shard first and in each in the order of its journal.
-pub record SettlesCoa (r : Rules) (repeats : List CoaReply) (loose : List Loose) (of_shards : List Answer) (c : State) (q : CoaReplies) (c' : State) : Type 0 where
+pub record SettlesCoa (r : Rules) (repeats : List CoaReply) (loose : List Loose) (of_shards : List ChangeAnswer) (c : State) (q : CoaReplies) (c' : State) : Type 0 where
   pub repeated : map (λ (s : CoaSend). s.reply) q.repeated ≡ repeats
-  pub of_loose : List Answer
+  pub of_loose : List ChangeAnswer
   pub are_loose : AreLooseAnswers r loose of_loose
   pub answers : map (λ (g : Given). g.answer) q.given ≡ of_loose ++ of_shards
   pub gives : Chain GivesAnswer c q.given c'

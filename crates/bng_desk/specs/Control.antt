@@ -9,7 +9,7 @@ use Rattle.bng_base.specs.FateOf.{Arrival}
 use Rattle.bng_base.specs.Told.{PlantTold}
 use Rattle.bng_base.specs.Stretch.{PlantStretch, plant_joined, ExtendsPlant}
 use Rattle.bng_engine.specs.Lists.{one_if}
-use Rattle.bng_desk.specs.declared.reading.Ended.{Ended}
+use Rattle.bng_desk.specs.declared.reading.ReadEnd.{ReadEnd}
 use Rattle.bng_desk.specs.declared.control.Heeding.{Heeding}
 use Rattle.bng_desk.specs.Reading.{receives, taken_in, ending_stretch, EndsRight, is_empty, sending}
 
@@ -61,7 +61,7 @@ heeding stats heeded = record {
 }
 
 -- what the reading of Control adds
-abbrev pub control_stretch : (stats : List ℕ) → List Heeded → Ended → PlantStretch
+abbrev pub control_stretch : (stats : List ℕ) → List Heeded → ReadEnd → PlantStretch
 control_stretch stats heeded ended = plant_joined (heeding stats heeded) (ending_stretch Control ended)
 
 -- what the answer to one datagram adds

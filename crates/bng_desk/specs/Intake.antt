@@ -19,13 +19,13 @@ use Rattle.bng_lane.specs.Replies.{Takes as IsTaken}
 use Rattle.bng_lane.specs.Sends.{LaneSend, LaneAsk, AllResent, Asks}
 use Rattle.bng_lane.specs.State.{LaneState, noted}
 use Rattle.bng_rad_client.specs.Table.{taken}
-use Rattle.bng_steps.specs.declared.changes.Answer.{Answer}
+use Rattle.bng_steps.specs.declared.changes.ChangeAnswer.{ChangeAnswer}
 use Rattle.bng_steps.specs.declared.rules.Rules.{Rules}
 use Rattle.bng_steps.specs.Questions.{asking_from, waiting, handed_after}
 use Rattle.bng_steps.specs.State.{State}
 use Rattle.bng_verdict.specs.declared.question.AuthAsk.{AuthAsk}
 use Rattle.bng_verdict.specs.declared.question.QuestionNo.{QuestionNo}
-use Rattle.bng_desk.specs.declared.reading.Ended.{Ended}
+use Rattle.bng_desk.specs.declared.reading.ReadEnd.{ReadEnd}
 use Rattle.bng_desk.specs.Accounting.{Acknowledged, Gives, HearsRecords, RecordRequests, RecordSend, Resends, SettlesRecords, acct_reading, acknowledged_most, record_stretch, records_stretch}
 use Rattle.bng_desk.specs.Coa.{AdmitsAll, AdmitsOne, AnswersLooseKind, AreLooseAnswers, CoaReplies, CoaReply, CoaSend, Given, GivesAnswer, GivesTo, Requested, SettlesCoa, change_in, change_items, coa_reading, coa_sends, coa_stretch, repeat_in, repeats_of, requests_most}
 use Rattle.bng_desk.specs.Items.{DataReading, taken_items, ticks_of, drawn_from}
@@ -49,7 +49,7 @@ pub record Takes (roles : List Role) (most : Role → ℕ) (few : ℕ) (old new 
 -- Auth was read: each reply to a question is an item, with its own random octets.
 pub record TakesReplies (old new : PlantTold) (lane lane' : LaneState) (draws draws' : Drawn) (items items' : List Item) (quiet : Bool) : Type 0 where
   pub answers : List Answered
-  pub ended : Ended
+  pub ended : ReadEnd
   pub ends : EndsRight verdicts_most (length answers) ended
   pub told : ExtendsPlant old new (reading_stretch (auth_reading answers ended))
   pub hears : Hears lane answers lane'
@@ -67,7 +67,7 @@ pub record AddsReply (a : Arrival) (lane lane' : LaneState) (draws draws' : Draw
 -- Acct was read, and accounting heard each datagram.
 pub record TakesAcknowledgements (old new : PlantTold) (b b' : BillingState) (quiet : Bool) : Type 0 where
   pub acknowledged : List Acknowledged
-  pub ended : Ended
+  pub ended : ReadEnd
   pub ends : EndsRight acknowledged_most (length acknowledged) ended
   pub told : ExtendsPlant old new (reading_stretch (acct_reading acknowledged ended))
   pub hears : HearsRecords b acknowledged b'
@@ -76,7 +76,7 @@ pub record TakesAcknowledgements (old new : PlantTold) (b b' : BillingState) (qu
 -- Auth was read, where it is read.
 pub record TakesAuth (reads : Bool) (old new : PlantTold) (lane lane' : LaneState) (draws draws' : Drawn) (items items' : List Item) (quiet : Bool) : Type 0 where
   pub answers : List Answered
-  pub auth_end : Option Ended
+  pub auth_end : Option ReadEnd
   pub auth : ReadsWhere verdicts_most reads answers auth_end
   pub told : ExtendsPlant old new (auth_stretch answers auth_end)
   pub hears : Hears lane answers lane'
@@ -96,7 +96,7 @@ pub record AddsRequest (now wall : ℕ) (a : Arrival) (c c' : CoaState) (draws d
 -- Coa was read: each new request is an item, with its own random octets.
 pub record TakesRequests (now wall : ℕ) (old new : PlantTold) (c c' : CoaState) (draws draws' : Drawn) (items items' : List Item) (repeats repeats' : List CoaReply) (quiet : Bool) : Type 0 where
   pub requested : List Requested
-  pub ended : Ended
+  pub ended : ReadEnd
   pub ends : EndsRight requests_most (length requested) ended
   pub told : ExtendsPlant old new (reading_stretch (coa_reading requested ended))
   pub admits : AdmitsAll now wall c requested c'
@@ -108,7 +108,7 @@ pub record TakesRequests (now wall : ℕ) (old new : PlantTold) (c c' : CoaState
 -- Coa was read, where it is read.
 pub record TakesCoa (reads : Bool) (now wall : ℕ) (old new : PlantTold) (c c' : CoaState) (draws draws' : Drawn) (items items' : List Item) (repeats repeats' : List CoaReply) (quiet : Bool) : Type 0 where
   pub requested : List Requested
-  pub coa_end : Option Ended
+  pub coa_end : Option ReadEnd
   pub coa : ReadsWhere requests_most reads requested coa_end
   pub told : ExtendsPlant old new (asked_stretch requested coa_end)
   pub admits : AdmitsAll now wall c requested c'
@@ -129,7 +129,7 @@ pub record AddsTimeouts (now most : ℕ) (lane lane' : LaneState) (draws draws' 
 -- Ticks that are due, each with its own random octets.
 pub record Gathers (r : Rules) (shards : List Shown) (moment : ℕ) (reads : Bool) (verdicts : ℕ) (front : List Item) (old new : PlantTold) (lane lane' : LaneState) (draws draws' : Drawn) (items : List Item) (quiet : Bool) : Type 0 where
   pub answers : List Answered
-  pub auth_end : Option Ended
+  pub auth_end : Option ReadEnd
   pub auth : ReadsWhere verdicts_most reads answers auth_end
   pub readings : List DataReading
   pub are_roles : map (λ r. r.role) readings ≡ data_roles r
@@ -211,13 +211,13 @@ pub record RepeatsAll (repeats : List CoaReply) (old new : PlantTold) : Type 0 w
   pub told : ExtendsPlant old new (coa_stretch repeated)
 
 -- A reply was sent, if the request that the answer is for was in hand.
-pub record GivesOne (a : Answer) (old new : PlantTold) (c c' : CoaState) : Type 0 where
+pub record GivesOne (a : ChangeAnswer) (old new : PlantTold) (c c' : CoaState) : Type 0 where
   pub send : Option CoaSend
   pub gives : GivesTo c a send c'
   pub told : ExtendsPlant old new (coa_stretch (option_to_list send))
 
 -- so for these answers, one after the other
-pub record GivesSome (answers : List Answer) (old new : PlantTold) (c c' : CoaState) : Type 0 where
+pub record GivesSome (answers : List ChangeAnswer) (old new : PlantTold) (c c' : CoaState) : Type 0 where
   pub given : List Given
   pub are : map (λ (g : Given). g.answer) given ≡ answers
   pub gives : Chain GivesAnswer c given c'
@@ -225,13 +225,13 @@ pub record GivesSome (answers : List Answer) (old new : PlantTold) (c c' : CoaSt
 
 -- A reply to a loose item was sent, if it is a request and in hand.
 pub record GivesItem (r : Rules) (item : Item) (old new : PlantTold) (c c' : CoaState) : Type 0 where
-  pub answer : Option Answer
+  pub answer : Option ChangeAnswer
   pub is : AnswersLooseKind item.kind r item answer
   pub gives : GivesSome (option_to_list answer) old new c c'
 
 -- so to loose items, in their order
 pub record GivesLoose (r : Rules) (loose : List Loose) (old new : PlantTold) (c c' : CoaState) : Type 0 where
-  pub answers : List Answer
+  pub answers : List ChangeAnswer
   pub are_loose : AreLooseAnswers r loose answers
   pub gives : GivesSome answers old new c c'
 

@@ -15,14 +15,14 @@ use Rattle.bng_engine.specs.Views.{ShardView}
 use Rattle.bng_steps.specs.declared.whose.Whose.{Whose}
 use Rattle.bng_steps.specs.declared.whose.Whose.TheVariants.{Loose as IsLoose, Stands}
 use Rattle.bng_steps.specs.Protocol.{ShardState, deadline_of, entry_of}
-use Rattle.bng_desk.specs.declared.reading.Ended.{Ended}
+use Rattle.bng_desk.specs.declared.reading.ReadEnd.{ReadEnd}
 use Rattle.bng_desk.specs.Random.{draw}
 
 -- what was taken from a role, and how its reading ended
 pub record DataReading : Type 0 where
   pub role : Role
   pub arrivals : List Arrival
-  pub ended : Ended
+  pub ended : ReadEnd
 
 -- the kind of the items of a role
 abbrev pub kind_of : Role → ItemKind

@@ -20,7 +20,7 @@ use Rattle.bng_rad_client.specs.Table.{taken}
 use Rattle.bng_steps.specs.Protocol.{ShardState}
 use Rattle.bng_steps.specs.Questions.{Asking, asking_from, waiting, handed_after}
 use Rattle.bng_verdict.specs.declared.question.QuestionNo.{QuestionNo}
-use Rattle.bng_desk.specs.declared.reading.Ended.{Ended}
+use Rattle.bng_desk.specs.declared.reading.ReadEnd.{ReadEnd}
 use Rattle.bng_desk.specs.Items.{DataReading, nobody}
 use Rattle.bng_desk.specs.Random.{draw}
 
@@ -71,7 +71,7 @@ pub record TimesOut (now most : ℕ) (l : LaneState) (timed : List QuestionNo) (
   pub all : (length timed ≡ most) ⊎ GivesUp l' now None l'
 
 -- what was taken from Auth, as a reading
-abbrev pub auth_reading : List Answered → Ended → DataReading
+abbrev pub auth_reading : List Answered → ReadEnd → DataReading
 auth_reading answers ended = record { role = Auth; arrivals = map (λ a. a.arrival) answers; ended = ended }
 
 -- the requests that the settlement of a turn sends: those that are sent again, and then those of the questions that it asks

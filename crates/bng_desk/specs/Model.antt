@@ -23,7 +23,7 @@ use Rattle.bng_steps.specs.Sums.{traffic_in}
 use Rattle.bng_desk.specs.declared.desk.DeskState.{DeskState}
 use Rattle.bng_desk.specs.declared.desk.DeskState.TheVariants.{Serving, Ending, Grace, Ended, Starved}
 use Rattle.bng_desk.specs.declared.drops.Drops.{Drops}
-use Rattle.bng_desk.specs.declared.line.Line.{Line}
+use Rattle.bng_desk.specs.declared.line.CircuitLine.{CircuitLine}
 use Rattle.bng_desk.specs.declared.sums.Sums.{Sums}
 use Rattle.bng_desk.specs.Reading.{is_empty}
 
@@ -38,7 +38,7 @@ use Rattle.bng_desk.specs.Reading.{is_empty}
 -- it was not opened.
 pub record Desk : Type 0 where
   pub rules : Rules
-  pub lines : List Line
+  pub lines : List CircuitLine
   pub stopped_book : Book
   pub stops : ℕ
   pub rounds : ℕ
@@ -130,7 +130,7 @@ abbrev pub plus_traffic : Traffic → Traffic → Traffic
 plus_traffic a b = record { input = a.input + b.input; output = a.output + b.output }
 
 -- what a provisioned circuit carried: what the Stops with its address say, and what the shard of its number keeps for the term that has it
-abbrev pub carried_on : List (ShardView ShardState Entry) → Line → Traffic
+abbrev pub carried_on : List (ShardView ShardState Entry) → CircuitLine → Traffic
 carried_on shards l = plus_traffic l.stopped (traffic_at (slice_get shards (l.session.0 / 1024)) l.address)
 
 -- what the Stops with an address say, in octets
@@ -138,7 +138,7 @@ abbrev pub stopped_of : Ip4 → List Stop → Traffic
 stopped_of address stops = record { input = stopped_where Octets (has_lease address) true stops; output = stopped_where Octets (has_lease address) false stops }
 
 -- a circuit once these Stops were formed
-abbrev pub line_after : List Stop → Line → Line
+abbrev pub line_after : List Stop → CircuitLine → CircuitLine
 line_after stops l = record l { stopped = plus_traffic l.stopped (stopped_of l.address stops) }
 
 -- one book and the other together

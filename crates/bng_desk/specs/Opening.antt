@@ -29,7 +29,7 @@ use Rattle.bng_steps.specs.Interims.{Reports, no_reports}
 use Rattle.bng_steps.specs.Protocol.{ShardState, opened}
 use Rattle.bng_steps.specs.Questions.{none_handed}
 use Rattle.bng_sessions.specs.Sessions.{IsNumberOf}
-use Rattle.bng_desk.specs.declared.line.Line.{Line}
+use Rattle.bng_desk.specs.declared.line.CircuitLine.{CircuitLine}
 use Rattle.bng_desk.specs.Accounting.{AreBilled, FormedRecord, Forms, IsStartOf}
 use Rattle.bng_desk.specs.Counting.{no_drops}
 use Rattle.bng_desk.specs.Model.{Desk, keys_in, no_traffic}
@@ -78,7 +78,7 @@ pub record AreRules (config : Config) (seed : List ℕ) (wall : ℕ) (r : Rules)
   pub auth : r.link.auth.items ≡ config.auth.items
   pub echo : r.link.echo ≡ config.echo
 
-abbrev pub line_of : Static → Line
+abbrev pub line_of : Static → CircuitLine
 line_of c = record { session = c.session; address = c.address; stopped = no_traffic }
 
 -- the shard of a session number
@@ -133,7 +133,7 @@ coa_of (Some c) = record { peers = c.peers.items; secret = c.secret.items; reque
 
 -- Accounting was opened by these rules over these lines, and of each of the terms of these shards a Start was formed, at this moment, in
 -- their order; each of them is live in accounting from then on, and it knows of no other.
-pub record OpensAccounts (rules : BillingRules) (lines : List Line) (reports : List Reports) (shards : List (ShardView ShardState Entry)) (now : ℕ) (a : Accounts) : Type 0 where
+pub record OpensAccounts (rules : BillingRules) (lines : List CircuitLine) (reports : List Reports) (shards : List (ShardView ShardState Entry)) (now : ℕ) (a : Accounts) : Type 0 where
   pub new_billing : BillingState
   pub is_new : IsNewBilling rules new_billing
   pub booked : BooksStarts (terms_in (states_of shards)) now rules.acct.wall (keys_in shards) (record { lines = lines; stopped = no_stops; billing = new_billing; reports = reports }) a

@@ -11,15 +11,15 @@ use Rattle.bng_base.specs.Told.{taken_by}
 use Rattle.bng_base.specs.FateOf.{Arrival}
 use Rattle.bng_base.specs.Stretch.{PlantStretch}
 use Rattle.bng_engine.specs.Lists.{one_if}
-use Rattle.bng_desk.specs.declared.reading.Ended.{Ended}
-use Rattle.bng_desk.specs.declared.reading.Ended.TheVariants.{Full, Dry, Broken}
+use Rattle.bng_desk.specs.declared.reading.ReadEnd.{ReadEnd}
+use Rattle.bng_desk.specs.declared.reading.ReadEnd.TheVariants.{Full, Dry, Broken}
 
 -- the receives that took these
 abbrev pub receives : Role → List Arrival → List Heard
 receives role arrivals = map (λ a. Receive role (Got a.from a.cut)) arrivals
 
 -- the receive that ended a reading, if one did
-abbrev pub last_receive : Role → Ended → List Heard
+abbrev pub last_receive : Role → ReadEnd → List Heard
 last_receive role Full = []
 last_receive role Dry = Receive role Empty ∷ []
 last_receive role Broken = Receive role Failed ∷ []
@@ -29,18 +29,18 @@ abbrev pub taken_in : Role → List Arrival → List Datagram
 taken_in role arrivals = map (λ a. record { role = role; peer = a.from; octets = a.octets }) arrivals
 
 -- a role is read until Empty, Failed or its number
-abbrev pub EndsRight : ℕ → ℕ → Ended → Type 0
+abbrev pub EndsRight : ℕ → ℕ → ReadEnd → Type 0
 EndsRight most taken Full = taken ≡ most
 EndsRight most taken Dry = taken < most
 EndsRight most taken Broken = taken < most
 
-abbrev pub is_broken : Ended → Bool
+abbrev pub is_broken : ReadEnd → Bool
 is_broken Full = false
 is_broken Dry = false
 is_broken Broken = true
 
 -- what the end of a reading adds to what the plant tells
-abbrev pub ending_stretch : Role → Ended → PlantStretch
+abbrev pub ending_stretch : Role → ReadEnd → PlantStretch
 ending_stretch role ended = record { heard = last_receive role ended; taken = []; sent = []; failed = one_if (is_broken ended) }
 
 abbrev pub is_empty : {X : Type 0} → List X → Bool

@@ -15,7 +15,7 @@ use Rattle.bng_base.specs.declared.fate.DropCause.{DropCause}
 use Rattle.bng_steps.specs.Protocol.{ShardState}
 use Rattle.bng_desk.specs.declared.accounts.Stopped.{Stopped}
 use Rattle.bng_desk.specs.declared.drops.Drops.{Drops}
-use Rattle.bng_desk.specs.declared.line.Line.{Line}
+use Rattle.bng_desk.specs.declared.line.CircuitLine.{CircuitLine}
 use Rattle.bng_desk.specs.Causes.{causes}
 use Rattle.bng_desk.specs.Model.{Desk, by_profile, live_of, plus_book, sums_of, traffic_by, traffic_under}
 use Rattle.bng_steps.specs.declared.sums.Traffic.{Traffic}
@@ -52,7 +52,7 @@ abbrev pub static_line : Ip4 → Traffic → List ℕ
 static_line address t = codes "static " ++ address_text address ++ quantities t.input t.output
 
 -- a line for each circuit
-abbrev pub static_lines : List Line → List Traffic → List ℕ
+abbrev pub static_lines : List CircuitLine → List Traffic → List ℕ
 static_lines [] traffic = []
 static_lines (s ∷ ss) [] = []
 static_lines (s ∷ ss) (t ∷ ts) = static_line s.address t ++ static_lines ss ts
@@ -69,7 +69,7 @@ drop_lines (cause ∷ more) (items ∷ others) = drop_line cause.1 items ++ drop
 
 -- of what the Stops say, what the terms carried that have no Stop yet, and both together the octets; each worker, each profile, each
 -- circuit, and what was dropped by each cause
-abbrev pub report_text : Book → Book → Book → List Traffic → List Profile → List Traffic → List Line → List Traffic → List ℕ → List ℕ
+abbrev pub report_text : Book → Book → Book → List Traffic → List Profile → List Traffic → List CircuitLine → List Traffic → List ℕ → List ℕ
 report_text stopped live total workers profiles under circuits traffic drops =
     traffic_line (codes "stopped") (traffic_by stopped)
     ++ traffic_line (codes "live") (traffic_by live)

@@ -49,7 +49,7 @@ use Rattle.bng_billing.specs.State.{BillingState}
 use Rattle.bng_desk.specs.declared.accounts.Stopped.{Stopped}
 use Rattle.bng_desk.specs.declared.drops.Drops.{Drops}
 use Rattle.bng_desk.specs.declared.holding.Named.{Named}
-use Rattle.bng_desk.specs.declared.line.Line.{Line}
+use Rattle.bng_desk.specs.declared.line.CircuitLine.{CircuitLine}
 use Rattle.bng_desk.specs.Accounting.{FormedRecord, Forms, IsStartOf, IsStopOf}
 use Rattle.bng_desk.specs.Counting.{drops_of, plus}
 use Rattle.bng_desk.specs.Interims.{FormsInterims, TakesInterims, owed_by}
@@ -295,7 +295,7 @@ plus_stops stopped stops = record { carried = plus_book stopped.carried (all_sto
 -- what a settlement writes to beside the shards: the lines of the circuits, what all Stops say and how many they are, the records of terms,
 -- and of each shard which Interims were taken
 pub record Accounts : Type 0 where
-  pub lines : List Line
+  pub lines : List CircuitLine
   pub stopped : Stopped
   pub billing : BillingState
   pub reports : List Reports
@@ -369,19 +369,19 @@ pub record BeginsAll (moment wall : ℕ) (vs vs' : List Shown) (a a' : Accounts)
   pub booked : BooksStarts (news_in (states_of vs)) moment wall (joined starts) a a'
 
 -- what the Stops with a line's address say so far, in octets of one direction
-abbrev pub stopped_in : Bool → Line → ℕ
+abbrev pub stopped_in : Bool → CircuitLine → ℕ
 stopped_in true l = l.stopped.input
 stopped_in false l = l.stopped.output
 
 -- and what a shard says of the terms that are there
-abbrev pub kept_in : Bool → Line → Shown → ℕ
+abbrev pub kept_in : Bool → CircuitLine → Shown → ℕ
 kept_in input l v = rows_where Octets (has_lease l.address) input v.rows
 
 -- no more was carried with the line's address, in octets of either direction
-abbrev pub CarriesWithin : (Bool → ℕ) → List Shown → Line → Type 0
+abbrev pub CarriesWithin : (Bool → ℕ) → List Shown → CircuitLine → Type 0
 CarriesWithin most vs l = (input : Bool) → stopped_in input l + sum_by (kept_in input l) vs ≤ most input
 
-abbrev pub LinesWithin : (Bool → ℕ) → List Shown → List Line → Type 0
+abbrev pub LinesWithin : (Bool → ℕ) → List Shown → List CircuitLine → Type 0
 LinesWithin most vs lines = All (CarriesWithin most vs) lines
 
 -- a number that no sum of octets comes near
@@ -389,11 +389,11 @@ abbrev pub far : Bool → ℕ
 far input = 2 ^ 63
 
 -- a line has room for what these Stops say of its address
-abbrev pub TakesIn : List Stop → Line → Type 0
+abbrev pub TakesIn : List Stop → CircuitLine → Type 0
 TakesIn stops l = (input : Bool) → stopped_in input l + stopped_where Octets (has_lease l.address) input stops ≤ far input
 
 -- what was carried with the circuits' addresses stands in the tally
-abbrev pub AreTallied : Book → List Shown → List Line → Type 0
+abbrev pub AreTallied : Book → List Shown → List CircuitLine → Type 0
 AreTallied tally vs lines = LinesWithin (λ input. in_book Octets input tally) vs lines
 
 -- what a shard says of all terms that are there, in one direction

@@ -16,15 +16,15 @@ use Rattle.bng_coa.specs.State.{State as CoaState}
 use Rattle.bng_engine.specs.Calls.{all_sends}
 use Rattle.bng_engine.specs.Lists.{Zip3}
 use Rattle.bng_engine.specs.Views.{ShardView}
-use Rattle.bng_ppp.specs.LinkRelation.{earliest}
-use Rattle.bng_steps.specs.declared.changes.Answer.{Answer}
+use Rattle.bng_ppp.specs.LcpRelation.{earliest}
+use Rattle.bng_steps.specs.declared.changes.ChangeAnswer.{ChangeAnswer}
 use Rattle.bng_steps.specs.declared.rules.Rules.{Rules}
 use Rattle.bng_steps.specs.Interims.{Reports}
 use Rattle.bng_steps.specs.Protocol.{ShardState, deadline_of}
 use Rattle.bng_shard.specs.Room.{is_end}
 use Rattle.bng_desk.specs.declared.desk.Turned.{Turned}
 use Rattle.bng_desk.specs.declared.desk.Turned.TheVariants.{Ok, TraceFault, WantOfMemory}
-use Rattle.bng_desk.specs.declared.reading.Ended.{Ended}
+use Rattle.bng_desk.specs.declared.reading.ReadEnd.{ReadEnd}
 use Rattle.bng_desk.specs.Accounting.{Acknowledged, FormedRecord, RecordRequests, HearsRecords, Forms, IsStartOf, IsStopOf, SettlesRecords, acct_reading, acknowledged_most, records_stretch}
 use Rattle.bng_desk.specs.Coa.{AdmitsAll, CoaReplies, Requested, SettlesCoa, change_items, coa_reading, coa_sends, coa_stretch, has_places, repeats_of, requests_most, shard_answers}
 use Rattle.bng_desk.specs.Control.{Heeded, has_stop, control_stretch}
@@ -76,13 +76,13 @@ pub record Turn : Type 0 where
   pub moment : ℕ
   pub wall : ℕ
   pub control : List Heeded
-  pub control_end : Ended
+  pub control_end : ReadEnd
   pub acknowledged : List Acknowledged
-  pub acct_end : Ended
+  pub acct_end : ReadEnd
   pub requested : List Requested
-  pub coa_end : Option Ended
+  pub coa_end : Option ReadEnd
   pub answers : List Answered
-  pub auth_end : Option Ended
+  pub auth_end : Option ReadEnd
   pub readings : List DataReading
   pub timed : List QuestionNo
   pub round : Option Round
@@ -102,8 +102,8 @@ pub record Turn : Type 0 where
   pub reports : List Reports
 
 -- where it is read, a role is read so many times at most
-abbrev pub ReadsWhere : {X : Type 0} → ℕ → Bool → List X → Option Ended → Type 0
-ReadsWhere most true taken last = (ended : Ended) × (last ≡ Some ended) × EndsRight most (length taken) ended
+abbrev pub ReadsWhere : {X : Type 0} → ℕ → Bool → List X → Option ReadEnd → Type 0
+ReadsWhere most true taken last = (ended : ReadEnd) × (last ≡ Some ended) × EndsRight most (length taken) ended
 ReadsWhere most false taken last = (last ≡ None) × (taken ≡ [])
 
 -- Coa is read where requests for changes are served and nothing of a round that was not opened stands first. It is not read either while
@@ -193,7 +193,7 @@ abbrev pub loose_of : List Item → Option Round → List Loose
 loose_of items None = []
 loose_of items (Some round) = all_loose 0 (items ∷ []) round.whose
 
-abbrev pub answers_of : Option Round → List Answer
+abbrev pub answers_of : Option Round → List ChangeAnswer
 answers_of None = []
 answers_of (Some round) = shard_answers round.shards
 
@@ -283,11 +283,11 @@ data_stretch [] = plant_none
 data_stretch (r ∷ rs) = plant_joined (reading_stretch r) (data_stretch rs)
 
 -- what the reading of Coa adds, where it was read, and so of Auth
-abbrev pub asked_stretch : List Requested → Option Ended → PlantStretch
+abbrev pub asked_stretch : List Requested → Option ReadEnd → PlantStretch
 asked_stretch requested None = plant_none
 asked_stretch requested (Some ended) = reading_stretch (coa_reading requested ended)
 
-abbrev pub auth_stretch : List Answered → Option Ended → PlantStretch
+abbrev pub auth_stretch : List Answered → Option ReadEnd → PlantStretch
 auth_stretch answers None = plant_none
 auth_stretch answers (Some ended) = reading_stretch (auth_reading answers ended)
 
@@ -446,7 +446,7 @@ pub record GraceTurn : Type 0 where
   pub moment : ℕ
   pub wall : ℕ
   pub acknowledged : List Acknowledged
-  pub acct_end : Ended
+  pub acct_end : ReadEnd
   pub records : RecordRequests
   pub billing : BillingState
   pub record_deadline : Option ℕ

@@ -25,7 +25,7 @@ ghost use Rattle.bng_desk.specs.Turn.{Closes};
 
 use crate::acknowledgements::take_acknowledgements;
 use crate::interims::report_each;
-use crate::line::Line;
+use crate::line::CircuitLine;
 use crate::records::send_records;
 use crate::sums::plus_book;
 use crate::unanswered::unanswered;
@@ -59,7 +59,7 @@ pub(crate) const NO_STOPS: Stopped = Stopped {
 /// The lines of the circuits, what the Stops of all terms say that were formed so far, the records of terms, and of each shard which
 /// Interims were taken.
 pub(crate) struct Accounts {
-    pub(crate) lines: Vec<Line>,
+    pub(crate) lines: Vec<CircuitLine>,
     pub(crate) stopped: Stopped,
     pub(crate) billing: Billing,
     pub(crate) reports: Vec<Reports>,
@@ -85,7 +85,7 @@ impl Model for Accounts {
 }
 
 // Adds what a term that ended carried to a line, if it had the line's address.
-fn add_to(line: &mut Line, ended: &EndedTerm)
+fn add_to(line: &mut CircuitLine, ended: &EndedTerm)
     requires { TakesIn (stop_of ended.now ∷ []) line.old }
     ensures { line.new ≡ line_after (stop_of ended.now ∷ []) line.old }
 {
@@ -96,7 +96,7 @@ fn add_to(line: &mut Line, ended: &EndedTerm)
 }
 
 // Adds what a term that ended carried to the line with its address.
-fn add_carried(lines: &mut Vec<Line>, ended: &EndedTerm)
+fn add_carried(lines: &mut Vec<CircuitLine>, ended: &EndedTerm)
     requires { All (TakesIn (stop_of ended.now ∷ [])) lines.old.items }
     ensures { lines.new.items ≡ map (line_after (stop_of ended.now ∷ [])) lines.old.items }
 {
@@ -261,7 +261,7 @@ impl Accounts {
     }
 
     /// The provisioned circuits.
-    pub(crate) fn lines(&self) -> &[Line]
+    pub(crate) fn lines(&self) -> &[CircuitLine]
         ensures { result.now ≡ self.now.lines }
     {
         self.lines.as_slice()

@@ -6,7 +6,7 @@ ghost use Rattle.bng_desk.specs.Logins.{verdict_item};
 use crate::calls::receive;
 use crate::random::Draws;
 use bng_base::{Batch, Frame, Item, ItemKind, Peer, Received, Role};
-use bng_lane::Lane;
+use bng_lane::Questions;
 use bng_plant::Plant;
 use bng_verdict::QuestionNo;
 use std::mem;
@@ -39,7 +39,7 @@ pub(crate) fn verdict(
 // Adds the item of a datagram of Auth, if it is the reply to a question: the item has the frame, and an empty one takes its
 // place.
 fn add_reply(
-    lane: &mut Lane,
+    lane: &mut Questions,
     from: Peer,
     cut: bool,
     frame: &mut Frame,
@@ -66,7 +66,7 @@ fn add_reply(
 pub(crate) fn take_replies<P: Plant>(
     plant: &mut P,
     frame: &mut Frame,
-    lane: &mut Lane,
+    lane: &mut Questions,
     draws: &mut Draws,
     items: &mut Batch<Item>,
 ) -> bool

@@ -4,7 +4,7 @@ ghost use Rattle.bng_desk.specs.Report.{MayTell, stats_by};
 
 use crate::calls::{receive, send};
 use crate::flags::either;
-use crate::reading::Ended;
+use crate::reading::ReadEnd;
 use crate::stats::{Counted, put_stats};
 use bng_base::{Frame, Peer, Received, Role};
 use bng_plant::Plant;
@@ -15,7 +15,7 @@ const CONTROL_MOST: usize = 8;
 /// What the reading of Control came to.
 #[derive(Clone, Copy)]
 pub struct Heeding {
-    pub ended: Ended,
+    pub ended: ReadEnd,
     /// A `stop` was taken.
     pub stop: bool,
     /// Nothing was taken.
@@ -103,14 +103,14 @@ pub(crate) fn heed<P: Plant>(plant: &mut P, frame: &mut Frame, counted: &Counted
             }
             Received::Empty => {
                 return Heeding {
-                    ended: Ended::Dry,
+                    ended: ReadEnd::Dry,
                     stop,
                     idle,
                 };
             }
             Received::Failed => {
                 return Heeding {
-                    ended: Ended::Broken,
+                    ended: ReadEnd::Broken,
                     stop,
                     idle,
                 };
@@ -118,7 +118,7 @@ pub(crate) fn heed<P: Plant>(plant: &mut P, frame: &mut Frame, counted: &Counted
         }
     }
     Heeding {
-        ended: Ended::Full,
+        ended: ReadEnd::Full,
         stop,
         idle,
     }

@@ -5,12 +5,12 @@ ghost use Rattle.bng_desk.specs.Items.{ticks_of, ends_of, drawn_from, for_shard,
 ghost use Rattle.bng_desk.specs.Random.{draw};
 ghost use Rattle.bng_desk.specs.Taking.{AreInOrder};
 ghost use Rattle.bng_desk.specs.Turn.{deadline_in, wait_for};
-ghost use Rattle.bng_ppp.specs.LinkRelation.{earliest as first_of};
+ghost use Rattle.bng_ppp.specs.LcpRelation.{earliest as first_of};
 
 use crate::answers::verdict;
 use crate::random::Draws;
 use bng_base::{Batch, Frame, Item, ItemKind, NOBODY};
-use bng_lane::Lane;
+use bng_lane::Questions;
 use bng_shard::Shard;
 
 /// The milliseconds of a wait before which nothing is due.
@@ -75,7 +75,7 @@ pub(crate) fn add_ticks(shards: &[Shard], now: u64, draws: &mut Draws, items: &m
 
 /// Gives up the questions whose server was silent to the last, so many at most: each is an item without octets.
 pub(crate) fn add_timeouts(
-    lane: &mut Lane,
+    lane: &mut Questions,
     now: u64,
     most: usize,
     draws: &mut Draws,

@@ -18,7 +18,7 @@ use crate::lists::{Lists, move_all};
 use crate::random::Draws;
 use crate::settlement::Works;
 use bng_base::{Batch, Frame, Item, ItemKind};
-use bng_lane::Lane;
+use bng_lane::Questions;
 use bng_plant::Plant;
 use bng_steps::Rules;
 
@@ -36,7 +36,7 @@ fn take_if<P: Plant>(
     reads: bool,
     plant: &mut P,
     frame: &mut Frame,
-    lane: &mut Lane,
+    lane: &mut Questions,
     draws: &mut Draws,
     items: &mut Batch<Item>,
 ) -> bool
@@ -76,7 +76,7 @@ fn verdicts_in(items: &[Item]) -> usize
 /// What stands first among the items of a turn: whether Auth is read, which it is where nothing stays of the round before, how many
 /// verdicts stay, and whether no datagram of Coa was taken.
 #[derive(Clone, Copy)]
-pub(crate) struct Front {
+pub(crate) struct IntakeFront {
     pub(crate) reads: bool,
     pub(crate) verdicts: usize,
     pub(crate) quiet: bool,
@@ -90,7 +90,7 @@ pub(crate) fn begin<P: Plant>(
     plant: &mut P,
     named: Named,
     lists: &mut Lists,
-) -> Front
+) -> IntakeFront
     requires empty { lists.old.items.items ≡ [] }
     requires none { lists.old.repeats.items ≡ [] }
     requires room { 1024 ≤ lists.old.items.room }
@@ -123,7 +123,7 @@ pub(crate) fn begin<P: Plant>(
         &mut works.draws,
         lists,
     );
-    Front {
+    IntakeFront {
         reads,
         verdicts,
         quiet,
@@ -138,7 +138,7 @@ pub(crate) fn gather<P: Plant>(
     works: &mut Works,
     plant: &mut P,
     now: u64,
-    front: Front,
+    front: IntakeFront,
     items: &mut Batch<Item>,
 ) -> bool
     requires some { 1 ≤ length rules.now.access }

@@ -186,7 +186,7 @@ fn part(mut items: Vec<Item>, kept: &mut Vec<Item>) -> Vec<Item>
 
 /// A round as it came out: its record, and whether it was opened.
 #[derive(Drop)]
-pub(crate) struct Held {
+pub(crate) struct HeldRound {
     pub(crate) record: RoundRecord,
     pub(crate) is_opened: bool,
 }
@@ -200,7 +200,7 @@ pub(crate) fn hold<P: Plant>(
     plant: &mut P,
     named: Named,
     mut lists: Lists,
-) -> Held
+) -> HeldRound
     requires ready { IsReady rules.now named lists works.old }
     ensures round { Holds rules.now works.old.pool works.new.pool works.old.accounts works.new.accounts named lists.items.items (P.told plant.old) (P.told plant.new) works.old.shards.items works.new.shards.items works.old.drops works.new.drops works.old.tally works.new.tally result.record result.is_opened works.new.kept.items }
     ensures keeps { KeepsWorks named.moment works.old works.new }
@@ -210,7 +210,7 @@ pub(crate) fn hold<P: Plant>(
     let free = works.accounts.free();
     let shards = works.shards.as_mut_slice();
     if prepare_all(shards, alloc, count, free, &mut works.spare) {
-        return Held {
+        return HeldRound {
             record: opened(rules, works, plant, named, lists),
             is_opened: true,
         };
@@ -218,7 +218,7 @@ pub(crate) fn hold<P: Plant>(
     let items = mem::replace(&mut lists.items, Batch::new(alloc));
     let outside = part(items.into_vec(), &mut works.kept);
     count_refused(&mut works.drops, outside.len());
-    Held {
+    HeldRound {
         record: refused(alloc, works.shards.len(), named, lists, outside),
         is_opened: false,
     }

@@ -44,6 +44,6 @@ mod unanswered;
 pub use crate::desk::{Desk, DeskError, DeskState, Turned};
 pub use crate::drops::{CAUSES, Drops};
 pub use crate::laws::rounds_are_traced;
-pub use crate::line::Line;
-pub use crate::reading::Ended;
+pub use crate::line::CircuitLine;
+pub use crate::reading::ReadEnd;
 pub use crate::sums::Sums;

@@ -21,7 +21,7 @@ use crate::copying::{
     profiles_copied, rules_copied,
 };
 use crate::desk::DeskError;
-use crate::line::Line;
+use crate::line::CircuitLine;
 use crate::starts::start_all;
 use crate::sums::NO_TRAFFIC;
 use arrayvec::ArrayVec;
@@ -32,7 +32,7 @@ use bng_billing::{Billing, BillingRules};
 use bng_coa::{CoaDesk, CoaRules};
 use bng_config::Config;
 use bng_discovery::PortRules;
-use bng_lane::{Lane, LaneRules};
+use bng_lane::{Questions, LaneRules};
 use bng_pool::PlainPool;
 use bng_ppp::LinkRules;
 use bng_shard::Shard;
@@ -109,7 +109,7 @@ pub(crate) fn offers(
 }
 
 /// The lane of the questions at the RADIUS server, with none.
-pub(crate) fn lane(alloc: Global, config: &Config) -> Result<Lane, DeskError>
+pub(crate) fn lane(alloc: Global, config: &Config) -> Result<Questions, DeskError>
     ensures { IfOk result (λ l. IsNewLane (lane_rules config.now) l) }
 {
     let nas = NasRules {
@@ -122,7 +122,7 @@ pub(crate) fn lane(alloc: Global, config: &Config) -> Result<Lane, DeskError>
         secret: copied(&config.secret),
         tries: config.tries,
     };
-    match Lane::open(alloc, rules) {
+    match Questions::open(alloc, rules) {
         Ok(lane) => Ok(lane),
         Err(_) => Err(DeskError::OutOfMemory),
     }
@@ -179,7 +179,7 @@ pub(crate) fn billing_rules(config: &Config, wall: u64) -> BillingRules
 pub(crate) fn accounts(
     alloc: Global,
     rules: BillingRules,
-    lines: Vec<Line>,
+    lines: Vec<CircuitLine>,
     reports: Vec<Reports>,
     shards: &[Shard],
     now: u64,
@@ -230,10 +230,10 @@ pub(crate) fn notes(alloc: Global, shards: u16) -> Result<(Vec<Handed>, Vec<Repo
 }
 
 /// How the report names the circuits.
-pub(crate) fn lines(alloc: Global, circuits: &[Static]) -> Result<Vec<Line>, DeskError>
+pub(crate) fn lines(alloc: Global, circuits: &[Static]) -> Result<Vec<CircuitLine>, DeskError>
     ensures { IfOk result (λ lines. lines.items ≡ map line_of circuits.now) }
 {
-    let named = circuits.iter().map(|circuit| Line {
+    let named = circuits.iter().map(|circuit| CircuitLine {
         session: circuit.session,
         address: circuit.address,
         stopped: NO_TRAFFIC,

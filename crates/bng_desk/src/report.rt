@@ -6,7 +6,7 @@ ghost use Rattle.bng_desk.specs.Model.{traffic_by, traffic_under};
 ghost use Rattle.bng_desk.specs.Report.{report_text, traffic_line, worker_line, worker_lines, profile_line, profile_lines, static_line, static_lines, drop_line, drop_lines, quantities};
 
 use crate::drops::{CAUSES, name_of};
-use crate::line::Line;
+use crate::line::CircuitLine;
 use crate::sums::{Sums, sent_under};
 use arrayvec::ArrayVec;
 use bng_base::{Book, Ip4, Profile};
@@ -23,7 +23,7 @@ pub(crate) fn report(
     workers: &[Traffic],
     profiles: &[Profile],
     shards: &[Shard],
-    circuits: &[Line],
+    circuits: &[CircuitLine],
     traffic: &[Traffic],
 ) -> Result<Vec<u8>, AllocError>
     requires few_profiles { length profiles.now ≤ 16 }
@@ -126,7 +126,7 @@ fn push_profile_line(
 
 fn push_static_lines(
     text: &mut String,
-    circuits: &[Line],
+    circuits: &[CircuitLine],
     traffic: &[Traffic],
 ) -> Result<(), AllocError>
     requires { length traffic.now ≡ length circuits.now }

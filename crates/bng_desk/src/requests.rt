@@ -10,14 +10,14 @@ ghost use Rattle.bng_desk.specs.Taking.{AreInOrder};
 use crate::calls::send;
 use crate::random::Draws;
 use bng_base::{Frame, Role};
-use bng_lane::Lane;
+use bng_lane::Questions;
 use bng_plant::Plant;
 use bng_shard::Shard;
 use bng_steps::Handed;
 use bng_verdict::AuthAsk;
 
 // Sends a request, and notes and answers whether the outside did.
-fn send_one<P: Plant>(plant: &mut P, lane: &mut Lane, id: u8, request: &Frame) -> bool
+fn send_one<P: Plant>(plant: &mut P, lane: &mut Questions, id: u8, request: &Frame) -> bool
     requires size { length request.now.payload ≤ 4096 }
     ensures noted { lane.new ≡ noted id result lane.old }
     ensures told { ExtendsPlant (P.told plant.old) (P.told plant.new) (sending Role.Auth lane.old.client.auth_server request.now.payload result) }
@@ -28,7 +28,7 @@ fn send_one<P: Plant>(plant: &mut P, lane: &mut Lane, id: u8, request: &Frame) -
 }
 
 // Sends the requests that are due again, the longest due first.
-fn send_again<P: Plant>(plant: &mut P, lane: &mut Lane, now: u64)
+fn send_again<P: Plant>(plant: &mut P, lane: &mut Questions, now: u64)
     ensures { SendsAgain now (P.told plant.old) (P.told plant.new) lane.old lane.new }
 {
     // The frame of a request is prepared where it is declared: no room for one where none is due.
@@ -41,7 +41,7 @@ fn send_again<P: Plant>(plant: &mut P, lane: &mut Lane, now: u64)
 }
 
 // Asks a question. Its request stands in this call's frame alone: a call without a question keeps no memory for one.
-fn ask_one<P: Plant>(plant: &mut P, lane: &mut Lane, ask: &AuthAsk, draws: &mut Draws, now: u64)
+fn ask_one<P: Plant>(plant: &mut P, lane: &mut Questions, ask: &AuthAsk, draws: &mut Draws, now: u64)
     requires room { taken lane.old.client.auth.places < 256 }
     requires drawn { draws.old.drawn < 2 ^ 62 }
     ensures { AsksOne now ask.now (P.told plant.old) (P.told plant.new) lane.old lane.new draws.old draws.new }
@@ -56,7 +56,7 @@ fn ask_one<P: Plant>(plant: &mut P, lane: &mut Lane, ask: &AuthAsk, draws: &mut 
 #[inline(never)]
 fn ask_waiting<P: Plant>(
     plant: &mut P,
-    lane: &mut Lane,
+    lane: &mut Questions,
     shard: &Shard,
     handed: &mut Handed,
     draws: &mut Draws,
@@ -76,7 +76,7 @@ fn ask_waiting<P: Plant>(
 // The same, where a question is open.
 fn ask_all<P: Plant>(
     plant: &mut P,
-    lane: &mut Lane,
+    lane: &mut Questions,
     shard: &Shard,
     handed: &mut Handed,
     draws: &mut Draws,
@@ -95,7 +95,7 @@ fn ask_all<P: Plant>(
 /// order, as long as there is an identifier. What each shard handed out stands at its place of `handed`.
 pub(crate) fn send_requests<P: Plant>(
     plant: &mut P,
-    lane: &mut Lane,
+    lane: &mut Questions,
     shards: &[Shard],
     handed: &mut [Handed],
     draws: &mut Draws,

@@ -5,14 +5,14 @@ ghost use Rattle.bng_desk.specs.Settlement.{IsReady, KeepsWorks, Settles};
 
 use crate::accounts::Accounts;
 use crate::drops::Drops;
-use crate::holding::{Held, Named, hold, note};
+use crate::holding::{HeldRound, Named, hold, note};
 use crate::lists::Lists;
 use crate::random::Draws;
 use crate::replies::send_replies;
 use crate::requests::send_requests;
 use bng_base::{Batch, Book, Entry, Frame, Item};
 use bng_coa::CoaDesk;
-use bng_lane::Lane;
+use bng_lane::Questions;
 use bng_plant::{Plant, Trace};
 use bng_pool::PlainPool;
 use bng_shard::Shard;
@@ -30,7 +30,7 @@ pub(crate) struct Works {
     pub(crate) tally: Book,
     pub(crate) draws: Draws,
     pub(crate) drops: Drops,
-    pub(crate) lane: Lane,
+    pub(crate) lane: Questions,
     pub(crate) handed: Vec<Handed>,
     pub(crate) coa: CoaDesk,
     pub(crate) kept: Vec<Item>,
@@ -82,7 +82,7 @@ pub(crate) fn settle<P: Plant, T: Trace>(
     ensures keeps { KeepsWorks named.moment works.old works.new }
 {
     let repeats = mem::replace(&mut lists.repeats, Vec::new(alloc));
-    let Held { record, is_opened } = hold(alloc, rules, works, plant, named, lists);
+    let HeldRound { record, is_opened } = hold(alloc, rules, works, plant, named, lists);
     send_replies(
         plant,
         rules,

@@ -7,7 +7,7 @@ ghost use Rattle.bng_desk.specs.Taking.{CarriesWithin, LinesWithin, far};
 ghost use Rattle.bng_steps.specs.Protocol.{row_at};
 
 use crate::drops::CAUSES;
-use crate::line::Line;
+use crate::line::CircuitLine;
 use bng_base::{Book, Ip4, SessionNo};
 use bng_shard::Shard;
 use bng_steps::Traffic;
@@ -109,7 +109,7 @@ fn carried_now(shards: &[Shard], session: SessionNo, address: Ip4) -> Traffic
 }
 
 /// What a circuit carried: what the Stops with its address say, and what the shard of its number keeps for the term that has it.
-pub(crate) fn carried_on(shards: &[Shard], line: &Line) -> Traffic
+pub(crate) fn carried_on(shards: &[Shard], line: &CircuitLine) -> Traffic
     requires { CarriesWithin far shards.now line.now }
     ensures { result ≡ carried_on shards.now line.now }
 {
@@ -123,7 +123,7 @@ pub(crate) fn carried_on(shards: &[Shard], line: &Line) -> Traffic
 pub(crate) fn all_carried(
     alloc: Global,
     shards: &[Shard],
-    lines: &[Line],
+    lines: &[CircuitLine],
 ) -> Result<Vec<Traffic>, AllocError>
     requires low { LinesWithin far shards.now lines.now }
     ensures { IfOk result (λ traffic. traffic.items ≡ map (carried_on shards.now) lines.now) }

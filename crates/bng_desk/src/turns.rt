@@ -5,7 +5,7 @@ ghost use Rattle.bng_base.specs.Told.{TraceTold};
 ghost use Rattle.bng_desk.specs.Model.{state_of, left_of};
 ghost use Rattle.bng_desk.specs.Turn.{MakesTurn, MakesEnd, MakesGrace, DoesNothing, answer_if, deadline_in, wait_for, waiting_stretch};
 ghost use Rattle.bng_desk.specs.Turn.{told_after as number_after};
-ghost use Rattle.bng_ppp.specs.LinkRelation.{earliest as first_of};
+ghost use Rattle.bng_ppp.specs.LcpRelation.{earliest as first_of};
 
 use crate::control::heed;
 use crate::desk::{Desk, DeskState, GRACE_MOST, Turned};

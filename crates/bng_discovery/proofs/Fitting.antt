@@ -9,7 +9,7 @@ use Rattle.bng_pppoe_wire.specs.declared.kind.TheConstants.{SERVICE_NAME, AC_NAM
 use Rattle.bng_pppoe_wire.specs.View.{tag_of, tags_of}
 use Rattle.bng_pppoe_wire.proofs.TagSteps.{blank, text_more}
 use Rattle.bng_discovery.specs.declared.port.PortRules.{PortRules}
-use Rattle.bng_discovery.specs.declared.request.Request.{Request}
+use Rattle.bng_discovery.specs.declared.request.DiscoveryRequest.{DiscoveryRequest}
 use Rattle.bng_discovery.specs.declared.answers.ErrorTag.{ErrorTag}
 use Rattle.bng_discovery.specs.declared.answers.ErrorTag.TheVariants.{ServiceNameError, AcSystemError}
 use Rattle.bng_discovery.specs.Request.{first_tag, value_of, asked_service, cookie_of, IsRequest}
@@ -68,7 +68,7 @@ offer_fit port host ts h name cookie beside =
     (fit-append (front ++ repeated HOST_UNIQ ts) (tag AC_COOKIE (cookie_of port host) ∷ []) (fit-append front (repeated HOST_UNIQ ts) first (repeated_fits HOST_UNIQ ts h)) (made, tt))
     (repeated_fits RELAY_SESSION_ID ts h)
 
-pub offered_fit : (port : PortRules) (host : Mac) (ts : List PppoeTag) (r : Request) (cookie : List ℕ) → IsRequest r ts → AllByRecursion TagFits ts → length port.name.items ≤ 64
+pub offered_fit : (port : PortRules) (host : Mac) (ts : List PppoeTag) (r : DiscoveryRequest) (cookie : List ℕ) → IsRequest r ts → AllByRecursion TagFits ts → length port.name.items ≤ 64
     → cookie ≡ cookie_of port host → length cookie ≡ 16 → AllByRecursion TagFits (others r.service.now port.services.items) → AllByRecursion TagFits (offer_tags port host ts)
 offered_fit port host ts r cookie is h name made sixteen beside =
     offer_fit port host ts h name (omega (arith, ap length made, sixteen)) (subst (λ (s : List ℕ). AllByRecursion TagFits (others s port.services.items)) is.service beside)

@@ -9,7 +9,7 @@ use Rattle.bng_digest.specs.Authentication.{hmac_md5}
 use Rattle.bng_pppoe_wire.specs.declared.kind.TheConstants.{SERVICE_NAME, HOST_UNIQ, AC_COOKIE, RELAY_SESSION_ID}
 use Rattle.bng_pppoe_wire.specs.View.{tag_of}
 use Rattle.bng_discovery.specs.declared.port.PortRules.{PortRules}
-use Rattle.bng_discovery.specs.declared.request.Request.{Request}
+use Rattle.bng_discovery.specs.declared.request.DiscoveryRequest.{DiscoveryRequest}
 
 -- of several tags of a type the first counts
 abbrev pub first_tag : ℕ → List PppoeTag → Option PppoeTag
@@ -41,7 +41,7 @@ abbrev pub has_cookie : PortRules → Mac → List PppoeTag → Bool
 has_cookie port host tags = has_value (cookie_of port host) (first_tag AC_COOKIE tags)
 
 -- what was read of the tags
-pub record IsRequest (r : Request) (tags : List PppoeTag) : Type 0 where
+pub record IsRequest (r : DiscoveryRequest) (tags : List PppoeTag) : Type 0 where
   pub service : r.service.now ≡ asked_service tags
   pub host_uniq : option_map tag_of r.host_uniq ≡ first_tag HOST_UNIQ tags
   pub cookie : option_map tag_of r.cookie ≡ first_tag AC_COOKIE tags

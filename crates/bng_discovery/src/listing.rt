@@ -10,7 +10,7 @@ ghost use Rattle.bng_discovery.specs.Reply.{tag, others, offer_tags, confirm_tag
 
 use crate::answers::ErrorTag;
 use crate::port::PortRules;
-use crate::request::Request;
+use crate::request::DiscoveryRequest;
 use arrayvec::ArrayVec;
 use bng_pppoe_wire::Tag;
 use bng_pppoe_wire::kind::{AC_COOKIE, AC_NAME, AC_SYSTEM_ERROR, SERVICE_NAME, SERVICE_NAME_ERROR};
@@ -29,7 +29,7 @@ fn push_some<'a>(list: &mut TagList<'a>, tag: Option<Tag<'a>>)
 }
 
 // what a PADS has of its PADR unmodified, after its other tags
-fn push_repeated<'a>(list: &mut TagList<'a>, request: &Request<'a>)
+fn push_repeated<'a>(list: &mut TagList<'a>, request: &DiscoveryRequest<'a>)
     requires { array_vec_len list.old ≤ 2 }
     ensures { tags_of list.new.items ≡ tags_of list.old.items ++ option_to_list (option_map tag_of request.now.host_uniq) ++ option_to_list (option_map tag_of request.now.relay) }
 {
@@ -38,7 +38,7 @@ fn push_repeated<'a>(list: &mut TagList<'a>, request: &Request<'a>)
 }
 
 // the tag that names the service that was asked for
-fn asked<'a>(request: &Request<'a>) -> Tag<'a>
+fn asked<'a>(request: &DiscoveryRequest<'a>) -> Tag<'a>
     ensures { tag_of result ≡ tag SERVICE_NAME request.now.service.now }
 {
     Tag {
@@ -66,7 +66,7 @@ fn push_others<'a>(list: &mut TagList<'a>, port: &'a PortRules, service: &[u8])
 
 /// The tags of a PADO with this AC-Cookie.
 pub(crate) fn offer_list<'a>(
-    request: &Request<'a>,
+    request: &DiscoveryRequest<'a>,
     port: &'a PortRules,
     cookie: &'a [u8; 16],
 ) -> TagList<'a>
@@ -92,7 +92,7 @@ pub(crate) fn offer_list<'a>(
 }
 
 /// The tags of a PADS.
-pub(crate) fn confirm_list<'a>(request: &Request<'a>) -> TagList<'a>
+pub(crate) fn confirm_list<'a>(request: &DiscoveryRequest<'a>) -> TagList<'a>
     ensures { (ts : List PppoeTag) → IsRequest request.now ts → tags_of result.items ≡ confirm_tags ts }
 {
     let mut list = ArrayVec::new();
@@ -111,7 +111,7 @@ fn error_kind_of(error: ErrorTag) -> u16
 }
 
 /// The tags of a PADS that says why there is no session.
-pub(crate) fn refuse_list<'a>(request: &Request<'a>, error: ErrorTag) -> TagList<'a>
+pub(crate) fn refuse_list<'a>(request: &DiscoveryRequest<'a>, error: ErrorTag) -> TagList<'a>
     ensures { (ts : List PppoeTag) → IsRequest request.now ts → tags_of result.items ≡ refuse_tags error ts }
 {
     let mut list = ArrayVec::new();

@@ -9,7 +9,7 @@ use bng_pppoe_wire::{Pppoe, Tag, tags};
 
 /// What counts of the tags of a request.
 #[derive(Clone, Copy)]
-pub(crate) struct Request<'a> {
+pub(crate) struct DiscoveryRequest<'a> {
     /// The service that is asked for.
     pub(crate) service: &'a [u8],
     pub(crate) host_uniq: Option<Tag<'a>>,
@@ -41,13 +41,13 @@ fn value<'a>(tag: Option<Tag<'a>>) -> &'a [u8]
 }
 
 /// What counts of the tags of a frame.
-pub(crate) fn request_of<'a>(frame: &Pppoe<'a>) -> Request<'a>
+pub(crate) fn request_of<'a>(frame: &Pppoe<'a>) -> DiscoveryRequest<'a>
     requires { (ts : List PppoeTag) × AreTags ts frame.now.payload.now × (length ts ≤ 64) }
     ensures { (ts : List PppoeTag) → AreTags ts frame.now.payload.now → IsRequest result ts }
 {
     let found = tags(frame);
     let found = found.as_slice();
-    Request {
+    DiscoveryRequest {
         service: value(first(found, SERVICE_NAME)),
         host_uniq: first(found, HOST_UNIQ),
         cookie: first(found, AC_COOKIE),

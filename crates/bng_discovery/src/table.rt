@@ -14,7 +14,7 @@ use crate::cookie::cookie_for;
 use crate::listing::offer_list;
 use crate::port::PortRules;
 use crate::reply::is_short;
-use crate::request::{Request, request_of};
+use crate::request::{DiscoveryRequest, request_of};
 use arrayvec::ArrayVec;
 use bng_base::Mac;
 use bng_pppoe_wire::code::{PADI, PADR, PADT};
@@ -88,7 +88,7 @@ fn answer_padi(frame: &Pppoe<'_>, port: &PortRules) -> Answer
 }
 
 fn answer_padr(
-    request: &Request<'_>,
+    request: &DiscoveryRequest<'_>,
     host: Mac,
     port: &PortRules,
     known: bool,

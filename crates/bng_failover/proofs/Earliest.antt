@@ -3,7 +3,7 @@ use Rattle.std.proofs.Common.{◌≡◌, ℕ, ◌+◌, ◌≤◌, ◌<◌, Bool,
 use Rattle.std.specs.Prelude.{slice_get}
 use Rattle.std.proofs.lemmas.Bool.{cases_lt}
 use Rattle.std.proofs.lemmas.Bool.Decides.{leb_tells}
-use Rattle.bng_rad_client.specs.declared.due.Due.{Due}
+use Rattle.bng_rad_client.specs.declared.due.LastSend.{LastSend}
 use Rattle.bng_rad_client.specs.declared.due.Sought.TheVariants.{Any}
 use Rattle.bng_rad_client.specs.declared.pending.Pending.{Pending}
 use Rattle.bng_rad_client.specs.Due.{is_sought, IsOldestBelow, NoneBelow, IsOldestOrNone}
@@ -38,7 +38,7 @@ module _ (servers : List Server) (n : ℕ) (s : Server) (is : slice_get servers 
         (cases_lt at n);
   }
 
-  module _ (d : Due) (oldest : IsOldestBelow (is_sought Any 0) s.requests.places 256 d) where
+  module _ (d : LastSend) (oldest : IsOldestBelow (is_sought Any 0) s.requests.places 256 d) where
     mine : (at id : ℕ) (r : Pending) → at < n + 1 → id < 256 → n ≤ at → request_at servers at id ≡ Some r → d.sent_at ≤ r.sent_at
     mine at id r here below from held = (oldest.first id r below (at_n at id r here from held) refl).0
 
@@ -98,6 +98,6 @@ module _ (servers : List Server) (n : ℕ) (s : Server) (is : slice_get servers 
   nothing None h = h
   nothing (Some moment) h = h
 
-  pub earlier_more : (best : Option ℕ) (other : Option Due) → IsEarliest servers n best → IsOldestOrNone (is_sought Any 0) s.requests.places 256 other → IsEarliest servers (n + 1) (earlier best other)
+  pub earlier_more : (best : Option ℕ) (other : Option LastSend) → IsEarliest servers n best → IsOldestOrNone (is_sought Any 0) s.requests.places 256 other → IsEarliest servers (n + 1) (earlier best other)
   earlier_more best None so_far h = nothing best (skipped best h so_far)
   earlier_more best (Some d) so_far h = taken_in d h best so_far

@@ -3,8 +3,8 @@ use Rattle.std.proofs.Common.{◌≡◌, ℕ, List, Option, Some, None, refl, sy
 use Rattle.std.specs.Prelude.{slice_set}
 use Rattle.bng_base.specs.declared.address.Peer.{Peer}
 use Rattle.bng_rad_client.specs.declared.pending.Pending.{Pending}
-use Rattle.bng_rad_client.specs.declared.replies.Ignored.{Ignored as Cause}
-use Rattle.bng_rad_client.specs.declared.replies.Ignored.TheVariants.{Stranger, Malformed, NotPending, WrongDigest}
+use Rattle.bng_rad_client.specs.declared.replies.IgnoredReply.{IgnoredReply as Cause}
+use Rattle.bng_rad_client.specs.declared.replies.IgnoredReply.TheVariants.{Stranger, Malformed, NotPending, WrongDigest}
 use Rattle.bng_rad_client.specs.declared.replies.Replied.{Replied}
 use Rattle.bng_rad_client.specs.declared.replies.Replied.TheVariants.{Matched, Ignored}
 use Rattle.bng_rad_client.specs.declared.rules.Lane.{Lane}

@@ -3,7 +3,7 @@ use Rattle.std.proofs.Common.{◌≡◌, ℕ, List, Option, Some, None, refl, sy
 use Rattle.std.specs.Prelude.{length}
 use Rattle.bng_base.specs.Packet.{Packet as Bytes}
 use Rattle.bng_base.specs.declared.address.Peer.{Peer}
-use Rattle.bng_rad_client.specs.declared.due.Due.{Due}
+use Rattle.bng_rad_client.specs.declared.due.LastSend.{LastSend}
 use Rattle.bng_rad_client.specs.declared.pending.Pending.{Pending}
 use Rattle.bng_rad_client.specs.declared.rules.Lane.{Lane}
 use Rattle.bng_rad_client.specs.declared.rules.Owner.{Owner}
@@ -14,7 +14,7 @@ use Rattle.bng_failover.specs.Asking.{IsAskedAt}
 use Rattle.bng_failover.specs.Due.{IsFirstDue, IsRepeatedAt, Goes, goes_to, IsSent, HasTimedOut, IsGivenUp}
 use Rattle.bng_failover.specs.Places.{IsWithdrawnAt, IsHandedOver, GoesTo}
 
-module _ (lane : Lane) (old new : List Server) (secret : List ℕ) (tries now at : ℕ) (due : Due) (first : IsFirstDue lane old tries now at due) (next : Option ℕ)
+module _ (lane : Lane) (old new : List Server) (secret : List ℕ) (tries now at : ℕ) (due : LastSend) (first : IsFirstDue lane old tries now at due) (next : Option ℕ)
     (told : GoesTo lane old tries at due.id next) (peer : Peer) (frame : Bytes) where
   abbrev Sends : Type 0
   Sends = (x : Owner) × IsSent lane old new secret tries now x peer frame
@@ -50,7 +50,7 @@ module _ (lane : Lane) (old new : List Server) (secret : List ℕ) (tries now at
   pub hands_on : (place : ℕ) → next ≡ Some place → IsHandedOver old new at due.id place secret now peer frame → Sends
   hands_on place e h = made (subst (λ (o : Option ℕ). Goes o old new at first.server due.id first.oldest.request secret now peer frame) (sym e) (handed_to place h))
 
-module _ (old new : List Server) (tries now at : ℕ) (due : Due) (first : HasTimedOut old tries now at due) where
+module _ (old new : List Server) (tries now at : ℕ) (due : LastSend) (first : HasTimedOut old tries now at due) where
   was_held : (r : Option Pending) → IsWithdrawnAt old new at due.id r → r ≡ Some first.oldest.request
   was_held r h =
       let both : Some h.server ≡ Some first.server = sym h.is ∙ first.is in

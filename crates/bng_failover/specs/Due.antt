@@ -2,7 +2,7 @@
 use Rattle.std.specs.Prelude.{◌≡◌, ◌+◌, ◌-◌, ◌^◌, ◌≤◌, ◌<◌, min, ℕ, nat_lt, nat_le, if◌then◌else◌, List, Option, Some, None, length, slice_get, unwrap_or}
 use Rattle.bng_base.specs.Packet.{Packet as Bytes}
 use Rattle.bng_base.specs.declared.address.Peer.{Peer}
-use Rattle.bng_rad_client.specs.declared.due.Due.{Due}
+use Rattle.bng_rad_client.specs.declared.due.LastSend.{LastSend}
 use Rattle.bng_rad_client.specs.declared.due.Sought.{Sought}
 use Rattle.bng_rad_client.specs.declared.due.Sought.TheVariants.{Timeout, Resend, Endless}
 use Rattle.bng_rad_client.specs.declared.pending.Pending.{Pending}
@@ -42,7 +42,7 @@ abbrev pub NoneDue : Lane → List Server → (tries now : ℕ) → Type 0
 NoneDue lane servers tries now = NoneDueBelow lane servers tries now (length servers)
 
 -- this server is the first of which a request is due to be sent, and this request is the one of it that was sent first
-pub record IsFirstDue (lane : Lane) (servers : List Server) (tries now at : ℕ) (due : Due) : Type 0 where
+pub record IsFirstDue (lane : Lane) (servers : List Server) (tries now at : ℕ) (due : LastSend) : Type 0 where
   pub server : Server
   pub is : slice_get servers at ≡ Some server
   pub oldest : IsOldestBelow (is_sought (sought_of lane (length servers) tries at) now) server.requests.places 256 due
@@ -65,7 +65,7 @@ Goes (Some next) old new at server id r secret now peer frame = IsAskedAt (witho
 -- the request of an owner that is due first is sent to this server
 pub record IsSent (lane : Lane) (old new : List Server) (secret : List ℕ) (tries now : ℕ) (owner : Owner) (peer : Peer) (frame : Bytes) : Type 0 where
   pub at : ℕ
-  pub due : Due
+  pub due : LastSend
   pub first : IsFirstDue lane old tries now at due
   pub owner_is : owner ≡ first.oldest.request.owner
   pub goes : Goes (goes_to lane (length old) tries at first.oldest.request) old new at first.server due.id first.oldest.request secret now peer frame
@@ -91,7 +91,7 @@ NoneGivenUp servers tries now =
     (at : ℕ) (s : Server) → at + 1 ≡ length servers → slice_get servers at ≡ Some s → NoneBelow (is_sought (Timeout tries) now) s.requests.places 256
 
 -- this is the last server, and of those requests of it the one that was sent first
-pub record HasTimedOut (servers : List Server) (tries now at : ℕ) (due : Due) : Type 0 where
+pub record HasTimedOut (servers : List Server) (tries now at : ℕ) (due : LastSend) : Type 0 where
   pub last : at + 1 ≡ length servers
   pub server : Server
   pub is : slice_get servers at ≡ Some server
@@ -100,7 +100,7 @@ pub record HasTimedOut (servers : List Server) (tries now at : ℕ) (due : Due) 
 -- the request of an owner is out no longer, which was sent first of those
 pub record IsGivenUp (old new : List Server) (tries now : ℕ) (owner : Owner) : Type 0 where
   pub at : ℕ
-  pub due : Due
+  pub due : LastSend
   pub first : HasTimedOut old tries now at due
   pub owner_is : owner ≡ first.oldest.request.owner
   pub servers : new ≡ without old at first.server due.id
@@ -125,7 +125,7 @@ IsEarliest servers place None = NoneInHandBelow servers place
 IsEarliest servers place (Some sent_at) = WasSentFirst servers place sent_at
 
 -- the earlier of two moments, if there is one
-abbrev pub earlier : Option ℕ → Option Due → Option ℕ
+abbrev pub earlier : Option ℕ → Option LastSend → Option ℕ
 earlier best None = best
 earlier None (Some d) = Some d.sent_at
 earlier (Some moment) (Some d) = if nat_le moment d.sent_at then Some moment else Some d.sent_at

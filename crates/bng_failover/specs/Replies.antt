@@ -4,8 +4,8 @@ use Rattle.bng_base.specs.declared.address.Peer.{Peer}
 use Rattle.bng_radius_wire.specs.Grammar.{Packet}
 use Rattle.bng_radius_wire.specs.Digests.{IsSigned}
 use Rattle.bng_rad_client.specs.declared.pending.Pending.{Pending}
-use Rattle.bng_rad_client.specs.declared.replies.Ignored.{Ignored as Cause}
-use Rattle.bng_rad_client.specs.declared.replies.Ignored.TheVariants.{Stranger, Malformed, NotPending, WrongDigest}
+use Rattle.bng_rad_client.specs.declared.replies.IgnoredReply.{IgnoredReply as Cause}
+use Rattle.bng_rad_client.specs.declared.replies.IgnoredReply.TheVariants.{Stranger, Malformed, NotPending, WrongDigest}
 use Rattle.bng_rad_client.specs.declared.replies.Replied.{Replied}
 use Rattle.bng_rad_client.specs.declared.replies.Replied.TheVariants.{Matched, Ignored}
 use Rattle.bng_rad_client.specs.declared.rules.Lane.{Lane}

@@ -7,13 +7,13 @@ ghost use Rattle.bng_failover.specs.Replies.{IsStranger, IsSender};
 
 use crate::server::Server;
 use bng_base::Peer;
-use bng_rad_client::{Due, Lane, Sought};
+use bng_rad_client::{LastSend, Lane, Sought};
 
 /// A request that is due, and the place of the server that holds it.
 #[derive(Clone, Copy)]
 pub(crate) struct DueAt {
     pub at: usize,
-    pub due: Due,
+    pub due: LastSend,
 }
 
 // Which requests of the server at this place are sent when they are due.
@@ -101,7 +101,7 @@ pub(crate) fn place_of(servers: &[Server], from: Peer) -> Option<usize>
 }
 
 // The earlier of two moments, if there is one.
-fn earlier(best: Option<u64>, other: Option<Due>) -> Option<u64>
+fn earlier(best: Option<u64>, other: Option<LastSend>) -> Option<u64>
     ensures { result ≡ earlier best other }
 {
     let Some(due) = other else {

@@ -21,5 +21,5 @@ pub use crate::laws::{
     all_sends_say_what_was_asked, each_is_answered_once, each_send_says_the_same,
     each_server_is_sent_its_tries, replies_have_their_codes,
 };
-pub use crate::peers::Peers;
+pub use crate::peers::ServerPeers;
 pub use crate::rules::{DueSend, FailAsked, FailoverRules};

@@ -8,12 +8,12 @@ pub const MOST: usize = 4;
 
 /// The servers of a lane in their order, four at most. A contract sees their list.
 #[derive(Drop)]
-pub struct Peers {
+pub struct ServerPeers {
     places: [Peer; 4],
     used: usize,
 }
 
-impl Model for Peers {
+impl Model for ServerPeers {
     ghost use Rattle.std.specs.Prelude.{◌≤◌, List, take};
     ghost use Rattle.bng_base.specs.declared.address.Peer.{Peer};
 
@@ -24,12 +24,12 @@ impl Model for Peers {
     ghost invariant = { λ p. p.used ≤ 4 };
 }
 
-impl Peers {
+impl ServerPeers {
     /// No server.
-    pub fn new() -> Peers
+    pub fn new() -> ServerPeers
         ensures { result ≡ [] }
     {
-        Peers {
+        ServerPeers {
             places: [NOBODY; 4],
             used: 0,
         }

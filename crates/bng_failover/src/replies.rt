@@ -4,7 +4,7 @@ ghost use Rattle.bng_rad_client.specs.Replies.{takes, Answers, WhenIgnored, When
 ghost use Rattle.bng_failover.specs.Replies.{TakesOut};
 
 use bng_base::Peer;
-use bng_rad_client::{Ignored, Lane, Replied, Requests};
+use bng_rad_client::{IgnoredReply, Lane, Replied, Requests};
 use bng_radius_wire::{Checked, check_reply, codes, read};
 
 // Whether a code answers requests of the lane.
@@ -48,17 +48,17 @@ pub(crate) fn reply(
 {
     let id = match read(bytes) {
         Ok(packet) if takes(lane, packet.code) => packet.id,
-        _ => return Replied::Ignored(Ignored::Malformed),
+        _ => return Replied::Ignored(IgnoredReply::Malformed),
     };
     let authenticator = match requests.get(id) {
         Some(request) => authenticator_of(request.octets.as_slice()),
-        None => return Replied::Ignored(Ignored::NotPending),
+        None => return Replied::Ignored(IgnoredReply::NotPending),
     };
     match check_reply(bytes, &authenticator, secret) {
-        Checked::WrongDigest => Replied::Ignored(Ignored::WrongDigest),
+        Checked::WrongDigest => Replied::Ignored(IgnoredReply::WrongDigest),
         Checked::Right => match requests.take(id) {
             Some(request) => Replied::Matched(request.owner),
-            None => Replied::Ignored(Ignored::NotPending),
+            None => Replied::Ignored(IgnoredReply::NotPending),
         },
     }
 }

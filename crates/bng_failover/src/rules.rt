@@ -1,4 +1,4 @@
-use crate::peers::Peers;
+use crate::peers::ServerPeers;
 use arrayvec::ArrayVec;
 use bng_base::Peer;
 use bng_rad_client::{Lane, Owner};
@@ -7,8 +7,8 @@ use bng_rad_client::{Lane, Owner};
 /// server before it goes to the next.
 #[derive(Drop)]
 pub struct FailoverRules {
-    pub auth: Peers,
-    pub acct: Peers,
+    pub auth: ServerPeers,
+    pub acct: ServerPeers,
     pub secret: ArrayVec<u8, 64>,
     pub tries: u8,
 }

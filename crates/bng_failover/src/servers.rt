@@ -14,7 +14,7 @@ use crate::place;
 use crate::rules::FailAsked;
 use crate::server::{Server, opened};
 use bng_base::{Frame, Peer};
-use bng_rad_client::{INTERVAL, Ignored, Lane, Owner, Replied};
+use bng_rad_client::{INTERVAL, IgnoredReply, Lane, Owner, Replied};
 use std::alloc::{AllocError, Global};
 use std::marker::Model;
 
@@ -93,7 +93,7 @@ impl Servers {
         ensures owners { Leaves (answered result) self.old self.new }
     {
         let Some(at) = place_of(self.list.as_slice(), from) else {
-            return Replied::Ignored(Ignored::Stranger);
+            return Replied::Ignored(IgnoredReply::Stranger);
         };
         let replied = place::hear(&mut self.list, at, lane, secret, bytes);
         if let Replied::Matched(_) = replied {

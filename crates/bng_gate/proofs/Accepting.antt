@@ -10,12 +10,12 @@ use Rattle.bng_base.specs.declared.circuit.Circuit.TheVariants.{Pppoe, L2tp}
 use Rattle.bng_base.specs.declared.item.Entry.{Entry}
 use Rattle.bng_base.specs.declared.item.OutRecord.{OutRecord}
 use Rattle.bng_engine.specs.Views.{ShardView}
-use Rattle.bng_ppp.specs.PppState.{is_accepted}
+use Rattle.bng_ppp.specs.LinkState.{is_accepted}
 use Rattle.bng_sessions.specs.Sessions.{value_at}
-use Rattle.bng_steps.specs.Made.{Question}
+use Rattle.bng_steps.specs.LinkService.{Question}
 use Rattle.bng_steps.specs.declared.rules.Rules.{Rules}
 use Rattle.bng_steps.specs.declared.session.Service.{Service}
-use Rattle.bng_steps.specs.declared.session.Service.TheVariants.{Provisioned, Discovered}
+use Rattle.bng_steps.specs.declared.session.Service.TheVariants.{Provisioned, Linked}
 use Rattle.bng_steps.specs.declared.session.Session.{Session}
 use Rattle.bng_steps.specs.Deed.{Deed}
 use Rattle.bng_steps.specs.Granting.{GivesYes, IsGrantedOn, IsGrantedOver, IsSound, IsYesOn, IsYesOver, accepted_ask_at, accepted_in}
@@ -101,7 +101,7 @@ own_number s n b own e =
 -- where no session has asked, none is accepted
 accepted_last : (v : Service) (q : Question) → accepted_in v ≡ Some q → last_in v ≡ Some q
 accepted_last (Provisioned l) q e = absurd (none-some q e)
-accepted_last (Discovered m) q e = if_some (is_accepted m.link.auth) m.question q e
+accepted_last (Linked m) q e = if_some (is_accepted m.link.auth) m.question q e
 
 none_accepted : (s : State) (n ask : ℕ) → last_asking_at s n ≡ None → accepted_ask_at s n ≡ Some ask → ⊥
 none_accepted s n ask silent e =

@@ -7,9 +7,9 @@ use Rattle.std.proofs.lemmas.Bool.Decides.{Decides-eqb}
 use Rattle.std.proofs.lemmas.Option.{same_Some, none-some}
 use Rattle.bng_base.specs.declared.address.Peer.{Peer}
 use Rattle.bng_base.specs.Chain.{Chain}
-use Rattle.bng_coa.specs.declared.request.Request.{Request}
-use Rattle.bng_coa.specs.declared.request.Stage.{Stage}
-use Rattle.bng_coa.specs.declared.request.Stage.TheVariants.{InHand, Answered}
+use Rattle.bng_coa.specs.declared.request.ChangeRequest.{ChangeRequest}
+use Rattle.bng_coa.specs.declared.request.RequestStage.{RequestStage}
+use Rattle.bng_coa.specs.declared.request.RequestStage.TheVariants.{InHand, Answered}
 use Rattle.bng_coa.specs.declared.rules.Admitted.{Admitted}
 use Rattle.bng_coa.specs.declared.rules.Admitted.TheVariants.{New, Repeat, InHand as StillInHand, Ignored}
 use Rattle.bng_coa.specs.Admission.{Keeps}
@@ -26,7 +26,7 @@ use Rattle.bng_gate.proofs.Places.{chain_end}
 
 -- no request is in hand
 abbrev pub NoneInHand : CoaState → Type 0
-NoneInHand c = AllByRecursion (λ (r : Request). is_in_hand r ≡ false) c.requests
+NoneInHand c = AllByRecursion (λ (r : ChangeRequest). is_in_hand r ≡ false) c.requests
 
 -- Lists ---------------------------------------------------------------------------------------------------------------------------
 
@@ -50,7 +50,7 @@ any_parted {X} P test (x ∷ xs) (inl here) = by (test x) refl
     by false e = inr (inl (here, e))
 any_parted P test (x ∷ xs) (inr rest) = elim (any_parted P test xs rest) [ inl h ↦ inl (inr h) | inr h ↦ inr (inr h) ]
 
-any_set : (P : Request → Type 0) (xs : List Request) (i : ℕ) (x y : Request) → slice_get xs i ≡ Some x → (P x → ⊥) → AnyOf P xs → AnyOf P (slice_set xs i y)
+any_set : (P : ChangeRequest → Type 0) (xs : List ChangeRequest) (i : ℕ) (x y : ChangeRequest) → slice_get xs i ≡ Some x → (P x → ⊥) → AnyOf P xs → AnyOf P (slice_set xs i y)
 any_set P [] i x y there never h = absurd h
 any_set P (z ∷ xs) zero x y there never (inl here) = absurd (never (subst P (same_Some z x there) here))
 any_set P (z ∷ xs) zero x y there never (inr rest) = inr rest
@@ -66,28 +66,28 @@ within (y ∷ xs) (suc i) x e = omega (arith, within xs i x e)
 
 module _ (secret : List ℕ) (calls : List CoaCall) (j : ℕ) where
   -- it is in hand before the call of a place
-  abbrev FromAt : ℕ → Peer → Stage → Type 0
+  abbrev FromAt : ℕ → Peer → RequestStage → Type 0
   FromAt k from (InHand n packet) = (s : Source secret calls k n from packet) × (s.place ≡ j)
   FromAt k from (Answered reply) = ⊥
 
-  abbrev From : ℕ → Request → Type 0
+  abbrev From : ℕ → ChangeRequest → Type 0
   From k r = FromAt k r.key.from r.stage
 
-  later_from : (k : ℕ) (from : Peer) (s : Stage) → ((n : ℕ) → is_numbered_at n s ≡ true → IsNone secret calls k n) → FromAt k from s → FromAt (k + 1) from s
+  later_from : (k : ℕ) (from : Peer) (s : RequestStage) → ((n : ℕ) → is_numbered_at n s ≡ true → IsNone secret calls k n) → FromAt k from s → FromAt (k + 1) from s
   later_from k from (InHand n packet) none h =
       let none_here = none n ((Decides-eqb n n).1 refl) in
       (later secret calls k n from packet none_here h.0, later_place secret calls k n from packet none_here h.0 ∙ h.1)
   later_from k from (Answered reply) none h = absurd h
 
-  held_from : (k passed : ℕ) (from : Peer) (s : Stage) → FromAt k from s → is_held_at passed s ≡ true
+  held_from : (k passed : ℕ) (from : Peer) (s : RequestStage) → FromAt k from s → is_held_at passed s ≡ true
   held_from k passed from (InHand n packet) h = refl
   held_from k passed from (Answered reply) h = absurd h
 
-  asked_from : (k : ℕ) (from : Peer) (s : Stage) → is_answered_at s ≡ true → FromAt k from s → ⊥
+  asked_from : (k : ℕ) (from : Peer) (s : RequestStage) → is_answered_at s ≡ true → FromAt k from s → ⊥
   asked_from k from (InHand n packet) is h = absurd (let no : false ≡ true = is in cc)
   asked_from k from (Answered reply) is h = h
 
-  hand_from : (k : ℕ) (from : Peer) (s : Stage) → FromAt k from s → is_in_hand_at s ≡ false → ⊥
+  hand_from : (k : ℕ) (from : Peer) (s : RequestStage) → FromAt k from s → is_in_hand_at s ≡ false → ⊥
   hand_from k from (InHand n packet) h is = absurd (let no : true ≡ false = is in cc)
   hand_from k from (Answered reply) h is = h
 
@@ -126,10 +126,10 @@ module _ (secret : List ℕ) (calls : List CoaCall) (j : ℕ) where
       left other =
           let settled = h.4.settled in
           let x = settled.request in
-          let y : Request = record x { stage = Answered h.3.payload } in
-          let kept = any_set (λ (r : Request). From k r × (is_numbered g.answer.ask r ≡ false)) c.requests settled.place x y settled.stands (λ f. clash (is_numbered g.answer.ask x) settled.numbered f.1) other in
+          let y : ChangeRequest = record x { stage = Answered h.3.payload } in
+          let kept = any_set (λ (r : ChangeRequest). From k r × (is_numbered g.answer.ask r ≡ false)) c.requests settled.place x y settled.stands (λ f. clash (is_numbered g.answer.ask x) settled.numbered f.1) other in
           subst (AnyOf (From (k + 1))) (sym settled.list)
-          (any_weaker (λ (r : Request). From k r × (is_numbered g.answer.ask r ≡ false)) (From (k + 1))
+          (any_weaker (λ (r : ChangeRequest). From k r × (is_numbered g.answer.ask r ≡ false)) (From (k + 1))
           (λ r f. later_from k r.key.from r.stage
           (λ n here z t at sends same.
           let e : g.answer.ask ≡ n = ap (λ (w : Given). w.answer.ask) (same_given secret calls k g z there at) ∙ same in
@@ -141,13 +141,13 @@ module _ (secret : List ℕ) (calls : List CoaCall) (j : ℕ) where
       answered its =
           let settled = h.4.settled in
           let x = settled.request in
-          let one = any_place (λ (r : Request). From k r × (is_numbered g.answer.ask r ≡ true)) c.requests its in
+          let one = any_place (λ (r : ChangeRequest). From k r × (is_numbered g.answer.ask r ≡ true)) c.requests its in
           let mine : h.0 ≡ one.1 = one_found g.answer.ask c.requests one.0 h.0 one.1 stands.apart.numbers h.1 one.2 one.3.1 in
           let its_own : h.0 ≡ x = one_found g.answer.ask c.requests settled.place h.0 x stands.apart.numbers h.1 settled.stands settled.numbered in
           let from : From k x = subst (From k) (sym mine ∙ its_own) one.3.0 in
           by x.stage refl from
         where
-          by : (t : Stage) → h.4.settled.request.stage ≡ t → FromAt k h.4.settled.request.key.from t → HasReply secret calls j
+          by : (t : RequestStage) → h.4.settled.request.stage ≡ t → FromAt k h.4.settled.request.key.from t → HasReply secret calls j
           by (InHand n packet) e from = record {
             later = k;
             given = g;
@@ -197,7 +197,7 @@ module _ (secret : List ℕ) (calls : List CoaCall) (j : ℕ) where
       where
         by : Then (length calls) c' → HasReply secret calls j
         by (inl before) = absurd (omega (arith, before, within calls j (Taken moment wall q) at_j))
-        by (inr (inl any)) = absurd (any_all (From (length calls)) (λ (r : Request). is_in_hand r ≡ false) ⊥ (λ r f is. hand_from (length calls) r.key.from r.stage f is) c'.requests any none)
+        by (inr (inl any)) = absurd (any_all (From (length calls)) (λ (r : ChangeRequest). is_in_hand r ≡ false) ⊥ (λ r f is. hand_from (length calls) r.key.from r.stage f is) c'.requests any none)
         by (inr (inr reply)) = reply
 
 -- where the calls begin with none in hand and end with none, each new request has its answer among them

@@ -7,9 +7,9 @@ use Rattle.std.proofs.lemmas.Bool.Decides.{Decides-eqb}
 use Rattle.std.proofs.lemmas.Option.{same_Some, none-some}
 use Rattle.bng_base.specs.declared.address.Peer.{Peer}
 use Rattle.bng_base.specs.Chain.{Chain}
-use Rattle.bng_coa.specs.declared.request.Request.{Request}
-use Rattle.bng_coa.specs.declared.request.Stage.{Stage}
-use Rattle.bng_coa.specs.declared.request.Stage.TheVariants.{InHand, Answered}
+use Rattle.bng_coa.specs.declared.request.ChangeRequest.{ChangeRequest}
+use Rattle.bng_coa.specs.declared.request.RequestStage.{RequestStage}
+use Rattle.bng_coa.specs.declared.request.RequestStage.TheVariants.{InHand, Answered}
 use Rattle.bng_coa.specs.declared.rules.Admitted.{Admitted}
 use Rattle.bng_coa.specs.declared.rules.Admitted.TheVariants.{New, Repeat, InHand as StillInHand, Ignored}
 use Rattle.bng_coa.specs.Admission.{Keeps}
@@ -34,51 +34,51 @@ pub clash : (b : Bool) → b ≡ true → b ≡ false → ⊥
 clash b is not_so = let e : true ≡ false = sym is ∙ not_so in cc
 
 -- two in hand under one number share it
-pub shares_both : (n : ℕ) (a b : Stage) → is_numbered_at n a ≡ true → is_numbered_at n b ≡ true → shares_at a b ≡ true
+pub shares_both : (n : ℕ) (a b : RequestStage) → is_numbered_at n a ≡ true → is_numbered_at n b ≡ true → shares_at a b ≡ true
 shares_both n a (InHand m packet) here there = let e : m ≡ n = (Decides-eqb m n).0 there in ap (λ (i : ℕ). is_numbered_at i a) e ∙ here
 shares_both n a (Answered reply) here there = absurd (let no : false ≡ true = there in cc)
 
-one_first : (n : ℕ) (x : Request) (rs : List Request) (q r : Request) → is_numbered n r ≡ true → AllByRecursion (λ y. share_number x y ≡ false) rs
+one_first : (n : ℕ) (x : ChangeRequest) (rs : List ChangeRequest) (q r : ChangeRequest) → is_numbered n r ≡ true → AllByRecursion (λ y. share_number x y ≡ false) rs
     → ((j : ℕ) → find (is_numbered n) rs ≡ Some q → slice_get rs j ≡ Some r → q ≡ r)
     → (b : Bool) (j : ℕ) → is_numbered n x ≡ b → cond b (Some x) (find (is_numbered n) rs) ≡ Some q → slice_get (x ∷ rs) j ≡ Some r → q ≡ r
 one_first n x rs q r is apart rest true zero e found there = sym (same_Some x q found) ∙ same_Some x r there
 one_first n x rs q r is apart rest true (suc j) e found there =
-    absurd (clash (share_number x r) (shares_both n x.stage r.stage e is) (at (λ (y : Request). share_number x y ≡ false) rs j r there apart))
+    absurd (clash (share_number x r) (shares_both n x.stage r.stage e is) (at (λ (y : ChangeRequest). share_number x y ≡ false) rs j r there apart))
 one_first n x rs q r is apart rest false zero e found there = absurd (clash (is_numbered n x) (ap (is_numbered n) (same_Some x r there) ∙ is) e)
 one_first n x rs q r is apart rest false (suc j) e found there = rest j found there
 
 -- of requests that are apart one alone is in hand under a number
-pub one_found : (n : ℕ) (rs : List Request) (i : ℕ) (q r : Request) → IsDistinct share_number rs → find (is_numbered n) rs ≡ Some q → slice_get rs i ≡ Some r → is_numbered n r ≡ true → q ≡ r
+pub one_found : (n : ℕ) (rs : List ChangeRequest) (i : ℕ) (q r : ChangeRequest) → IsDistinct share_number rs → find (is_numbered n) rs ≡ Some q → slice_get rs i ≡ Some r → is_numbered n r ≡ true → q ≡ r
 unfolding IsDistinct
 one_found n [] i q r d found there is = absurd (none-some r there)
 one_found n (x ∷ rs) i q r d found there is = one_first n x rs q r is d.0 (λ j f t. one_found n rs j q r d.1 f t is) (is_numbered n x) i refl found there
 
-module _ (P Q : Request → Type 0) (n : ℕ) (weaker : (r : Request) → is_numbered n r ≡ false → P r → Q r) where
-  rest_weaker : (x : Request) (rs : List Request) → is_numbered n x ≡ true → AllByRecursion (λ y. share_number x y ≡ false) rs → AllByRecursion P rs → AllByRecursion Q rs
+module _ (P Q : ChangeRequest → Type 0) (n : ℕ) (weaker : (r : ChangeRequest) → is_numbered n r ≡ false → P r → Q r) where
+  rest_weaker : (x : ChangeRequest) (rs : List ChangeRequest) → is_numbered n x ≡ true → AllByRecursion (λ y. share_number x y ≡ false) rs → AllByRecursion P rs → AllByRecursion Q rs
   rest_weaker x [] is apart all = tt
   rest_weaker x (r ∷ rs) is apart all =
       (weaker r (not_true (is_numbered n r) (λ there. clash (share_number x r) (shares_both n x.stage r.stage is there) apart.0)) all.0, rest_weaker x rs is apart.1 all.1)
 
   -- all others are in hand under other numbers
-  pub settled_all : (rs : List Request) (i : ℕ) (x y : Request) → slice_get rs i ≡ Some x → is_numbered n x ≡ true → IsDistinct share_number rs → AllByRecursion P rs → Q y → AllByRecursion Q (slice_set rs i y)
+  pub settled_all : (rs : List ChangeRequest) (i : ℕ) (x y : ChangeRequest) → slice_get rs i ≡ Some x → is_numbered n x ≡ true → IsDistinct share_number rs → AllByRecursion P rs → Q y → AllByRecursion Q (slice_set rs i y)
   unfolding IsDistinct
   settled_all [] i x y there is d all here = absurd (none-some x there)
   settled_all (z ∷ rs) zero x y there is d all here =
       (here, rest_weaker z rs (ap (is_numbered n) (same_Some z x there) ∙ is) d.0 all.1)
   settled_all (z ∷ rs) (suc i) x y there is d all here = (
-    weaker z (not_true (is_numbered n z) (λ first. clash (share_number z x) (shares_both n z.stage x.stage first is) (at (λ (w : Request). share_number z w ≡ false) rs i x there d.0))) all.0,
+    weaker z (not_true (is_numbered n z) (λ first. clash (share_number z x) (shares_both n z.stage x.stage first is) (at (λ (w : ChangeRequest). share_number z w ≡ false) rs i x there d.0))) all.0,
     settled_all rs i x y there is d.1 all.1 here,
   )
 
-all_without : (P : Request → Type 0) (o : Option ℕ) (rs : List Request) → AllByRecursion P rs → AllByRecursion P (without o rs)
+all_without : (P : ChangeRequest → Type 0) (o : Option ℕ) (rs : List ChangeRequest) → AllByRecursion P rs → AllByRecursion P (without o rs)
 all_without P None rs all = all
 all_without P (Some i) rs all = removed P rs i all
 
-pub all_room : (P : Request → Type 0) (b : Bool) (rs : List Request) → AllByRecursion P rs → AllByRecursion P (cond b rs (without (position is_answered rs) rs))
+pub all_room : (P : ChangeRequest → Type 0) (b : Bool) (rs : List ChangeRequest) → AllByRecursion P rs → AllByRecursion P (cond b rs (without (position is_answered rs) rs))
 all_room P true rs all = all
 all_room P false rs all = all_without P (position is_answered rs) rs all
 
-pub all_weaker : (P Q : Request → Type 0) → ((r : Request) → P r → Q r) → (rs : List Request) → AllByRecursion P rs → AllByRecursion Q rs
+pub all_weaker : (P Q : ChangeRequest → Type 0) → ((r : ChangeRequest) → P r → Q r) → (rs : List ChangeRequest) → AllByRecursion P rs → AllByRecursion Q rs
 all_weaker P Q weaker [] all = tt
 all_weaker P Q weaker (r ∷ rs) all = (weaker r all.0, all_weaker P Q weaker rs all.1)
 
@@ -99,11 +99,11 @@ module _ (secret : List ℕ) (calls : List CoaCall) where
     pub octets : packet ≡ take (length_in asked.arrival.octets) asked.arrival.octets
     pub first : (j : ℕ) (g : Given) (s : CoaSend) → place < j → j < k → slice_get calls j ≡ Some (Replied g) → g.send ≡ Some s → g.answer.ask ≡ n → ⊥
 
-  abbrev pub SourceAt : ℕ → Peer → Stage → Type 0
+  abbrev pub SourceAt : ℕ → Peer → RequestStage → Type 0
   SourceAt k from (InHand n packet) = Source k n from packet
   SourceAt k from (Answered reply) = Unit {0}
 
-  abbrev HasSource : ℕ → Request → Type 0
+  abbrev HasSource : ℕ → ChangeRequest → Type 0
   HasSource k r = SourceAt k r.key.from r.stage
 
   -- how the requests stand before the call of a place
@@ -141,12 +141,12 @@ module _ (secret : List ℕ) (calls : List CoaCall) where
   unfolding later
   later_place k n from packet none h = refl
 
-  later_at : (k : ℕ) (from : Peer) (s : Stage) → ((n : ℕ) → is_numbered_at n s ≡ true → IsNone k n) → SourceAt k from s → SourceAt (k + 1) from s
+  later_at : (k : ℕ) (from : Peer) (s : RequestStage) → ((n : ℕ) → is_numbered_at n s ≡ true → IsNone k n) → SourceAt k from s → SourceAt (k + 1) from s
   later_at k from (InHand n packet) none h = later k n from packet (none n ((Decides-eqb n n).1 refl)) h
   later_at k from (Answered reply) none h = tt
 
   -- where the call gives no reply, all stand as before
-  all_later : (k : ℕ) → ((n : ℕ) → IsNone k n) → (rs : List Request) → AllByRecursion (HasSource k) rs → AllByRecursion (HasSource (k + 1)) rs
+  all_later : (k : ℕ) → ((n : ℕ) → IsNone k n) → (rs : List ChangeRequest) → AllByRecursion (HasSource k) rs → AllByRecursion (HasSource (k + 1)) rs
   all_later k none rs all = all_weaker (HasSource k) (HasSource (k + 1)) (λ r h. later_at k r.key.from r.stage (λ n is. none n) h) rs all
 
   as_before : (k : ℕ) (c c' : CoaState) → ((n : ℕ) → IsNone k n) → c' ≡ c → Stands k c → Stands (k + 1) c'
@@ -183,7 +183,7 @@ module _ (secret : List ℕ) (calls : List CoaCall) where
       let none : (n : ℕ) → IsNone k n = none_taken k moment wall q there in
       let key = key_of q.arrival.from h.packet in
       let packet = take (length_in q.arrival.octets) q.arrival.octets in
-      let r : Request = record { key = key; admitted_at = moment; stage = InHand number packet } in
+      let r : ChangeRequest = record { key = key; admitted_at = moment; stage = InHand number packet } in
       let held = filter (is_held moment) c.requests in
       let new = source_new k moment wall number q there is in
       let old : AllByRecursion (HasSource (k + 1)) (with_room held) =
@@ -205,7 +205,7 @@ module _ (secret : List ℕ) (calls : List CoaCall) where
   gives k g (Some s) c c' there is (q, found, to, frame, answered, octets) stands =
       let settled = answered.settled in
       let x = settled.request in
-      let y : Request = record { key = x.key; admitted_at = x.admitted_at; stage = Answered frame.payload } in
+      let y : ChangeRequest = record { key = x.key; admitted_at = x.admitted_at; stage = Answered frame.payload } in
       record {
         by = answered.secret ∙ stands.by;
         apart = run_apart (Settles g.answer.ask frame.payload ∷ []) c.requests c'.requests (c'.requests, settled, refl) stands.apart;
@@ -245,7 +245,7 @@ module _ (secret : List ℕ) (calls : List CoaCall) where
         packet = replied.packet;
         reads = subst (IsRadius replied.packet) (sym same ∙ source.octets) replied.reads;
         octets = h.5 ∙ replied.payload ∙ ap (reply_octets replied.packet g.answer.verdict) stands.by;
-        to = h.2 ∙ ap (λ (r : Request). r.key.from) one ∙ source.sender;
+        to = h.2 ∙ ap (λ (r : ChangeRequest). r.key.from) one ∙ source.sender;
         first = λ j x t after before there sends is. source.first j x t after before there sends (is ∙ sym number);
       }
 

@@ -13,9 +13,9 @@ use Rattle.bng_base.specs.declared.item.Loose.{Loose}
 use Rattle.bng_base.specs.declared.outside.Role.{Role}
 use Rattle.bng_base.specs.declared.outside.Role.TheVariants.{Access, Core}
 use Rattle.bng_base.specs.Chain.{Chain}
-use Rattle.bng_coa.specs.declared.request.Request.{Request}
-use Rattle.bng_coa.specs.declared.request.Stage.{Stage}
-use Rattle.bng_coa.specs.declared.request.Stage.TheVariants.{InHand, Answered}
+use Rattle.bng_coa.specs.declared.request.ChangeRequest.{ChangeRequest}
+use Rattle.bng_coa.specs.declared.request.RequestStage.{RequestStage}
+use Rattle.bng_coa.specs.declared.request.RequestStage.TheVariants.{InHand, Answered}
 use Rattle.bng_coa.specs.declared.rules.Admitted.{Admitted}
 use Rattle.bng_coa.specs.declared.rules.Admitted.TheVariants.{New, Repeat, InHand as StillInHand, Ignored}
 use Rattle.bng_coa.specs.Admission.{Keeps}
@@ -49,7 +49,7 @@ abbrev pub front : Item → List ℕ
 front i = take (length_in i.frame.payload) i.frame.payload
 
 -- the request of this item is in hand under the item's number
-abbrev pub IsHand : Item → Request → Type 0
+abbrev pub IsHand : Item → ChangeRequest → Type 0
 IsHand i r = (r.stage ≡ InHand i.ask (front i)) × (r.key.from ≡ i.from)
 
 abbrev pub IsIn : CoaState → Item → Type 0
@@ -59,38 +59,38 @@ IsIn c i = AnyOf (IsHand i) c.requests
 abbrev pub ItemIn : CoaState → Item → Type 0
 ItemIn c i = i.kind ≡ kind.Change → IsIn c i
 
-module _ (P : Request → Type 0) where
-  any_kept : (b : Bool) (x : Request) (xs kept : List Request) → (P x → b ≡ true) → (AnyOf P xs → AnyOf P kept) → P x ⊎ AnyOf P xs → AnyOf P (cond b (x ∷ kept) kept)
+module _ (P : ChangeRequest → Type 0) where
+  any_kept : (b : Bool) (x : ChangeRequest) (xs kept : List ChangeRequest) → (P x → b ≡ true) → (AnyOf P xs → AnyOf P kept) → P x ⊎ AnyOf P xs → AnyOf P (cond b (x ∷ kept) kept)
   any_kept true x xs kept passes rest (inl here) = inl here
   any_kept true x xs kept passes rest (inr there) = inr (rest there)
   any_kept false x xs kept passes rest (inl here) = absurd (let no : false ≡ true = passes here in cc)
   any_kept false x xs kept passes rest (inr there) = rest there
 
-  pub any_filter : (p : Request → Bool) → ((x : Request) → P x → p x ≡ true) → (xs : List Request) → AnyOf P xs → AnyOf P (filter p xs)
+  pub any_filter : (p : ChangeRequest → Bool) → ((x : ChangeRequest) → P x → p x ≡ true) → (xs : List ChangeRequest) → AnyOf P xs → AnyOf P (filter p xs)
   any_filter p passes [] h = h
   any_filter p passes (x ∷ xs) h = any_kept (p x) x xs (filter p xs) (passes x) (any_filter p passes xs) h
 
-  any_remove : (xs : List Request) (i : ℕ) (x : Request) → slice_get xs i ≡ Some x → (P x → ⊥) → AnyOf P xs → AnyOf P (remove xs i)
+  any_remove : (xs : List ChangeRequest) (i : ℕ) (x : ChangeRequest) → slice_get xs i ≡ Some x → (P x → ⊥) → AnyOf P xs → AnyOf P (remove xs i)
   any_remove [] i x there never h = absurd h
   any_remove (y ∷ xs) zero x there never (inl here) = absurd (never (subst P (same_Some y x there) here))
   any_remove (y ∷ xs) zero x there never (inr rest) = rest
   any_remove (y ∷ xs) (suc i) x there never (inl here) = inl here
   any_remove (y ∷ xs) (suc i) x there never (inr rest) = inr (any_remove xs i x there never rest)
 
-  any_without : ((x : Request) → is_answered x ≡ true → P x → ⊥) → (o : Option ℕ) (xs : List Request) → position is_answered xs ≡ o → AnyOf P xs → AnyOf P (without o xs)
+  any_without : ((x : ChangeRequest) → is_answered x ≡ true → P x → ⊥) → (o : Option ℕ) (xs : List ChangeRequest) → position is_answered xs ≡ o → AnyOf P xs → AnyOf P (without o xs)
   any_without never None xs e h = h
   any_without never (Some i) xs e h =
       let first = passes_at is_answered xs i e in
       any_remove xs i first.element first.is (never first.element first.passes) h
 
-  pub any_room : ((x : Request) → is_answered x ≡ true → P x → ⊥) → (b : Bool) (xs : List Request) → AnyOf P xs → AnyOf P (cond b xs (without (position is_answered xs) xs))
+  pub any_room : ((x : ChangeRequest) → is_answered x ≡ true → P x → ⊥) → (b : Bool) (xs : List ChangeRequest) → AnyOf P xs → AnyOf P (cond b xs (without (position is_answered xs) xs))
   any_room never true xs h = h
   any_room never false xs h = any_without never (position is_answered xs) xs refl h
 
-hand_held : (now : ℕ) (i : Item) (r : Request) → IsHand i r → is_held now r ≡ true
+hand_held : (now : ℕ) (i : Item) (r : ChangeRequest) → IsHand i r → is_held now r ≡ true
 hand_held now i r hand = ap (is_held_at _) hand.0
 
-hand_asked : (i : Item) (r : Request) → is_answered r ≡ true → IsHand i r → ⊥
+hand_asked : (i : Item) (r : ChangeRequest) → is_answered r ≡ true → IsHand i r → ⊥
 hand_asked i r answered hand = clash (is_answered r) answered (ap is_answered_at hand.0)
 
 -- Admission --------------------------------------------------------------------------------------------------------------------------
@@ -225,25 +225,25 @@ loose_items P items (ws ∷ whose) all = subst (All (λ (l : Loose). P l.item)) 
 -- The replies of a turn ------------------------------------------------------------------------------------------------------------------
 
 -- what is in hand under the item's number is its request
-abbrev HandOf : Item → Peer → Stage → Type 0
+abbrev HandOf : Item → Peer → RequestStage → Type 0
 HandOf i from (InHand n packet) = n ≡ i.ask → (packet ≡ front i) × (from ≡ i.from)
 HandOf i from (Answered reply) = Unit {0}
 
 abbrev pub OnlyHand : Item → CoaState → Type 0
-OnlyHand i c = AllByRecursion (λ (r : Request). HandOf i r.key.from r.stage) c.requests
+OnlyHand i c = AllByRecursion (λ (r : ChangeRequest). HandOf i r.key.from r.stage) c.requests
 
-other_hand : (i : Item) (from : Peer) (s : Stage) → is_numbered_at i.ask s ≡ false → HandOf i from s
+other_hand : (i : Item) (from : Peer) (s : RequestStage) → is_numbered_at i.ask s ≡ false → HandOf i from s
 other_hand i from (InHand n packet) other = λ e. absurd (clash (eqb n i.ask) ((Decides-eqb n i.ask).1 e) other)
 other_hand i from (Answered reply) other = tt
 
-others : (i : Item) (x : Request) (rs : List Request) → IsHand i x → AllByRecursion (λ y. share_number x y ≡ false) rs → AllByRecursion (λ (r : Request). HandOf i r.key.from r.stage) rs
+others : (i : Item) (x : ChangeRequest) (rs : List ChangeRequest) → IsHand i x → AllByRecursion (λ y. share_number x y ≡ false) rs → AllByRecursion (λ (r : ChangeRequest). HandOf i r.key.from r.stage) rs
 others i x [] hand apart = tt
 others i x (r ∷ rs) hand apart =
     let mine : is_numbered i.ask x ≡ true = ap (is_numbered_at i.ask) hand.0 ∙ (Decides-eqb i.ask i.ask).1 refl in
     let other : is_numbered i.ask r ≡ false = not_true (is_numbered i.ask r) (λ is. clash (share_number x r) (shares_both i.ask x.stage r.stage mine is) apart.0) in
     (other_hand i r.key.from r.stage other, others i x rs hand apart.1)
 
-only_rest : (i : Item) (rs : List Request) → IsDistinct share_number rs → AnyOf (IsHand i) rs → AllByRecursion (λ (r : Request). HandOf i r.key.from r.stage) rs
+only_rest : (i : Item) (rs : List ChangeRequest) → IsDistinct share_number rs → AnyOf (IsHand i) rs → AllByRecursion (λ (r : ChangeRequest). HandOf i r.key.from r.stage) rs
 unfolding IsDistinct
 only_rest i [] d h = tt
 only_rest i (x ∷ rs) d (inl hand) = (subst (HandOf i x.key.from) (sym hand.0) (λ e. (refl, hand.1)), others i x rs hand d.0)
@@ -256,7 +256,7 @@ only_rest i (x ∷ rs) d (inr rest) =
 pub only_hand : (c : CoaState) (i : Item) → IsApart c.requests → IsIn c i → OnlyHand i c
 only_hand c i apart h = only_rest i c.requests apart.numbers h
 
-found_all : (P : Request → Type 0) (p : Request → Bool) (rs : List Request) (q : Request) → find p rs ≡ Some q → AllByRecursion P rs → P q × (p q ≡ true)
+found_all : (P : ChangeRequest → Type 0) (p : ChangeRequest → Bool) (rs : List ChangeRequest) (q : ChangeRequest) → find p rs ≡ Some q → AllByRecursion P rs → P q × (p q ≡ true)
 found_all P p [] q e all = absurd (none-some q e)
 found_all P p (x ∷ rs) q e all = first (λ f. found_all P p rs q f all.1) (p x) refl e
   where
@@ -264,7 +264,7 @@ found_all P p (x ∷ rs) q e all = first (λ f. found_all P p rs q f all.1) (p x
     first rest true is f = let same : x ≡ q = same_Some x q f in (subst P same all.0, ap p (sym same) ∙ is)
     first rest false is f = rest f
 
-from_hand : (i : Item) (n : ℕ) (from : Peer) (s : Stage) → n ≡ i.ask → is_numbered_at n s ≡ true → HandOf i from s → from ≡ i.from
+from_hand : (i : Item) (n : ℕ) (from : Peer) (s : RequestStage) → n ≡ i.ask → is_numbered_at n s ≡ true → HandOf i from s → from ≡ i.from
 from_hand i n from (InHand m packet) same is hand = (hand ((Decides-eqb m n).0 is ∙ same)).1
 from_hand i n from (Answered reply) same is hand = absurd (let no : false ≡ true = is in cc)
 
@@ -276,10 +276,10 @@ module _ (secret : List ℕ) where
       let replied = answered.replied in
       let number : replied.number ≡ g.answer.ask =
       (Decides-eqb replied.number g.answer.ask).0 (ap (is_numbered_at g.answer.ask) (sym replied.in_hand) ∙ settled.numbered) in
-      let here : HandOf i x.key.from x.stage = at (λ (r : Request). HandOf i r.key.from r.stage) c.requests settled.place x settled.stands only in
+      let here : HandOf i x.key.from x.stage = at (λ (r : ChangeRequest). HandOf i r.key.from r.stage) c.requests settled.place x settled.stands only in
       let hand : HandOf i x.key.from (InHand replied.number replied.octets) = subst (HandOf i x.key.from) replied.in_hand here in
       let its : (replied.octets ≡ front i) × (x.key.from ≡ i.from) = hand (number ∙ same) in
-      let first = found_all (λ (r : Request). HandOf i r.key.from r.stage) (is_numbered g.answer.ask) c.requests q found only in
+      let first = found_all (λ (r : ChangeRequest). HandOf i r.key.from r.stage) (is_numbered g.answer.ask) c.requests q found only in
       record {
         packet = replied.packet;
         reads = subst (IsRadius replied.packet) its.0 replied.reads;
@@ -291,8 +291,8 @@ module _ (secret : List ℕ) where
   gives_only i g None c c' h only = subst (OnlyHand i) (sym h.1) only
   gives_only i g (Some s) c c' (q, found, to, frame, answered, octets) only =
       let settled = answered.settled in
-      subst (AllByRecursion (λ (r : Request). HandOf i r.key.from r.stage)) (sym settled.list)
-      (replaced (λ (r : Request). HandOf i r.key.from r.stage) c.requests settled.place (record settled.request { stage = Answered frame.payload }) only tt)
+      subst (AllByRecursion (λ (r : ChangeRequest). HandOf i r.key.from r.stage)) (sym settled.list)
+      (replaced (λ (r : ChangeRequest). HandOf i r.key.from r.stage) c.requests settled.place (record settled.request { stage = Answered frame.payload }) only tt)
 
   gives_secret : (g : Given) (o : Option CoaSend) (c c' : CoaState) → GivesTo c g.answer o c' → c'.secret ≡ c.secret
   gives_secret g None c c' h = ap (λ (s : CoaState). s.secret) h.1

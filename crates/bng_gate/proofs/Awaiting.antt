@@ -11,9 +11,9 @@ use Rattle.bng_base.specs.declared.item.ItemKind.{ItemKind}
 use Rattle.bng_base.specs.declared.item.ItemKind.TheVariants as kind
 use Rattle.bng_base.specs.declared.item.Loose.{Loose}
 use Rattle.bng_base.specs.Chain.{Chain}
-use Rattle.bng_coa.specs.declared.request.Request.{Request}
-use Rattle.bng_coa.specs.declared.request.Stage.{Stage}
-use Rattle.bng_coa.specs.declared.request.Stage.TheVariants.{InHand, Answered}
+use Rattle.bng_coa.specs.declared.request.ChangeRequest.{ChangeRequest}
+use Rattle.bng_coa.specs.declared.request.RequestStage.{RequestStage}
+use Rattle.bng_coa.specs.declared.request.RequestStage.TheVariants.{InHand, Answered}
 use Rattle.bng_coa.specs.declared.rules.Admitted.{Admitted}
 use Rattle.bng_coa.specs.declared.rules.Admitted.TheVariants.{New, Repeat, InHand as StillInHand, Ignored}
 use Rattle.bng_coa.specs.Admission.{IsRequestIn, Keeps, WhenNew}
@@ -26,7 +26,7 @@ use Rattle.bng_engine.specs.Lists.{AnyOf}
 use Rattle.bng_engine.specs.Views.{ShardView}
 use Rattle.bng_engine.proofs.Everywhere.{any_either, any_left, any_right}
 use Rattle.bng_radius_wire.specs.Grammar.{Packet}
-use Rattle.bng_steps.specs.declared.changes.Answer.{Answer}
+use Rattle.bng_steps.specs.declared.changes.ChangeAnswer.{ChangeAnswer}
 use Rattle.bng_steps.specs.declared.rules.Rules.{Rules}
 use Rattle.bng_steps.specs.declared.whose.Whose.{Whose}
 use Rattle.bng_steps.specs.declared.whose.Whose.TheVariants.{Loose as IsLoose, Stands}
@@ -51,26 +51,26 @@ abbrev pub Asks : ℕ → Item → Type 0
 Asks n i = (i.kind ≡ kind.Change) × (i.ask ≡ n) × ((p : Packet) × IsRequestIn p i.frame.payload)
 
 -- a request in hand is that of one of these items
-abbrev pub IsCovered : List Item → Stage → Type 0
+abbrev pub IsCovered : List Item → RequestStage → Type 0
 IsCovered items (InHand n packet) = (n < 2 ^ 32) × AnyOf (Asks n) items
 IsCovered items (Answered reply) = Unit {0}
 
 abbrev pub Covers : CoaState → List Item → Type 0
-Covers c items = AllByRecursion (λ (r : Request). IsCovered items r.stage) c.requests
+Covers c items = AllByRecursion (λ (r : ChangeRequest). IsCovered items r.stage) c.requests
 
-covered_more : (items more : List Item) → ((n : ℕ) → AnyOf (Asks n) items → AnyOf (Asks n) more) → (s : Stage) → IsCovered items s → IsCovered more s
+covered_more : (items more : List Item) → ((n : ℕ) → AnyOf (Asks n) items → AnyOf (Asks n) more) → (s : RequestStage) → IsCovered items s → IsCovered more s
 covered_more items more on (InHand n packet) h = (h.0, on n h.1)
 covered_more items more on (Answered reply) h = tt
 
 covers_more : (c : CoaState) (items more : List Item) → ((n : ℕ) → AnyOf (Asks n) items → AnyOf (Asks n) more) → Covers c items → Covers c more
-covers_more c items more on all = all_weaker (λ (r : Request). IsCovered items r.stage) (λ (r : Request). IsCovered more r.stage) (λ r h. covered_more items more on r.stage h) c.requests all
+covers_more c items more on all = all_weaker (λ (r : ChangeRequest). IsCovered items r.stage) (λ (r : ChangeRequest). IsCovered more r.stage) (λ r h. covered_more items more on r.stage h) c.requests all
 
 -- Admission --------------------------------------------------------------------------------------------------------------------------
 
 admitted_covers : (now : ℕ) (c c' : CoaState) (q : Requested) (a : Admitted) (items : List Item) → Keeps c c' q.arrival.from q.arrival.octets now a → WhenNew a (λ n. n < 2 ^ 32) → Covers c items → Covers c' (items ++ change_in q.arrival a q.target)
 admitted_covers now c c' q (New number) items h low all =
     let more = items ++ change_item q.arrival number q.target ∷ [] in
-    let P = λ (r : Request). IsCovered more r.stage in
+    let P = λ (r : ChangeRequest). IsCovered more r.stage in
     let held = filter (is_held now) c.requests in
     let old = covers_more c items more (λ n any. any_left (Asks n) items (change_item q.arrival number q.target ∷ []) any) all in
     let new : AnyOf (Asks number) more = any_right (Asks number) items (change_item q.arrival number q.target ∷ []) (inl (refl, refl, (h.packet, h.reads))) in
@@ -122,38 +122,38 @@ any_passed {X} P p passes (x ∷ xs) h = by (λ rest. any_passed P p passes xs r
 pub kept_covers : (c : CoaState) (items : List Item) → Covers c items → Covers c (kept_of items)
 kept_covers c items all = covers_more c items (kept_of items) (λ n any. any_passed (Asks n) (λ (i : Item). stays i.kind) (λ i asks. ap stays asks.0) items any) all
 
-none_covered : (s : Stage) → is_in_hand_at s ≡ false → IsCovered [] s
+none_covered : (s : RequestStage) → is_in_hand_at s ≡ false → IsCovered [] s
 none_covered (InHand n packet) is = absurd (let no : true ≡ false = is in cc)
 none_covered (Answered reply) is = tt
 
 pub none_covers : (c : CoaState) → NoneInHand c → Covers c []
-none_covers c none = all_weaker (λ (r : Request). is_in_hand r ≡ false) (λ (r : Request). IsCovered [] r.stage) (λ r is. none_covered r.stage is) c.requests none
+none_covers c none = all_weaker (λ (r : ChangeRequest). is_in_hand r ≡ false) (λ (r : ChangeRequest). IsCovered [] r.stage) (λ r is. none_covered r.stage is) c.requests none
 
 -- What a round answers ------------------------------------------------------------------------------------------------------------------
 
 -- a request is answered under its number
-abbrev IsTo : ℕ → Answer → Type 0
+abbrev IsTo : ℕ → ChangeAnswer → Type 0
 IsTo n a = a.ask ≡ n
 
 -- in a shard
-shard_answers_it : (k : ItemKind) (r : Rules) (s : State) (e : Entry) (o : Option Answer) → k ≡ kind.Change → AnswersKind k r s e o → (p : Packet) → IsRequestIn p e.item.frame.payload → (a : Answer) × (o ≡ Some a) × (a.ask ≡ e.item.ask)
+shard_answers_it : (k : ItemKind) (r : Rules) (s : State) (e : Entry) (o : Option ChangeAnswer) → k ≡ kind.Change → AnswersKind k r s e o → (p : Packet) → IsRequestIn p e.item.frame.payload → (a : ChangeAnswer) × (o ≡ Some a) × (a.ask ≡ e.item.ask)
 shard_answers_it k r s e o change h p reads = by (subst (λ (x : ItemKind). AnswersKind x r s e o) change h)
   where
-    by : AnswersRequest r s e o → (a : Answer) × (o ≡ Some a) × (a.ask ≡ e.item.ask)
+    by : AnswersRequest r s e o → (a : ChangeAnswer) × (o ≡ Some a) × (a.ask ≡ e.item.ask)
     by (inl none) = absurd (none.0 p reads)
     by (inr some) = (answer_to r s e some.0, some.2, refl)
 
 -- and loose
-loose_answers_it : (k : ItemKind) (r : Rules) (i : Item) (o : Option Answer) → k ≡ kind.Change → AnswersLooseKind k r i o → (p : Packet) → IsRequestIn p i.frame.payload → (a : Answer) × (o ≡ Some a) × (a.ask ≡ i.ask)
+loose_answers_it : (k : ItemKind) (r : Rules) (i : Item) (o : Option ChangeAnswer) → k ≡ kind.Change → AnswersLooseKind k r i o → (p : Packet) → IsRequestIn p i.frame.payload → (a : ChangeAnswer) × (o ≡ Some a) × (a.ask ≡ i.ask)
 loose_answers_it k r i o change h p reads = by (subst (λ (x : ItemKind). AnswersLooseKind x r i o) change h)
   where
-    by : AnswersLoose r i o → (a : Answer) × (o ≡ Some a) × (a.ask ≡ i.ask)
+    by : AnswersLoose r i o → (a : ChangeAnswer) × (o ≡ Some a) × (a.ask ≡ i.ask)
     by (inl none) = absurd (none.0 p reads)
     by (inr some) = (record { ask = i.ask; verdict = verdict_by (refusal_of r some.0) None }, some.2, refl)
 
-one_there : (n : ℕ) (o : Option Answer) (a : Answer) → o ≡ Some a → a.ask ≡ n → AnyOf (IsTo n) (option_to_list o)
+one_there : (n : ℕ) (o : Option ChangeAnswer) (a : ChangeAnswer) → o ≡ Some a → a.ask ≡ n → AnyOf (IsTo n) (option_to_list o)
 one_there n None a e is = absurd (none-some a e)
-one_there n (Some b) a e is = inl (ap (λ (x : Answer). x.ask) (same_Some b a e) ∙ is)
+one_there n (Some b) a e is = inl (ap (λ (x : ChangeAnswer). x.ask) (same_Some b a e) ∙ is)
 
 journal_answers : (n : ℕ) (s : ShardState) (journal : List Handled) → AreSteps pppoe s journal → AnyOf (λ (h : Handled). Asks n h.deed.entry.item) journal → AnyOf (IsTo n) (answers_in journal)
 journal_answers n s [] steps h = h
@@ -168,7 +168,7 @@ all_answer n [] place v at h = absurd (none-some v at)
 all_answer n (w ∷ shards) zero v at h = any_left (IsTo n) (answers_in w.journal) (shard_answers shards) (subst (λ (x : ShardView ShardState Handled). AnyOf (IsTo n) (answers_in x.journal)) (sym (same_Some w v at)) h)
 all_answer n (w ∷ shards) (suc place) v at h = any_right (IsTo n) (answers_in w.journal) (shard_answers shards) (all_answer n shards place v at h)
 
-loose_answer : (n : ℕ) (r : Rules) (loose : List Loose) (answers : List Answer) → AreLooseAnswers r loose answers → AnyOf (λ (l : Loose). Asks n l.item) loose → AnyOf (IsTo n) answers
+loose_answer : (n : ℕ) (r : Rules) (loose : List Loose) (answers : List ChangeAnswer) → AreLooseAnswers r loose answers → AnyOf (λ (l : Loose). Asks n l.item) loose → AnyOf (IsTo n) answers
 loose_answer n r [] answers are h = absurd h
 loose_answer n r (l ∷ ls) answers are (inl asks) =
     let its = loose_answers_it l.item.kind r l.item are.0 asks.0 are.2 asks.2.0 asks.2.1 in
@@ -251,7 +251,7 @@ module _ (n moment : ℕ) (d : Desk) (items : List Item) (round : Round) (is : R
       all_answer n round.shards x.number v p.at (journal_answers n b.view.state v.journal b.steps handled)
 
   -- each request among the items has an answer
-  answers_there : (of_loose : List Answer) (whose : List (List Whose)) → AllZip (AllZip R) (items ∷ []) whose → AllByRecursion (All (StandsWithin (length round.shards))) whose → AreParts (items ∷ []) whose 0 moment round.shards
+  answers_there : (of_loose : List ChangeAnswer) (whose : List (List Whose)) → AllZip (AllZip R) (items ∷ []) whose → AllByRecursion (All (StandsWithin (length round.shards))) whose → AreParts (items ∷ []) whose 0 moment round.shards
       → AreLooseAnswers d.rules (all_loose 0 (items ∷ []) whose) of_loose → AnyOf (Asks n) items → AnyOf (IsTo n) (of_loose ++ shard_answers round.shards)
   answers_there of_loose [] zip inside parts are asks = absurd zip
   answers_there of_loose (ws ∷ []) zip inside parts are asks =
@@ -266,57 +266,57 @@ module _ (n moment : ℕ) (d : Desk) (items : List Item) (round : Round) (is : R
 -- The answers of a settlement --------------------------------------------------------------------------------------------------------
 
 -- a request in hand is among those that are answered
-abbrev IsHandled : List Given → Stage → Type 0
+abbrev IsHandled : List Given → RequestStage → Type 0
 IsHandled given (InHand n packet) = (n < 2 ^ 32) × AnyOf (λ (g : Given). g.answer.ask ≡ n) given
 IsHandled given (Answered reply) = Unit {0}
 
-none_left : (s : Stage) → IsHandled [] s → is_in_hand_at s ≡ false
+none_left : (s : RequestStage) → IsHandled [] s → is_in_hand_at s ≡ false
 none_left (InHand n packet) h = absurd h.1
 none_left (Answered reply) h = refl
 
-others_stay : (g : Given) (given : List Given) (s : Stage) → is_numbered_at g.answer.ask s ≡ false → IsHandled (g ∷ given) s → IsHandled given s
+others_stay : (g : Given) (given : List Given) (s : RequestStage) → is_numbered_at g.answer.ask s ≡ false → IsHandled (g ∷ given) s → IsHandled given s
 others_stay g given (InHand n packet) other (low, inl its) = absurd (clash (n == g.answer.ask) ((Decides-eqb n g.answer.ask).1 (sym its)) other)
 others_stay g given (InHand n packet) other (low, inr rest) = (low, rest)
 others_stay g given (Answered reply) other h = tt
 
 -- no request has a number above
-all_stay : (g : Given) (given : List Given) (s : Stage) → 2 ^ 32 ≤ g.answer.ask → IsHandled (g ∷ given) s → IsHandled given s
+all_stay : (g : Given) (given : List Given) (s : RequestStage) → 2 ^ 32 ≤ g.answer.ask → IsHandled (g ∷ given) s → IsHandled given s
 all_stay g given (InHand n packet) high (low, inl its) = absurd (omega (arith, low, its, high))
 all_stay g given (InHand n packet) high (low, inr rest) = (low, rest)
 all_stay g given (Answered reply) high h = tt
 
-all_other : (n : ℕ) (rs : List Request) → find (is_numbered n) rs ≡ None → AllByRecursion (λ r. is_numbered n r ≡ false) rs
+all_other : (n : ℕ) (rs : List ChangeRequest) → find (is_numbered n) rs ≡ None → AllByRecursion (λ r. is_numbered n r ≡ false) rs
 all_other n [] e = tt
 all_other n (r ∷ rs) e = by (λ f. all_other n rs f) (is_numbered n r) refl e
   where
-    by : (find (is_numbered n) rs ≡ None → AllByRecursion (λ (x : Request). is_numbered n x ≡ false) rs) → (b : Bool) → is_numbered n r ≡ b → cond b (Some r) (find (is_numbered n) rs) ≡ None
-        → AllByRecursion (λ (x : Request). is_numbered n x ≡ false) (r ∷ rs)
+    by : (find (is_numbered n) rs ≡ None → AllByRecursion (λ (x : ChangeRequest). is_numbered n x ≡ false) rs) → (b : Bool) → is_numbered n r ≡ b → cond b (Some r) (find (is_numbered n) rs) ≡ None
+        → AllByRecursion (λ (x : ChangeRequest). is_numbered n x ≡ false) (r ∷ rs)
     by later true is f = absurd (none-some r (sym f))
     by later false is f = (is, later f)
 
-all_both : (P Q R : Request → Type 0) → ((r : Request) → P r → Q r → R r) → (rs : List Request) → AllByRecursion P rs → AllByRecursion Q rs → AllByRecursion R rs
+all_both : (P Q R : ChangeRequest → Type 0) → ((r : ChangeRequest) → P r → Q r → R r) → (rs : List ChangeRequest) → AllByRecursion P rs → AllByRecursion Q rs → AllByRecursion R rs
 all_both P Q R f [] p q = tt
 all_both P Q R f (r ∷ rs) p q = (f r p.0 q.0, all_both P Q R f rs p.1 q.1)
 
-gives_one : (g : Given) (given : List Given) (o : Option CoaSend) (c c' : CoaState) → GivesTo c g.answer o c' → IsApart c.requests → AllByRecursion (λ (r : Request). IsHandled (g ∷ given) r.stage) c.requests
-    → AllByRecursion (λ (r : Request). IsHandled given r.stage) c'.requests
-gives_one g given None c c' h apart all = subst (λ (s : CoaState). AllByRecursion (λ (r : Request). IsHandled given r.stage) s.requests) (sym h.1) (by h.0)
+gives_one : (g : Given) (given : List Given) (o : Option CoaSend) (c c' : CoaState) → GivesTo c g.answer o c' → IsApart c.requests → AllByRecursion (λ (r : ChangeRequest). IsHandled (g ∷ given) r.stage) c.requests
+    → AllByRecursion (λ (r : ChangeRequest). IsHandled given r.stage) c'.requests
+gives_one g given None c c' h apart all = subst (λ (s : CoaState). AllByRecursion (λ (r : ChangeRequest). IsHandled given r.stage) s.requests) (sym h.1) (by h.0)
   where
-    by : (2 ^ 32 ≤ g.answer.ask) ⊎ (find (is_numbered g.answer.ask) c.requests ≡ None) → AllByRecursion (λ (r : Request). IsHandled given r.stage) c.requests
-    by (inl high) = all_weaker (λ (r : Request). IsHandled (g ∷ given) r.stage) (λ (r : Request). IsHandled given r.stage) (λ r x. all_stay g given r.stage high x) c.requests all
+    by : (2 ^ 32 ≤ g.answer.ask) ⊎ (find (is_numbered g.answer.ask) c.requests ≡ None) → AllByRecursion (λ (r : ChangeRequest). IsHandled given r.stage) c.requests
+    by (inl high) = all_weaker (λ (r : ChangeRequest). IsHandled (g ∷ given) r.stage) (λ (r : ChangeRequest). IsHandled given r.stage) (λ r x. all_stay g given r.stage high x) c.requests all
     by (inr none) =
-        all_both (λ (r : Request). is_numbered g.answer.ask r ≡ false) (λ (r : Request). IsHandled (g ∷ given) r.stage) (λ (r : Request). IsHandled given r.stage)
+        all_both (λ (r : ChangeRequest). is_numbered g.answer.ask r ≡ false) (λ (r : ChangeRequest). IsHandled (g ∷ given) r.stage) (λ (r : ChangeRequest). IsHandled given r.stage)
         (λ r other x. others_stay g given r.stage other x) c.requests (all_other g.answer.ask c.requests none) all
 gives_one g given (Some s) c c' h apart all =
     let settled = h.4.settled in
-    let Q = λ (r : Request). IsHandled given r.stage in
+    let Q = λ (r : ChangeRequest). IsHandled given r.stage in
     subst (AllByRecursion Q) (sym settled.list)
-    (settled_all (λ (r : Request). IsHandled (g ∷ given) r.stage) Q g.answer.ask (λ r other x. others_stay g given r.stage other x)
+    (settled_all (λ (r : ChangeRequest). IsHandled (g ∷ given) r.stage) Q g.answer.ask (λ r other x. others_stay g given r.stage other x)
     c.requests settled.place settled.request (record settled.request { stage = Answered h.3.payload }) settled.stands settled.numbered apart.numbers all tt)
 
-given_none : (given : List Given) (c c' : CoaState) → Chain GivesAnswer c given c' → IsApart c.requests → AllByRecursion (λ (r : Request). IsHandled given r.stage) c.requests → NoneInHand c'
+given_none : (given : List Given) (c c' : CoaState) → Chain GivesAnswer c given c' → IsApart c.requests → AllByRecursion (λ (r : ChangeRequest). IsHandled given r.stage) c.requests → NoneInHand c'
 given_none [] c c' run apart all =
-    subst NoneInHand (sym run) (all_weaker (λ (r : Request). IsHandled [] r.stage) (λ (r : Request). is_in_hand r ≡ false) (λ r h. none_left r.stage h) c.requests all)
+    subst NoneInHand (sym run) (all_weaker (λ (r : ChangeRequest). IsHandled [] r.stage) (λ (r : ChangeRequest). is_in_hand r ≡ false) (λ r h. none_left r.stage h) c.requests all)
 given_none (g ∷ given) c c' run apart all =
     given_none given run.0 c' run.2 (gives_apart c.secret g g.send c run.0 run.1 apart) (gives_one g given g.send c run.0 run.1 apart all)
 
@@ -324,9 +324,9 @@ given_none (g ∷ given) c c' run apart all =
 pub settled_none : (d : Desk) (moment : ℕ) (items : List Item) (round : Round) (repeats : List CoaReply) (middle c : CoaState) (q : CoaReplies) → RoundOf d moment items (Some round)
     → SettlesCoa d.rules repeats (loose_of items (Some round)) (answers_of (Some round)) middle q c → IsApart middle.requests → Covers middle items → NoneInHand c
 settled_none d moment items round repeats middle c q is by apart all =
-    given_none q.given middle c by.gives apart (all_weaker (λ (r : Request). IsCovered items r.stage) (λ (r : Request). IsHandled q.given r.stage) (λ r h. handled r.stage h) middle.requests all)
+    given_none q.given middle c by.gives apart (all_weaker (λ (r : ChangeRequest). IsCovered items r.stage) (λ (r : ChangeRequest). IsHandled q.given r.stage) (λ r h. handled r.stage h) middle.requests all)
   where
-    handled : (s : Stage) → IsCovered items s → IsHandled q.given s
+    handled : (s : RequestStage) → IsCovered items s → IsHandled q.given s
     handled (InHand n packet) h = (
       h.0,
       any_mapped (IsTo n) (λ (g : Given). g.answer) q.given

@@ -11,7 +11,7 @@ use Rattle.bng_engine.specs.Lists.{AnyOf}
 use Rattle.bng_engine.specs.Settlements.{OneEach, AreStarts}
 use Rattle.bng_engine.specs.Sums.{sent_where}
 use Rattle.bng_engine.specs.Views.{Row, ShardView, rows_where}
-use Rattle.bng_steps.specs.declared.changes.Answer.{Answer}
+use Rattle.bng_steps.specs.declared.changes.ChangeAnswer.{ChangeAnswer}
 use Rattle.bng_steps.specs.declared.rules.Rules.{Rules}
 use Rattle.bng_steps.specs.Protocol.{ShardState, Handled, HandlesStep, pppoe, term_in}
 use Rattle.bng_steps.specs.State.{State, settled}
@@ -45,7 +45,7 @@ pub outs_beside : (s t : ShardState) (es : List Handled) → outs_of pppoe s es 
 outs_beside s t [] = refl
 outs_beside s t (e ∷ es) = ap (λ (os : List OutRecord). e.deed.outs ++ os) (outs_beside (pppoe.next s e) (pppoe.next t e) es)
 
-abbrev state_with : Rules → State → List Answer → ShardState
+abbrev state_with : Rules → State → List ChangeAnswer → ShardState
 state_with r x answers = record { rules = r; slots = x; changed = answers }
 
 -- Shards ------------------------------------------------------------------------------------------------------------------------

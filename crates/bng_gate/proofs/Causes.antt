@@ -7,8 +7,8 @@ use Rattle.bng_base.specs.Stretch.{Outside}
 use Rattle.bng_base.specs.Told.{FilesTold, EntropyTold, TraceTold, Grows}
 use Rattle.bng_config.specs.declared.config.Config.{Config}
 use Rattle.bng_config.specs.declared.fault.Fault.{Fault}
-use Rattle.bng_gate.specs.declared.texts.Opening.{Opening}
-use Rattle.bng_gate.specs.declared.texts.Opening.TheVariants.{Configuration, Seed, Control, Core, Access, Auth, Acct, Tunnel, Coa}
+use Rattle.bng_gate.specs.declared.texts.Unopened.{Unopened}
+use Rattle.bng_gate.specs.declared.texts.Unopened.TheVariants.{Configuration, Seed, Control, Core, Access, Auth, Acct, Tunnel, Coa}
 use Rattle.bng_config.proofs.Exclusive.{no_fault}
 use Rattle.bng_config.specs.Configuration.{HasFault}
 use Rattle.bng_gate.specs.Run.{World, outside, Prepares, Fails, WantsToServe, WantsConfiguration, WantsService, IsRun, IsUnwritten, ServeEnds, IsUnfailed, IsFaultless}
@@ -48,7 +48,7 @@ pub read_well : (old new : FilesTold) (config : Config) (text : List ℕ) (fault
 read_well old new config text fault p some grew broken =
     no_fault p.text config fault p.read (subst (λ (t : List ℕ). HasFault t fault) (one_text old.contents new.contents text p.text some grew p.opens.content) broken)
 
-fails_read : (old new : World) (what : Opening) (text : List ℕ) (fault : Fault) → Fails old new what → IsSome old.files.contents
+fails_read : (old new : World) (what : Unopened) (text : List ℕ) (fault : Fault) → Fails old new what → IsSome old.files.contents
     → Grows old.files.contents new.files.contents (text ∷ []) → HasFault text fault → ⊥
 fails_read old new Configuration text fault f some grew broken = unread old.files.contents new.files.contents text some grew f.fails.contents
 fails_read old new Seed text fault f some grew broken = read_well old.files new.files f.config text fault f.prepares some grew broken
@@ -72,7 +72,7 @@ faulty most old new status r some text fault grew broken =
     (λ s. inr (inr s))
     (λ s. let x = r.unanswered s in absurd (read_well old.files new.files x.run.config text fault x.run.ready.prepares some grew broken))
 
-fails_rose : (old new : World) (what : Opening) → Fails old new what → IsFaultless old new → ⊥
+fails_rose : (old new : World) (what : Unopened) → Fails old new what → IsFaultless old new → ⊥
 fails_rose old new Configuration f none = none.files f.fails.rose
 fails_rose old new Seed f none = none.entropy f.fails.rose
 fails_rose old new Control f none = none.plant f.fails.rose

@@ -19,7 +19,7 @@ use Rattle.bng_coa.specs.State.{State as CoaState}
 use Rattle.bng_coa.proofs.Standing.{IsApart}
 use Rattle.bng_engine.specs.Journals.{after, AreSteps}
 use Rattle.bng_engine.specs.Views.{ShardView}
-use Rattle.bng_steps.specs.declared.changes.Answer.{Answer}
+use Rattle.bng_steps.specs.declared.changes.ChangeAnswer.{ChangeAnswer}
 use Rattle.bng_steps.specs.declared.rules.Rules.{Rules}
 use Rattle.bng_steps.specs.Changes.{AnswersKind, IsAnswerOf, answer_to, refusal_of, verdict_by}
 use Rattle.bng_steps.specs.Protocol.{ShardState, Handled, HandlesStep, pppoe}
@@ -159,19 +159,19 @@ none_there : {X : Type 0} (x : X) → Contains [] x → ⊥
 none_there x h = omega (arith, h.1)
 
 -- the answer of an entry is that of one in the journal
-record IsEntry (journal : List Handled) (a : Answer) : Type 0 where
+record IsEntry (journal : List Handled) (a : ChangeAnswer) : Type 0 where
   earlier : List Handled
   handled : Handled
   later : List Handled
   is : journal ≡ earlier ++ handled ∷ later
   answer : handled.answer ≡ Some a
 
-one_answer : (o : Option Answer) (a : Answer) → Contains (option_to_list o) a → o ≡ Some a
+one_answer : (o : Option ChangeAnswer) (a : ChangeAnswer) → Contains (option_to_list o) a → o ≡ Some a
 one_answer None a h = absurd (none_there a h)
-one_answer (Some b) a (zero, lt, e) = ap (λ (x : Answer). Some x) e
+one_answer (Some b) a (zero, lt, e) = ap (λ (x : ChangeAnswer). Some x) e
 one_answer (Some b) a (suc k, lt, e) = absurd (omega (arith, lt))
 
-in_journal : (journal : List Handled) (a : Answer) → Contains (answers_in journal) a → IsEntry journal a
+in_journal : (journal : List Handled) (a : ChangeAnswer) → Contains (answers_in journal) a → IsEntry journal a
 in_journal [] a h = absurd (none_there a h)
 in_journal (e ∷ journal) a h = elim (Contains-append_cases (option_to_list e.answer) (answers_in journal) a h) [
   | inl here ↦ record { earlier = []; handled = e; later = journal; is = refl; answer = one_answer e.answer a here }
@@ -180,13 +180,13 @@ in_journal (e ∷ journal) a h = elim (Contains-append_cases (option_to_list e.a
       record { earlier = e ∷ x.earlier; handled = x.handled; later = x.later; is = ap (λ (hs : List Handled). e ∷ hs) x.is; answer = x.answer }
 ]
 
-record IsInShard (shards : List (ShardView ShardState Handled)) (a : Answer) : Type 0 where
+record IsInShard (shards : List (ShardView ShardState Handled)) (a : ChangeAnswer) : Type 0 where
   place : ℕ
   shard : ShardView ShardState Handled
   at : slice_get shards place ≡ Some shard
   entry : IsEntry shard.journal a
 
-in_shards : (shards : List (ShardView ShardState Handled)) (a : Answer) → Contains (shard_answers shards) a → IsInShard shards a
+in_shards : (shards : List (ShardView ShardState Handled)) (a : ChangeAnswer) → Contains (shard_answers shards) a → IsInShard shards a
 in_shards [] a h = absurd (none_there a h)
 in_shards (v ∷ shards) a h = elim (Contains-append_cases (answers_in v.journal) (shard_answers shards) a h) [
   | inl here ↦ record { place = zero; shard = v; at = refl; entry = in_journal v.journal a here }
@@ -199,21 +199,21 @@ step_there s [] h later steps = steps.0
 step_there s (e ∷ earlier) h later steps = step_there (pppoe.next s e) earlier h later steps.1
 
 -- an answer to a loose item is that of one among them
-record IsLoose (r : Rules) (loose : List Loose) (a : Answer) : Type 0 where
+record IsLoose (r : Rules) (loose : List Loose) (a : ChangeAnswer) : Type 0 where
   item : Loose
   among : Contains loose item
   answer : AnswersLooseKind item.item.kind r item.item (Some a)
 
-loose_later : (r : Rules) (l : Loose) (ls : List Loose) (a : Answer) → IsLoose r ls a → IsLoose r (l ∷ ls) a
+loose_later : (r : Rules) (l : Loose) (ls : List Loose) (a : ChangeAnswer) → IsLoose r ls a → IsLoose r (l ∷ ls) a
 loose_later r l ls a x = record { item = x.item; among = (suc x.among.0, omega (arith, x.among.1), x.among.2); answer = x.answer }
 
-in_loose : (r : Rules) (loose : List Loose) (answers : List Answer) (a : Answer) → AreLooseAnswers r loose answers → Contains answers a → IsLoose r loose a
-in_loose r [] answers a are h = absurd (none_there a (subst (λ (xs : List Answer). Contains xs a) are h))
-in_loose r (l ∷ ls) answers a are h = elim (Contains-append_cases (option_to_list are.0) are.1 a (subst (λ (xs : List Answer). Contains xs a) are.4 h)) [
+in_loose : (r : Rules) (loose : List Loose) (answers : List ChangeAnswer) (a : ChangeAnswer) → AreLooseAnswers r loose answers → Contains answers a → IsLoose r loose a
+in_loose r [] answers a are h = absurd (none_there a (subst (λ (xs : List ChangeAnswer). Contains xs a) are h))
+in_loose r (l ∷ ls) answers a are h = elim (Contains-append_cases (option_to_list are.0) are.1 a (subst (λ (xs : List ChangeAnswer). Contains xs a) are.4 h)) [
   | inl here ↦ record {
     item = l;
     among = (0, omega arith, refl);
-    answer = subst (λ (o : Option Answer). AnswersLooseKind l.item.kind r l.item o) (one_answer are.0 a here) are.2;
+    answer = subst (λ (o : Option ChangeAnswer). AnswersLooseKind l.item.kind r l.item o) (one_answer are.0 a here) are.2;
   }
   | inr there ↦ loose_later r l ls a (in_loose r ls are.1 a are.3 there)
 ]
@@ -229,29 +229,29 @@ contains_mapped {X = X} {Y = Y} f xs x h = All-contains (λ y. Contains (map f x
         later z [] ws all = tt
         later z (v ∷ vs) ws all = ((suc all.0.0, omega (arith, all.0.1), all.0.2), later z vs ws all.1)
 
-abbrev answer_in : Given → Answer
+abbrev answer_in : Given → ChangeAnswer
 answer_in g = g.answer
 
 -- an answer is to a request for a change, by its number
-shard_asked : (k : ItemKind) (r : Rules) (s : State) (e : Entry) (a : Answer) → AnswersKind k r s e (Some a) → (k ≡ kind.Change) × (a.ask ≡ e.item.ask)
-shard_asked (kind.Access number) r s e a h = absurd (let no : ◌≡◌ {A = Option Answer} (Some a) None = h in cc)
-shard_asked kind.Core r s e a h = absurd (let no : ◌≡◌ {A = Option Answer} (Some a) None = h in cc)
-shard_asked kind.Tunnel r s e a h = absurd (let no : ◌≡◌ {A = Option Answer} (Some a) None = h in cc)
-shard_asked kind.Verdict r s e a h = absurd (let no : ◌≡◌ {A = Option Answer} (Some a) None = h in cc)
-shard_asked kind.Change r s e a (inl none) = absurd (let no : ◌≡◌ {A = Option Answer} (Some a) None = none.1 in cc)
-shard_asked kind.Change r s e a (inr some) = (refl, ap (λ (x : Answer). x.ask) (same_Some a (answer_to r s e some.0) some.2))
-shard_asked kind.Tick r s e a h = absurd (let no : ◌≡◌ {A = Option Answer} (Some a) None = h in cc)
-shard_asked kind.End r s e a h = absurd (let no : ◌≡◌ {A = Option Answer} (Some a) None = h in cc)
+shard_asked : (k : ItemKind) (r : Rules) (s : State) (e : Entry) (a : ChangeAnswer) → AnswersKind k r s e (Some a) → (k ≡ kind.Change) × (a.ask ≡ e.item.ask)
+shard_asked (kind.Access number) r s e a h = absurd (let no : ◌≡◌ {A = Option ChangeAnswer} (Some a) None = h in cc)
+shard_asked kind.Core r s e a h = absurd (let no : ◌≡◌ {A = Option ChangeAnswer} (Some a) None = h in cc)
+shard_asked kind.Tunnel r s e a h = absurd (let no : ◌≡◌ {A = Option ChangeAnswer} (Some a) None = h in cc)
+shard_asked kind.Verdict r s e a h = absurd (let no : ◌≡◌ {A = Option ChangeAnswer} (Some a) None = h in cc)
+shard_asked kind.Change r s e a (inl none) = absurd (let no : ◌≡◌ {A = Option ChangeAnswer} (Some a) None = none.1 in cc)
+shard_asked kind.Change r s e a (inr some) = (refl, ap (λ (x : ChangeAnswer). x.ask) (same_Some a (answer_to r s e some.0) some.2))
+shard_asked kind.Tick r s e a h = absurd (let no : ◌≡◌ {A = Option ChangeAnswer} (Some a) None = h in cc)
+shard_asked kind.End r s e a h = absurd (let no : ◌≡◌ {A = Option ChangeAnswer} (Some a) None = h in cc)
 
-loose_asked : (k : ItemKind) (r : Rules) (i : Item) (a : Answer) → AnswersLooseKind k r i (Some a) → (k ≡ kind.Change) × (a.ask ≡ i.ask)
-loose_asked (kind.Access number) r i a h = absurd (let no : ◌≡◌ {A = Option Answer} (Some a) None = h in cc)
-loose_asked kind.Core r i a h = absurd (let no : ◌≡◌ {A = Option Answer} (Some a) None = h in cc)
-loose_asked kind.Tunnel r i a h = absurd (let no : ◌≡◌ {A = Option Answer} (Some a) None = h in cc)
-loose_asked kind.Verdict r i a h = absurd (let no : ◌≡◌ {A = Option Answer} (Some a) None = h in cc)
-loose_asked kind.Change r i a (inl none) = absurd (let no : ◌≡◌ {A = Option Answer} (Some a) None = none.1 in cc)
-loose_asked kind.Change r i a (inr some) = (refl, ap (λ (x : Answer). x.ask) (same_Some a (record { ask = i.ask; verdict = verdict_by (refusal_of r some.0) None }) some.2))
-loose_asked kind.Tick r i a h = absurd (let no : ◌≡◌ {A = Option Answer} (Some a) None = h in cc)
-loose_asked kind.End r i a h = absurd (let no : ◌≡◌ {A = Option Answer} (Some a) None = h in cc)
+loose_asked : (k : ItemKind) (r : Rules) (i : Item) (a : ChangeAnswer) → AnswersLooseKind k r i (Some a) → (k ≡ kind.Change) × (a.ask ≡ i.ask)
+loose_asked (kind.Access number) r i a h = absurd (let no : ◌≡◌ {A = Option ChangeAnswer} (Some a) None = h in cc)
+loose_asked kind.Core r i a h = absurd (let no : ◌≡◌ {A = Option ChangeAnswer} (Some a) None = h in cc)
+loose_asked kind.Tunnel r i a h = absurd (let no : ◌≡◌ {A = Option ChangeAnswer} (Some a) None = h in cc)
+loose_asked kind.Verdict r i a h = absurd (let no : ◌≡◌ {A = Option ChangeAnswer} (Some a) None = h in cc)
+loose_asked kind.Change r i a (inl none) = absurd (let no : ◌≡◌ {A = Option ChangeAnswer} (Some a) None = none.1 in cc)
+loose_asked kind.Change r i a (inr some) = (refl, ap (λ (x : ChangeAnswer). x.ask) (same_Some a (record { ask = i.ask; verdict = verdict_by (refusal_of r some.0) None }) some.2))
+loose_asked kind.Tick r i a h = absurd (let no : ◌≡◌ {A = Option ChangeAnswer} (Some a) None = h in cc)
+loose_asked kind.End r i a h = absurd (let no : ◌≡◌ {A = Option ChangeAnswer} (Some a) None = h in cc)
 
 module _ (secret : List ℕ) (held : List Held) (k : ℕ) (d : Desk) (moment : ℕ) (items : List Item) (middle : CoaState) (all : All (ItemIn middle) items) where
   of_shard : (round : Round) (g : Given) → Replies secret middle g → slice_get held k ≡ Some (record { desk = d; items = items; round = Some round }) → RoundOf d moment items (Some round) → IsInShard round.shards g.answer → IsOfShard secret held k g
@@ -309,11 +309,11 @@ module _ (secret : List ℕ) (held : List Held) (k : ℕ) (d : Desk) (moment : �
       }
 
   -- what a turn answers is of its shards, or of loose items
-  verdict_in : (round : Option Round) (of_loose : List Answer) (g : Given) → Replies secret middle g → slice_get held k ≡ Some (record { desk = d; items = items; round = round }) → RoundOf d moment items round
+  verdict_in : (round : Option Round) (of_loose : List ChangeAnswer) (g : Given) → Replies secret middle g → slice_get held k ≡ Some (record { desk = d; items = items; round = round }) → RoundOf d moment items round
       → AreLooseAnswers d.rules (loose_of items round) of_loose → Contains (of_loose ++ answers_of round) g.answer → IsVerdict secret held k g
   verdict_in None of_loose g replies at is are h =
       let nothing : of_loose ++ [] ≡ [] = append-nil of_loose ∙ are in
-      absurd (none_there g.answer (subst (λ (xs : List Answer). Contains xs g.answer) nothing h))
+      absurd (none_there g.answer (subst (λ (xs : List ChangeAnswer). Contains xs g.answer) nothing h))
   verdict_in (Some round) of_loose g replies at is are h = elim (Contains-append_cases of_loose (shard_answers round.shards) g.answer h) [
     | inl loose ↦ inr (of_none round g replies at is (in_loose d.rules (all_loose 0 (items ∷ []) round.whose) of_loose g.answer are loose))
     | inr shard ↦ inl (of_shard round g replies at is (in_shards round.shards g.answer shard))
@@ -325,7 +325,7 @@ module _ (secret : List ℕ) (held : List Held) (k : ℕ) (d : Desk) (moment : �
   settled_in round repeats q c at is by same apart g h =
       let replies = given_replies secret middle q.given middle c by.gives same (λ i hand. only_hand middle i apart hand) in
       verdict_in round by.of_loose g (All-contains (Replies secret middle) q.given g (All-from_recursion (Replies secret middle) q.given replies) h) at is by.are_loose
-      (subst (λ (xs : List Answer). Contains xs g.answer) by.answers (contains_mapped answer_in q.given g h))
+      (subst (λ (xs : List ChangeAnswer). Contains xs g.answer) by.answers (contains_mapped answer_in q.given g h))
 
 -- where the round was not opened no reply is given
 pub none_given : (r : Rules) (repeats : List CoaReply) (middle c : CoaState) (q : CoaReplies) → SettlesCoa r repeats [] [] middle q c → c ≡ middle

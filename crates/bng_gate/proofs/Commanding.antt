@@ -9,8 +9,8 @@ use Rattle.bng_words.specs.declared.command.WordsError.{WordsError}
 use Rattle.bng_words.specs.declared.command.WordsError.TheVariants.{Refused as NoWords, OutOfMemory as NoMemory}
 use Rattle.bng_words.specs.Meaning.{Meaning, serve, check, exercise, audit, IsNumberOr, Says}
 use Rattle.bng_words.proofs.MeaningLaws.{one_saying}
-use Rattle.bng_gate.specs.declared.texts.Opening.{Opening}
-use Rattle.bng_gate.specs.declared.texts.Opening.TheVariants.{Configuration, Seed, Control, Core, Access, Auth, Acct, Tunnel, Coa}
+use Rattle.bng_gate.specs.declared.texts.Unopened.{Unopened}
+use Rattle.bng_gate.specs.declared.texts.Unopened.TheVariants.{Configuration, Seed, Control, Core, Access, Auth, Acct, Tunnel, Coa}
 use Rattle.bng_gate.specs.declared.texts.Refusal.{Refusal}
 use Rattle.bng_gate.specs.declared.texts.Refusal.TheVariants.{Usage, Refused, CannotOpen, OutOfMemory, TraceFailed, OutputFailed}
 use Rattle.bng_gate.specs.Check.{Checks, IsUnchecked}
@@ -126,7 +126,7 @@ module _ (old new : World) (status : ℕ) where
     not_right : (config : Config) → Prepares old.files new.files config → ⊥
     not_right config prepares = serving.read_well old.files new.files config text fault prepares some grew broken
 
-    unopened_faulty : (what : Opening) → IsUnprepared old.files new.files (CannotOpen what) → ⊥
+    unopened_faulty : (what : Unopened) → IsUnprepared old.files new.files (CannotOpen what) → ⊥
     unopened_faulty Configuration w = serving.unread old.files.contents new.files.contents text some grew w.contents
     unopened_faulty Seed w = w
     unopened_faulty Control w = w
@@ -168,7 +168,7 @@ module _ (old new : World) (status : ℕ) where
     want_done (inl t) = inr (inl t.0)
     want_done (inr t) = absurd (none.err t.1.rose)
 
-    unopened_rose : (what : Opening) → IsUnprepared old.files new.files (CannotOpen what) → ⊥
+    unopened_rose : (what : Unopened) → IsUnprepared old.files new.files (CannotOpen what) → ⊥
     unopened_rose Configuration w = none.files w.rose
     unopened_rose Seed w = w
     unopened_rose Control w = w

@@ -32,7 +32,7 @@ use Rattle.bng_steps.specs.declared.whose.Whose.{Whose}
 use Rattle.bng_steps.specs.Protocol.{ShardState, Handled, pppoe, entry_of}
 use Rattle.bng_shard.specs.Room.{is_end}
 use Rattle.bng_steps.proofs.GrantLaws.{step_few}
-use Rattle.bng_desk.specs.declared.reading.Ended.{Ended}
+use Rattle.bng_desk.specs.declared.reading.ReadEnd.{ReadEnd}
 use Rattle.bng_desk.specs.Coa.{Requested, change_in, change_item, change_items, has_places, requests_most}
 use Rattle.bng_desk.specs.Items.{DataReading, arrived, drawn_from, ends_of, entries_in, is_change_item, is_change_kind, is_verdict_item, is_verdict_kind, kept_of, stands_in, stays, taken_items, ticks_of, without_claim}
 use Rattle.bng_desk.specs.Kept.{AreFewAsked, IsAsked}
@@ -262,7 +262,7 @@ no_requests : (qs : List Requested) → qs ≡ [] → length (change_items qs) �
 no_requests qs e = ap (λ (xs : List Requested). length (change_items xs)) e
 
 -- where Coa is read, no request stays
-changes_within : (serves empty places : Bool) (is : List Item) (qs : List Requested) (last : Option Ended) → (empty ≡ true → is ≡ []) → ReadsWhere requests_most (serves && (empty && places)) qs last
+changes_within : (serves empty places : Bool) (is : List Item) (qs : List Requested) (last : Option ReadEnd) → (empty ≡ true → is ≡ []) → ReadsWhere requests_most (serves && (empty && places)) qs last
     → count_by is_change_item is ≤ 32 → count_by is_change_item is + length (change_items qs) ≤ 32
 changes_within true true true is qs last none (ended, e, ends) few = omega (arith, ap (λ (xs : List Item). count_by is_change_item xs) (none refl), changes_few qs, taken_within 32 (length qs) ended ends)
 changes_within true true false is qs last none (e, empty) few = omega (arith, few, no_requests qs empty)

@@ -4,8 +4,8 @@ use Rattle.bng_base.specs.Told.{PlantTold, ClockTold, EntropyTold, FilesTold, Tr
 use Rattle.bng_config.specs.declared.config.Config.{Config}
 use Rattle.bng_config.specs.declared.fault.Fault.{Fault}
 use Rattle.bng_desk.specs.Model.{Desk}
-use Rattle.bng_gate.specs.declared.texts.Opening.{Opening}
-use Rattle.bng_gate.specs.declared.texts.Opening.TheVariants.{Configuration, Seed, Control, Core, Access, Auth, Acct, Tunnel, Coa}
+use Rattle.bng_gate.specs.declared.texts.Unopened.{Unopened}
+use Rattle.bng_gate.specs.declared.texts.Unopened.TheVariants.{Configuration, Seed, Control, Core, Access, Auth, Acct, Tunnel, Coa}
 use Rattle.bng_gate.specs.declared.texts.Refusal.{Refusal}
 use Rattle.bng_gate.specs.declared.texts.Refusal.TheVariants.{Usage, Refused, CannotOpen, OutOfMemory, TraceFailed, OutputFailed}
 use Rattle.bng_gate.specs.Texts.{refusal_text, status_of}
@@ -21,7 +21,7 @@ module _ (most : ℕ) (old new : World) (status : ℕ) (seeds : SeedsOnce old.en
   ends_refused : status ≡ 2 → (fault : Fault) → Refuses most old new (Refused fault) → ServeEnds most old new status
   ends_refused is fault x = record { served = λ s. absurd (omega arith); no_usage = λ s. omega arith; refused = λ s. (fault, x); unopened = λ s. absurd (omega arith); starved = λ s. absurd (omega arith); unwritten = λ s. absurd (omega arith); unanswered = λ s. absurd (omega arith); no_other = omega arith; seeds = seeds }
 
-  ends_unopened : status ≡ 3 → (what : Opening) → Refuses most old new (CannotOpen what) → ServeEnds most old new status
+  ends_unopened : status ≡ 3 → (what : Unopened) → Refuses most old new (CannotOpen what) → ServeEnds most old new status
   ends_unopened is what x = record { served = λ s. absurd (omega arith); no_usage = λ s. omega arith; refused = λ s. absurd (omega arith); unopened = λ s. (what, x); starved = λ s. absurd (omega arith); unwritten = λ s. absurd (omega arith); unanswered = λ s. absurd (omega arith); no_other = omega arith; seeds = seeds }
 
   ends_starved : status ≡ 4 → Refuses most old new OutOfMemory → ServeEnds most old new status

@@ -8,7 +8,7 @@ use Rattle.bng_base.proofs.ChainLaws.{chain_append}
 use Rattle.bng_engine.specs.Views.{ShardView}
 use Rattle.bng_pool.specs.Plain.{PlainView}
 use Rattle.bng_steps.specs.Protocol.{ShardState}
-use Rattle.bng_desk.specs.declared.line.Line.{Line}
+use Rattle.bng_desk.specs.declared.line.CircuitLine.{CircuitLine}
 use Rattle.bng_desk.specs.Model.{Desk, all_stopped, line_after, plus_book}
 use Rattle.bng_desk.specs.Round.{Round, IsRound, left_by, stops_of}
 use Rattle.bng_desk.specs.Turn.{Turn, RoundOf, Step, after_round, items_of, ending_items}
@@ -31,7 +31,7 @@ pool_after pool None = pool
 pool_after pool (Some round) = round.pool
 
 -- and what the circuits' Stops say
-abbrev pub lines_left : List Line → Option Round → List Line
+abbrev pub lines_left : List CircuitLine → Option Round → List CircuitLine
 lines_left lines None = lines
 lines_left lines (Some round) = map (line_after (stops_of round)) lines
 

@@ -31,7 +31,7 @@ use Rattle.bng_steps.specs.declared.sums.Traffic.{Traffic}
 use Rattle.bng_steps.specs.Protocol.{ShardState, Handled, pppoe}
 use Rattle.bng_steps.proofs.StepLaws.{pppoe_laws}
 use Rattle.bng_desk.specs.declared.desk.DeskState.TheVariants.{Ended}
-use Rattle.bng_desk.specs.declared.line.Line.{Line}
+use Rattle.bng_desk.specs.declared.line.CircuitLine.{CircuitLine}
 use Rattle.bng_desk.specs.Accounting.{FormedRecord}
 use Rattle.bng_desk.specs.Counting.{by_number}
 use Rattle.bng_desk.specs.Model.{Desk, all_stopped as all_say, by_profile, carried_on, all_carried, line_after, live_of, live_terms, plus_book, state_of, sums_of, total_of, traffic_by, keys_in}
@@ -332,7 +332,7 @@ module _ (config : Config) (rules : KeepsRules config) (most : ℕ) (seed : List
         ∙ ap (λ (ws : List Traffic). report_text sum empty_book sum ws d.rules.profiles (by_profile d) d.lines (all_carried d) d.drops.counts) workers
         ∙ ap (λ (ts : List Traffic). report_text sum empty_book sum one d.rules.profiles ts d.lines (all_carried d) d.drops.counts) under
         ∙ ap (λ (xs : List Profile). report_text sum empty_book sum one xs us d.lines (all_carried d) d.drops.counts) profiles
-        ∙ ap (λ (ls : List Line). report_text sum empty_book sum one ps us ls (map (carried_on d.shards) ls) d.drops.counts) lines
+        ∙ ap (λ (ls : List CircuitLine). report_text sum empty_book sum one ps us ls (map (carried_on d.shards) ls) d.drops.counts) lines
         ∙ ap (λ (ts : List Traffic). report_text sum empty_book sum one ps us (map (line_after (stops_of rounds)) (map line_of config.statics)) ts d.drops.counts) (traffic_same sent (stops_of rounds) exact d.shards no_rows config.statics)
         ∙ report_told sum empty_book sum one ps us (stops_of rounds) (map line_of config.statics) (all_traffic config sent) d.drops.counts
         ∙ ap (λ (x : List ℕ). report_text sum empty_book sum one ps us (map line_of config.statics) (all_traffic config sent) x) drops

@@ -6,13 +6,13 @@ use Rattle.std.proofs.lemmas.Option.{none-some, same_Some}
 use Rattle.bng_base.specs.declared.item.Entry.{Entry}
 use Rattle.bng_engine.specs.Lists.{AnyOf}
 use Rattle.bng_engine.specs.Views.{ShardView}
-use Rattle.bng_ppp.specs.PppState.{is_open}
+use Rattle.bng_ppp.specs.LinkState.{is_open}
 use Rattle.bng_sessions.specs.Listed.{values}
 use Rattle.bng_sessions.specs.Sessions.{IsNumberOf, value_at}
 use Rattle.bng_verdict.specs.declared.question.QuestionNo.{QuestionNo}
-use Rattle.bng_steps.specs.Made.{Question}
+use Rattle.bng_steps.specs.LinkService.{Question}
 use Rattle.bng_steps.specs.declared.session.Service.{Service}
-use Rattle.bng_steps.specs.declared.session.Service.TheVariants.{Provisioned, Discovered}
+use Rattle.bng_steps.specs.declared.session.Service.TheVariants.{Provisioned, Linked}
 use Rattle.bng_steps.specs.declared.session.Session.{Session}
 use Rattle.bng_steps.specs.Protocol.{ShardState, Handled, pppoe}
 use Rattle.bng_steps.specs.Questions.{Asking, asked_in, asking_of, last_asking, last_asking_at, last_in, open_in, open_of, questions_of}
@@ -36,7 +36,7 @@ the_question x (Some q) a (suc k, l, is) = absurd (omega arith)
 
 open_last : (v : Service) (q : Question) → open_in v ≡ Some q → last_in v ≡ Some q
 open_last (Provisioned l) q e = absurd (none-some q e)
-open_last (Discovered m) q e = if_some (not m.ended && is_open m.link.auth) m.question q e
+open_last (Linked m) q e = if_some (not m.ended && is_open m.link.auth) m.question q e
 
 pub stands : (s : State) (a : Asking) → Contains (questions_of s) a → (n : ℕ) × (last_asking_at s n ≡ Some a)
 stands s a among =

@@ -14,7 +14,7 @@ use Rattle.bng_engine.specs.Terms.{Key, Stop}
 use Rattle.bng_engine.specs.Views.{ShardView, turn_in}
 use Rattle.bng_steps.specs.declared.sums.Traffic.{Traffic}
 use Rattle.bng_steps.specs.Protocol.{ShardState, Handled}
-use Rattle.bng_desk.specs.declared.line.Line.{Line}
+use Rattle.bng_desk.specs.declared.line.CircuitLine.{CircuitLine}
 use Rattle.bng_desk.specs.Model.{Desk, all_stopped, line_after, plus_book, plus_traffic, stopped_of, total_of, traffic_by}
 use Rattle.bng_desk.specs.Causes.{causes}
 use Rattle.bng_desk.specs.Report.{drop_lines, profile_lines, report_text, static_line, static_lines, traffic_line, worker_lines}
@@ -41,22 +41,22 @@ traffic_more t address a b =
     traffic_is (plus_traffic (plus_traffic t (stopped_of address a)) (stopped_of address b)) (t.input + (stopped_of address (a ++ b)).input) (t.output + (stopped_of address (a ++ b)).output)
     (omega (arith, stopped_more Octets (has_lease address) true a b)) (omega (arith, stopped_more Octets (has_lease address) false a b))
 
-abbrev with_stopped : Line → Traffic → Line
+abbrev with_stopped : CircuitLine → Traffic → CircuitLine
 with_stopped l t = record l { stopped = t }
 
-line_none : (l : Line) → line_after [] l ≡ l
+line_none : (l : CircuitLine) → line_after [] l ≡ l
 line_none l = ap (with_stopped l) (traffic_is (plus_traffic l.stopped (stopped_of l.address [])) l.stopped.input l.stopped.output (add-zero l.stopped.input) (add-zero l.stopped.output))
 
-line_more : (a b : List Stop) (l : Line) → line_after b (line_after a l) ≡ line_after (a ++ b) l
+line_more : (a b : List Stop) (l : CircuitLine) → line_after b (line_after a l) ≡ line_after (a ++ b) l
 line_more a b l = ap (with_stopped l) (traffic_more l.stopped l.address a b)
 
-lines_none : (ls : List Line) → map (line_after []) ls ≡ ls
+lines_none : (ls : List CircuitLine) → map (line_after []) ls ≡ ls
 lines_none [] = refl
-lines_none (l ∷ ls) = ap (λ (x : Line). x ∷ map (line_after []) ls) (line_none l) ∙ ap (λ (xs : List Line). l ∷ xs) (lines_none ls)
+lines_none (l ∷ ls) = ap (λ (x : CircuitLine). x ∷ map (line_after []) ls) (line_none l) ∙ ap (λ (xs : List CircuitLine). l ∷ xs) (lines_none ls)
 
-lines_more : (a b : List Stop) (ls : List Line) → map (line_after b) (map (line_after a) ls) ≡ map (line_after (a ++ b)) ls
+lines_more : (a b : List Stop) (ls : List CircuitLine) → map (line_after b) (map (line_after a) ls) ≡ map (line_after (a ++ b)) ls
 lines_more a b [] = refl
-lines_more a b (l ∷ ls) = ap (λ (x : Line). x ∷ map (line_after b) (map (line_after a) ls)) (line_more a b l) ∙ ap (λ (xs : List Line). line_after (a ++ b) l ∷ xs) (lines_more a b ls)
+lines_more a b (l ∷ ls) = ap (λ (x : CircuitLine). x ∷ map (line_after b) (map (line_after a) ls)) (line_more a b l) ∙ ap (λ (xs : List CircuitLine). line_after (a ++ b) l ∷ xs) (lines_more a b ls)
 
 -- The Stops of a round, as the engine lists them
 pub round_stops : (vs : List (ShardView ShardState Handled)) → flat_map (λ v. v.stops) vs ≡ stops_in (map turn_in vs)
@@ -141,12 +141,12 @@ rules_gone d d' (round ∷ rounds) run = rules_gone run.0 d' rounds run.2 ∙ ru
 -- The report -----------------------------------------------------------------------------------------------------------
 
 -- it names a circuit by its address alone
-lines_told : (stops : List Stop) (ls : List Line) (ts : List Traffic) → static_lines (map (line_after stops) ls) ts ≡ static_lines ls ts
+lines_told : (stops : List Stop) (ls : List CircuitLine) (ts : List Traffic) → static_lines (map (line_after stops) ls) ts ≡ static_lines ls ts
 lines_told stops [] ts = refl
 lines_told stops (l ∷ ls) [] = refl
 lines_told stops (l ∷ ls) (t ∷ ts) = ap (λ (x : List ℕ). static_line l.address t ++ x) (lines_told stops ls ts)
 
-pub report_told : (stopped live total : Book) (workers : List Traffic) (profiles : List Profile) (under : List Traffic) (stops : List Stop) (ls : List Line) (ts : List Traffic) (drops : List ℕ)
+pub report_told : (stopped live total : Book) (workers : List Traffic) (profiles : List Profile) (under : List Traffic) (stops : List Stop) (ls : List CircuitLine) (ts : List Traffic) (drops : List ℕ)
     → report_text stopped live total workers profiles under (map (line_after stops) ls) ts drops ≡ report_text stopped live total workers profiles under ls ts drops
 report_told stopped live total workers profiles under stops ls ts drops =
     ap

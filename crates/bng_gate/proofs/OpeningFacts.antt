@@ -18,7 +18,7 @@ use Rattle.bng_lane.specs.State.{IsNewLane}
 use Rattle.bng_steps.specs.declared.rules.Rules.{Rules}
 use Rattle.bng_steps.specs.declared.session.Session.{Session}
 use Rattle.bng_steps.specs.Granting.{IsSound, accepted_ask_at, accepted_in}
-use Rattle.bng_steps.specs.Made.{Question}
+use Rattle.bng_steps.specs.LinkService.{Question}
 use Rattle.bng_steps.specs.Opening.{in_order, numbered_after, opened_slots}
 use Rattle.bng_steps.specs.Protocol.{ShardState, opened}
 use Rattle.bng_steps.specs.Questions.{Asking, asked_in, last_asking, last_asking_at, none_handed, open_of, questions_of}

@@ -40,13 +40,13 @@ use Rattle.bng_lns.specs.Framed.{IsCallFrameTo, call_frame}
 use Rattle.bng_lns.specs.Tunnels.{Answer as TunnelAnswer, NoTunnel, NoRequest, Steps, TunnelsState}
 use Rattle.bng_pppoe_wire.proofs.Spelled.{six}
 use Rattle.bng_radius_wire.specs.Grammar.{Packet as Request}
-use Rattle.bng_steps.specs.Made.{Made}
+use Rattle.bng_steps.specs.LinkService.{LinkService}
 use Rattle.bng_steps.specs.declared.rules.Rules.{Rules}
 use Rattle.bng_steps.specs.declared.session.Lease.{Lease}
 use Rattle.bng_steps.specs.declared.session.Service.{Service}
-use Rattle.bng_steps.specs.declared.session.Service.TheVariants.{Provisioned, Discovered}
+use Rattle.bng_steps.specs.declared.session.Service.TheVariants.{Provisioned, Linked}
 use Rattle.bng_steps.specs.declared.session.Session.{Session}
-use Rattle.bng_steps.specs.declared.way.Called.{Called}
+use Rattle.bng_steps.specs.declared.way.TunnelCall.{TunnelCall}
 use Rattle.bng_steps.specs.declared.way.Way.{Way}
 use Rattle.bng_steps.specs.declared.way.Way.TheVariants.{Port, Call}
 use Rattle.bng_steps.specs.Calls.{HearsCallMessage, TakesFound, TakesIfLives, is_icrq}
@@ -248,7 +248,7 @@ module _ (r : Rules) (terms : List Key) (s : State) (own : AreOwn s.sessions) (e
         term = term;
       }
 
-  call_way : (c : Called) (session : SessionNo) (v : Ipv4) (packet : List ℕ) (out : Datagram) → IsPassedOn v e.item.frame.payload packet → IsCarriedDown c packet out.role out.peer out.octets
+  call_way : (c : TunnelCall) (session : SessionNo) (v : Ipv4) (packet : List ℕ) (out : Datagram) → IsPassedOn v e.item.frame.payload packet → IsCarriedDown c packet out.role out.peer out.octets
       → IsTermOn terms v.dst (L2tp c.peer c.tunnel session) → GoesOverCall terms v e.item.frame.payload out
   call_way c session v packet out passed f term =
       let inside : drop 10 out.octets ≡ packet = ap (drop 10) f.octets_are ∙ packet_over c.far (to_peer c.call) packet in
@@ -306,15 +306,15 @@ module _ (r : Rules) (terms : List Key) (s : State) (own : AreOwn s.sessions) (e
   data_goes taken found info is_taken comes (fate, decides, inl (forwards, h)) = goes_up taken found info fate is_taken comes decides forwards h
   data_goes taken found info is_taken comes (fate, decides, inr (stays, h)) = other _ h stays
 
-  ppp : (n : ℕ) (x : Session) (made : Made) (octets : List ℕ) → HearsPpp r s e n x made octets d → Goes
+  ppp : (n : ℕ) (x : Session) (made : LinkService) (octets : List ℕ) → HearsPpp r s e n x made octets d → Goes
   ppp n x made octets (inl (over, h)) = other _ h (λ f. absurd cc)
   ppp n x made octets (inr (live, outs, cause, x', beside', drives, h)) = other _ h (λ f. absurd cc)
 
   control : (v : Service) (x : Session) (p : PppoeFrame) → HearsControl v r s e x p d → Goes
   control (Provisioned l) x p h = other _ h (λ f. absurd cc)
-  control (Discovered made) x p (inl (padt, inl (over, h))) = other _ h (λ f. absurd cc)
-  control (Discovered made) x p (inl (padt, inr (live, h))) = other _ h (λ f. absurd cc)
-  control (Discovered made) x p (inr (data_frame, h)) = ppp p.session x made p.payload h
+  control (Linked made) x p (inl (padt, inl (over, h))) = other _ h (λ f. absurd cc)
+  control (Linked made) x p (inl (padt, inr (live, h))) = other _ h (λ f. absurd cc)
+  control (Linked made) x p (inr (data_frame, h)) = ppp p.session x made p.payload h
 
   named : (p : PppoeFrame) (found : Option Session) → HearsIn found r s e p d → Goes
   named p None h = other _ h (λ f. absurd cc)
@@ -373,8 +373,8 @@ module _ (r : Rules) (terms : List Key) (s : State) (own : AreOwn s.sessions) (e
   -- data of calls
   over : (v : Service) (x : Session) (p : DataMessage) → HearsOver v r s e x p d → Goes
   over (Provisioned l) x p h = other _ h (λ f. absurd cc)
-  over (Discovered made) x p (inl (connected, h)) = ppp p.session x made p.ppp h
-  over (Discovered made) x p (inr (unconnected, h)) = other _ h (λ f. absurd cc)
+  over (Linked made) x p (inl (connected, h)) = ppp p.session x made p.ppp h
+  over (Linked made) x p (inr (unconnected, h)) = other _ h (λ f. absurd cc)
 
   over_found : (found : Option Session) (p : DataMessage) → HearsFor found r s e p d → Goes
   over_found None p h = other _ h (λ f. absurd cc)

@@ -5,8 +5,8 @@ use Rattle.bng_base.specs.Stretch.{Outside}
 use Rattle.bng_base.specs.Told.{ClockTold, TraceTold, SinkTold, Grows}
 use Rattle.bng_config.specs.declared.config.Config.{Config}
 use Rattle.bng_desk.specs.Model.{Desk}
-use Rattle.bng_gate.specs.declared.texts.Opening.{Opening}
-use Rattle.bng_gate.specs.declared.texts.Opening.TheVariants.{Configuration, Seed, Control, Core, Access, Auth, Acct, Tunnel, Coa}
+use Rattle.bng_gate.specs.declared.texts.Unopened.{Unopened}
+use Rattle.bng_gate.specs.declared.texts.Unopened.TheVariants.{Configuration, Seed, Control, Core, Access, Auth, Acct, Tunnel, Coa}
 use Rattle.bng_gate.specs.declared.texts.Refusal.{Refusal}
 use Rattle.bng_gate.specs.declared.texts.Refusal.TheVariants.{Usage, Refused, CannotOpen, OutOfMemory, TraceFailed, OutputFailed}
 use Rattle.bng_gate.specs.Commands.{ExerciseEnds}
@@ -22,7 +22,7 @@ no_rise : ¬ Rose 0 0
 no_rise r = omega (arith, r)
 
 module _ (config : Config) (trace trace' : TraceTold) (last : ℕ) where
-  all_bound : (what : Opening) → ¬ FailsAt config (among_peers 0 trace).plant (among_peers last trace').plant what
+  all_bound : (what : Unopened) → ¬ FailsAt config (among_peers 0 trace).plant (among_peers last trace').plant what
   all_bound Configuration f = f
   all_bound Seed f = f
   all_bound Control f = no_rise f.rose

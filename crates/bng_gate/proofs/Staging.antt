@@ -11,7 +11,7 @@ use Rattle.bng_base.specs.declared.outside.Role.{Role}
 use Rattle.bng_base.specs.declared.outside.Role.TheVariants.{Access, Auth, Acct, Coa, Core, Control, Tunnel}
 use Rattle.bng_base.specs.FateOf.{Arrival}
 use Rattle.bng_engine.specs.Wire.{went}
-use Rattle.bng_desk.specs.declared.reading.Ended.{Ended}
+use Rattle.bng_desk.specs.declared.reading.ReadEnd.{ReadEnd}
 use Rattle.bng_desk.specs.Accounting.{Acknowledged}
 use Rattle.bng_desk.specs.Coa.{Requested, requests_most}
 use Rattle.bng_desk.specs.Control.{Heeded, reply, is_answered}
@@ -182,7 +182,7 @@ module _ (is : Role → Bool) (no_control : is Control ≡ false) (no_tunnel : i
         ∙ sym (flat_map-append told serving ending)
 
 -- Auth is read, or nothing was taken from it
-auth_taken : (most : ℕ) (reads : Bool) (answers : List Answered) (ended : Option Ended) → ReadsWhere most reads answers ended → on_auth (auth_stretch answers ended).taken ≡ taken_in Auth (map (λ a. a.arrival) answers)
+auth_taken : (most : ℕ) (reads : Bool) (answers : List Answered) (ended : Option ReadEnd) → ReadsWhere most reads answers ended → on_auth (auth_stretch answers ended).taken ≡ taken_in Auth (map (λ a. a.arrival) answers)
 auth_taken most true answers None reads = absurd (none-some reads.0 reads.1)
 auth_taken most false answers None reads = ap (λ (as' : List Answered). taken_in Auth (map (λ (a : Answered). a.arrival) as')) (sym reads.1)
 auth_taken most reads answers (Some ended) is =
@@ -190,7 +190,7 @@ auth_taken most reads answers (Some ended) is =
     ap on_auth (append-nil (taken_in Auth arrivals)) ∙ all_of is_auth refl refl (λ n. refl) refl Auth arrivals refl
 
 -- nothing of Coa is of Auth
-coa_no_auth : (requested : List Requested) (ended : Option Ended) → on_auth (asked_stretch requested ended).taken ≡ []
+coa_no_auth : (requested : List Requested) (ended : Option ReadEnd) → on_auth (asked_stretch requested ended).taken ≡ []
 coa_no_auth requested None = refl
 coa_no_auth requested (Some ended) =
     let arrivals = map (λ (q : Requested). q.arrival) requested in
@@ -218,14 +218,14 @@ pub stages_heard : (d d' : Desk) (turns : List Made) (endings : List MadeEnd) �
 stages_heard d d' turns endings run = stages_tell is_auth refl refl (λ n. refl) refl (λ (s : Stage). s.heard) turn_heard end_heard d d' turns endings run
 
 -- nothing of Auth is of Acct
-auth_else : (answers : List Answered) (ended : Option Ended) → on_acct (auth_stretch answers ended).taken ≡ []
+auth_else : (answers : List Answered) (ended : Option ReadEnd) → on_acct (auth_stretch answers ended).taken ≡ []
 auth_else answers None = refl
 auth_else answers (Some ended) =
     let arrivals = map (λ (a : Answered). a.arrival) answers in
     ap on_acct (append-nil (taken_in Auth arrivals)) ∙ none_of is_acct refl refl (λ n. refl) refl Auth arrivals refl
 
 -- nor is anything of Coa
-coa_no_acct : (requested : List Requested) (ended : Option Ended) → on_acct (asked_stretch requested ended).taken ≡ []
+coa_no_acct : (requested : List Requested) (ended : Option ReadEnd) → on_acct (asked_stretch requested ended).taken ≡ []
 coa_no_acct requested None = refl
 coa_no_acct requested (Some ended) =
     let arrivals = map (λ (q : Requested). q.arrival) requested in
@@ -253,14 +253,14 @@ pub stages_acknowledged : (d d' : Desk) (turns : List Made) (endings : List Made
 stages_acknowledged d d' turns endings run = stages_tell is_acct refl refl (λ n. refl) refl (λ (s : Stage). s.acknowledged) turn_acknowledged end_acknowledged d d' turns endings run
 
 -- Coa is read, or nothing was taken from it
-coa_read : (most : ℕ) (reads : Bool) (requested : List Requested) (ended : Option Ended) → ReadsWhere most reads requested ended → on_coa (asked_stretch requested ended).taken ≡ taken_in Coa (map (λ q. q.arrival) requested)
+coa_read : (most : ℕ) (reads : Bool) (requested : List Requested) (ended : Option ReadEnd) → ReadsWhere most reads requested ended → on_coa (asked_stretch requested ended).taken ≡ taken_in Coa (map (λ q. q.arrival) requested)
 coa_read most true requested None reads = absurd (none-some reads.0 reads.1)
 coa_read most false requested None reads = ap (λ (qs : List Requested). taken_in Coa (map (λ (q : Requested). q.arrival) qs)) (sym reads.1)
 coa_read most reads requested (Some ended) is =
     let arrivals = map (λ (q : Requested). q.arrival) requested in
     ap on_coa (append-nil (taken_in Coa arrivals)) ∙ all_of is_coa refl refl (λ n. refl) refl Coa arrivals refl
 
-auth_no_coa : (answers : List Answered) (ended : Option Ended) → on_coa (auth_stretch answers ended).taken ≡ []
+auth_no_coa : (answers : List Answered) (ended : Option ReadEnd) → on_coa (auth_stretch answers ended).taken ≡ []
 auth_no_coa answers None = refl
 auth_no_coa answers (Some ended) =
     let arrivals = map (λ (a : Answered). a.arrival) answers in

@@ -21,7 +21,7 @@ use Rattle.bng_engine.specs.Wire.{went}
 use Rattle.bng_engine.proofs.Wire.{went_append}
 use Rattle.bng_lane.specs.Sends.{LaneSend}
 use Rattle.bng_steps.specs.Protocol.{Handled}
-use Rattle.bng_desk.specs.declared.reading.Ended.{Ended}
+use Rattle.bng_desk.specs.declared.reading.ReadEnd.{ReadEnd}
 use Rattle.bng_desk.specs.Accounting.{Acknowledged, RecordRequests, record_datagram, record_sends, records_stretch}
 use Rattle.bng_desk.specs.Coa.{CoaReplies, CoaSend, Requested, coa_datagram, coa_sends, coa_stretch}
 use Rattle.bng_desk.specs.Control.{Heeded, reply, is_answered}
@@ -63,11 +63,11 @@ round_sent : (round : Option Round) → (round_stretch round).sent ≡ went (sen
 round_sent None = refl
 round_sent (Some round) = refl
 
-none_to_coa : (requested : List Requested) (ended : Option Ended) → (asked_stretch requested ended).sent ≡ []
+none_to_coa : (requested : List Requested) (ended : Option ReadEnd) → (asked_stretch requested ended).sent ≡ []
 none_to_coa requested None = refl
 none_to_coa requested (Some ended) = refl
 
-none_to_auth : (answers : List Answered) (ended : Option Ended) → (auth_stretch answers ended).sent ≡ []
+none_to_auth : (answers : List Answered) (ended : Option ReadEnd) → (auth_stretch answers ended).sent ≡ []
 none_to_auth answers None = refl
 none_to_auth answers (Some ended) = refl
 
@@ -196,13 +196,13 @@ none_of_role role (a ∷ as') e =
     let rest = on_data (taken_in role as') in
     ap (λ (b : Bool). cond b (d ∷ rest) rest) e ∙ none_of_role role as' e
 
-coa_taken : (requested : List Requested) (ended : Option Ended) → on_data (asked_stretch requested ended).taken ≡ []
+coa_taken : (requested : List Requested) (ended : Option ReadEnd) → on_data (asked_stretch requested ended).taken ≡ []
 coa_taken requested None = refl
 coa_taken requested (Some ended) =
     let arrivals = map (λ (q : Requested). q.arrival) requested in
     ap on_data (append-nil (taken_in Coa arrivals)) ∙ none_of_role Coa arrivals refl
 
-auth_taken : (answers : List Answered) (ended : Option Ended) → on_data (auth_stretch answers ended).taken ≡ []
+auth_taken : (answers : List Answered) (ended : Option ReadEnd) → on_data (auth_stretch answers ended).taken ≡ []
 auth_taken answers None = refl
 auth_taken answers (Some ended) =
     let arrivals = map (λ (a : Answered). a.arrival) answers in

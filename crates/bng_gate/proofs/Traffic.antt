@@ -24,7 +24,7 @@ use Rattle.bng_engine.proofs.Wire.{on_wire_went}
 use Rattle.bng_steps.specs.declared.sums.Traffic.{Traffic}
 use Rattle.bng_steps.specs.Protocol.{ShardState, Handled, pppoe, row_at}
 use Rattle.bng_steps.specs.Reader.{pppoe_reader}
-use Rattle.bng_desk.specs.declared.line.Line.{Line}
+use Rattle.bng_desk.specs.declared.line.CircuitLine.{CircuitLine}
 use Rattle.bng_desk.specs.Model.{all_stopped, carried_on, line_after, live_of, no_traffic, plus_book, plus_traffic, total_of, traffic_at, traffic_or}
 use Rattle.bng_desk.specs.Opening.{line_of}
 use Rattle.bng_desk.proofs.InAll.{book_is, live_in_all, plus_in, stopped_in_all}
@@ -92,7 +92,7 @@ none_carried (v ∷ vs) none (suc i) address = none_carried vs none.1 i address
 
 module _ (sent : List Datagram) (stops : List Stop) (exact : StopsAccount stops sent) (shards : List (ShardView ShardState Entry)) (none : AllByRecursion (λ v. v.rows ≡ []) shards) where
   -- a circuit's line in the end
-  abbrev line_in : Static → Line
+  abbrev line_in : Static → CircuitLine
   line_in c = line_after stops (line_of c)
 
   traffic_one : (c : Static) → carried_on shards (line_in c) ≡ traffic_of sent c

@@ -13,7 +13,7 @@ use Rattle.bng_coa.specs.Replies.{reply_octets}
 use Rattle.bng_coa.specs.State.{State as CoaState}
 use Rattle.bng_config.specs.declared.config.Config.{Config}
 use Rattle.bng_radius_wire.specs.Grammar.{IsRadius, Packet, length_in}
-use Rattle.bng_steps.specs.declared.changes.Answer.{Answer}
+use Rattle.bng_steps.specs.declared.changes.ChangeAnswer.{ChangeAnswer}
 use Rattle.bng_steps.specs.Protocol.{Handled, HandlesStep, ShardState}
 use Rattle.bng_desk.specs.Coa.{AdmitsOne, AnswersLooseKind, CoaReply, CoaSend, Given, GivesAnswer, Requested, coa_datagram, repeats_of}
 use Rattle.bng_desk.specs.Items.{all_loose}
@@ -83,7 +83,7 @@ RepeatsNone (Waits t) = Unit {0}
 -- A datagram of the receiver was taken by an earlier call, as a new request under the number of the answer. The request at the front of its
 -- octets reads as this packet, and the octets are those of the reply to it with this verdict, signed under the secret (RFC 5176 sections 2.3
 -- and 3). Between the two no other reply was given under this number, so no two replies that were given are to one datagram.
-pub record IsReplyTo (secret : List ℕ) (calls : List CoaCall) (k : ℕ) (a : Answer) (r : CoaReply) : Type 0 where
+pub record IsReplyTo (secret : List ℕ) (calls : List CoaCall) (k : ℕ) (a : ChangeAnswer) (r : CoaReply) : Type 0 where
   pub place : ℕ
   pub earlier : place < k
   pub moment : ℕ

@@ -42,7 +42,7 @@ use Rattle.bng_steps.specs.Protocol.{ShardState, Handled, key_in, pppoe}
 use Rattle.bng_steps.specs.Questions.{Asking, asking_from, last_asking_at}
 use Rattle.bng_steps.specs.Tenures.{Tenure}
 use Rattle.bng_steps.specs.declared.session.Session.{Session}
-use Rattle.bng_steps.specs.declared.way.Called.{Called}
+use Rattle.bng_steps.specs.declared.way.TunnelCall.{TunnelCall}
 use Rattle.bng_steps.specs.declared.way.Way.TheVariants.{Call}
 use Rattle.bng_sessions.specs.Sessions.{value_at}
 use Rattle.bng_verdict.specs.declared.question.AuthAsk.{AuthAsk}
@@ -329,7 +329,7 @@ pub record IsOverCall (s : ShardState) (to : Peer) (octets : List ℕ) : Type 0 
   pub session : SessionNo
   pub x : Session
   pub found : value_at s.slots.sessions session.0 ≡ Some x
-  pub called : Called
+  pub called : TunnelCall
   pub way_is : x.way ≡ Call called
   pub peer : called.peer ≡ to
   pub ppp : List ℕ

@@ -18,8 +18,8 @@ use Rattle.bng_desk.specs.declared.desk.DeskState.TheVariants.{Ended, Starved}
 use Rattle.bng_desk.specs.Model.{Desk, state_of, all_carried, by_profile, sums_of, traffic_by}
 use Rattle.bng_desk.specs.Opening.{IsOpened}
 use Rattle.bng_desk.specs.Report.{report_text}
-use Rattle.bng_gate.specs.declared.texts.Opening.{Opening}
-use Rattle.bng_gate.specs.declared.texts.Opening.TheVariants.{Configuration, Seed, Control as ControlOpening, Core as CoreOpening, Access as AccessOpening, Auth as AuthOpening, Acct as AcctOpening, Tunnel as TunnelOpening, Coa as CoaOpening}
+use Rattle.bng_gate.specs.declared.texts.Unopened.{Unopened}
+use Rattle.bng_gate.specs.declared.texts.Unopened.TheVariants.{Configuration, Seed, Control as ControlOpening, Core as CoreOpening, Access as AccessOpening, Auth as AuthOpening, Acct as AcctOpening, Tunnel as TunnelOpening, Coa as CoaOpening}
 use Rattle.bng_gate.specs.declared.texts.Refusal.{Refusal}
 use Rattle.bng_gate.specs.declared.texts.Refusal.TheVariants.{Usage, Refused, CannotOpen, OutOfMemory, TraceFailed, OutputFailed}
 use Rattle.bng_gate.specs.Texts.{refusal_text, status_of}
@@ -183,7 +183,7 @@ pub record FailsToBindCoa (config : Config) (old new : PlantTold) : Type 0 where
   pub there : IsSome (coa_local config.coa)
   pub fails : FailsToBind config (binds_before_coa config) old new
 
-abbrev pub FailsAt : Config → PlantTold → PlantTold → Opening → Type 0
+abbrev pub FailsAt : Config → PlantTold → PlantTold → Unopened → Type 0
 FailsAt config old new Configuration = ⊥
 FailsAt config old new Seed = ⊥
 FailsAt config old new ControlOpening = FailsToBind config 0 old new
@@ -435,7 +435,7 @@ pub record IsUnbound (old new : World) (Fails : Config → PlantTold → PlantTo
   pub out : new.out ≡ old.out
 
 -- what is named could not be opened
-abbrev pub Fails : World → World → Opening → Type 0
+abbrev pub Fails : World → World → Unopened → Type 0
 Fails old new Configuration = IsUnread old new
 Fails old new Seed = IsUnseeded old new
 Fails old new ControlOpening = IsUnbound old new (λ config p p'. FailsToBind config 0 p p')
@@ -447,7 +447,7 @@ Fails old new TunnelOpening = IsUnbound old new (λ config p p'. FailsToBindTunn
 Fails old new CoaOpening = IsUnbound old new (λ config p p'. FailsToBindCoa config p p')
 
 -- what is named could not be opened, and no receive, send or wait was made
-pub record IsUnopened (old new : World) (what : Opening) : Type 0 where
+pub record IsUnopened (old new : World) (what : Unopened) : Type 0 where
   pub fails : Fails old new what
   pub heard : new.plant.heard ≡ old.plant.heard
   pub taken : new.plant.taken ≡ old.plant.taken
@@ -516,7 +516,7 @@ pub record ServeEnds (most : ℕ) (old new : World) (status : ℕ) : Type 0 wher
   pub served : status ≡ 0 → IsServed most old new
   pub no_usage : ¬ (status ≡ 1)
   pub refused : status ≡ 2 → (fault : Fault) × Refuses most old new (Refused fault)
-  pub unopened : status ≡ 3 → (what : Opening) × Refuses most old new (CannotOpen what)
+  pub unopened : status ≡ 3 → (what : Unopened) × Refuses most old new (CannotOpen what)
   pub starved : status ≡ 4 → Refuses most old new OutOfMemory
   pub unwritten : status ≡ 5 → IsUnwritten most old new
   pub unanswered : status ≡ 6 → IsUnanswered most old new

@@ -4,8 +4,8 @@ use Rattle.std.specs.Fmt.{decimal}
 use Rattle.bng_config.specs.declared.fault.Fault.{Fault}
 use Rattle.bng_config.specs.Texts.{fault_text}
 use Rattle.bng_gate.specs.declared.texts.Line.{Line}
-use Rattle.bng_gate.specs.declared.texts.Opening.{Opening}
-use Rattle.bng_gate.specs.declared.texts.Opening.TheVariants.{Configuration, Seed, Control, Core, Access, Auth, Acct, Tunnel, Coa}
+use Rattle.bng_gate.specs.declared.texts.Unopened.{Unopened}
+use Rattle.bng_gate.specs.declared.texts.Unopened.TheVariants.{Configuration, Seed, Control, Core, Access, Auth, Acct, Tunnel, Coa}
 use Rattle.bng_gate.specs.declared.texts.Refusal.{Refusal}
 use Rattle.bng_gate.specs.declared.texts.Refusal.TheVariants.{Usage, Refused, CannotOpen, OutOfMemory, TraceFailed, OutputFailed}
 
@@ -17,7 +17,7 @@ abbrev pub refused_text : Fault → List ℕ
 refused_text fault = codes "bng: config: " ++ fault_text fault ++ codes "\n"
 
 -- an access port is named by its number
-abbrev pub opening_name : Opening → List ℕ
+abbrev pub opening_name : Unopened → List ℕ
 opening_name Configuration = codes "configuration"
 opening_name Seed = codes "seed"
 opening_name Control = codes "control"
@@ -28,7 +28,7 @@ opening_name Acct = codes "acct"
 opening_name Tunnel = codes "tunnel"
 opening_name Coa = codes "coa"
 
-abbrev pub cannot_open_text : Opening → List ℕ
+abbrev pub cannot_open_text : Unopened → List ℕ
 cannot_open_text what = codes "bng: cannot open " ++ opening_name what ++ codes "\n"
 
 abbrev pub refusal_text : Refusal → List ℕ

@@ -13,4 +13,4 @@ mod top;
 
 pub use crate::commands::run;
 pub use crate::laws::{logins_are_granted, replies_are_of_questions};
-pub use crate::texts::{Line, Opening, Refusal, line_of, status};
+pub use crate::texts::{Line, Unopened, Refusal, line_of, status};

@@ -9,7 +9,7 @@ use itoa::Buffer;
 
 /// What could not be opened.
 #[derive(Clone, Copy)]
-pub enum Opening {
+pub enum Unopened {
     Configuration,
     Seed,
     Control,
@@ -30,7 +30,7 @@ pub enum Refusal {
     /// The configuration breaks a rule.
     Refused(Fault),
     /// A file or a role could not be opened.
-    CannotOpen(Opening),
+    CannotOpen(Unopened),
     OutOfMemory,
     /// The trace did not take a round.
     TraceFailed,
@@ -111,19 +111,19 @@ fn digits(number: u8) -> ArrayString<64>
 }
 
 // What could not be opened.
-fn cannot_open(what: Opening) -> Line<'static>
+fn cannot_open(what: Unopened) -> Line<'static>
     ensures { line_text result ≡ cannot_open_text what }
 {
     match what {
-        Opening::Configuration => whole("bng: cannot open configuration\n"),
-        Opening::Seed => whole("bng: cannot open seed\n"),
-        Opening::Control => whole("bng: cannot open control\n"),
-        Opening::Core => whole("bng: cannot open core\n"),
-        Opening::Auth => whole("bng: cannot open auth\n"),
-        Opening::Acct => whole("bng: cannot open acct\n"),
-        Opening::Tunnel => whole("bng: cannot open tunnel\n"),
-        Opening::Coa => whole("bng: cannot open coa\n"),
-        Opening::Access(number) => Line {
+        Unopened::Configuration => whole("bng: cannot open configuration\n"),
+        Unopened::Seed => whole("bng: cannot open seed\n"),
+        Unopened::Control => whole("bng: cannot open control\n"),
+        Unopened::Core => whole("bng: cannot open core\n"),
+        Unopened::Auth => whole("bng: cannot open auth\n"),
+        Unopened::Acct => whole("bng: cannot open acct\n"),
+        Unopened::Tunnel => whole("bng: cannot open tunnel\n"),
+        Unopened::Coa => whole("bng: cannot open coa\n"),
+        Unopened::Access(number) => Line {
             front: "bng: cannot open access ",
             middle: digits(number),
             name: &[],

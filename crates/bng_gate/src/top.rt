@@ -8,7 +8,7 @@ ghost use Rattle.bng_gate.specs.Serving.{MakesTurns, FailsTurning};
 
 use crate::saying::say;
 use crate::serving::{TraceFault, finish, has_starved, serve};
-use crate::texts::{self, Opening, Refusal};
+use crate::texts::{self, Unopened, Refusal};
 use bng_base::{AccessPort, Peer, Role};
 use bng_config::{Config, ConfigError};
 use bng_desk::{Desk, DeskError};
@@ -34,7 +34,7 @@ pub(crate) fn prepare<F: Files>(alloc: Global, name: &str, files: &mut F) -> Res
 {
     let text = match files.read(alloc, name) {
         Ok(text) => text,
-        Err(FileError::Failed) => return Err(Refusal::CannotOpen(Opening::Configuration)),
+        Err(FileError::Failed) => return Err(Refusal::CannotOpen(Unopened::Configuration)),
         Err(FileError::OutOfMemory) => return Err(Refusal::OutOfMemory),
     };
     match bng_config::read(alloc, text.as_slice()) {
@@ -63,22 +63,22 @@ fn bind_ports<P: Plant>(ports: &[AccessPort], plant: &mut P) -> Result<(), u8>
 }
 
 // Binds Control and then the core, and says which could not be bound.
-fn bind_ends<P: Plant>(config: &Config, plant: &mut P) -> Result<(), Opening>
+fn bind_ends<P: Plant>(config: &Config, plant: &mut P) -> Result<(), Unopened>
     ensures bound { OnOk result (Binds config.now 2 (P.told plant.old) (P.told plant.new)) }
     ensures unfailed { OnOk result ((P.told plant.new).faults ≡ (P.told plant.old).faults) }
     ensures failed { IfErr result (λ what. FailsAt config.now (P.told plant.old) (P.told plant.new) what) }
 {
     if plant.bind(Role::Control, config.control_local, None) == Bound::Failed {
-        return Err(Opening::Control);
+        return Err(Unopened::Control);
     }
     if plant.bind(Role::Core, config.core_local, Some(config.core_peer)) == Bound::Failed {
-        return Err(Opening::Core);
+        return Err(Unopened::Core);
     }
     Ok(())
 }
 
 // Binds the roles of packets and of logins, one after the other, and says which could not be bound.
-fn bind_access<P: Plant>(config: &Config, plant: &mut P) -> Result<(), Opening>
+fn bind_access<P: Plant>(config: &Config, plant: &mut P) -> Result<(), Unopened>
     requires rules { KeepsRules config.now }
     ensures bound { OnOk result (Binds config.now (3 + length config.now.access) (P.told plant.old) (P.told plant.new)) }
     ensures unfailed { OnOk result ((P.told plant.new).faults ≡ (P.told plant.old).faults) }
@@ -88,16 +88,16 @@ fn bind_access<P: Plant>(config: &Config, plant: &mut P) -> Result<(), Opening>
         return Err(what);
     }
     if let Err(number) = bind_ports(config.access.as_slice(), plant) {
-        return Err(Opening::Access(number));
+        return Err(Unopened::Access(number));
     }
     match plant.bind(Role::Auth, config.auth_local, Some(config.auth_server)) {
         Bound::Ok => Ok(()),
-        Bound::Failed => Err(Opening::Auth),
+        Bound::Failed => Err(Unopened::Auth),
     }
 }
 
 // Binds the roles of packets, of logins and of accounting, one after the other, and says which could not be bound.
-fn bind_acct<P: Plant>(config: &Config, plant: &mut P) -> Result<(), Opening>
+fn bind_acct<P: Plant>(config: &Config, plant: &mut P) -> Result<(), Unopened>
     requires rules { KeepsRules config.now }
     ensures bound { OnOk result (Binds config.now (4 + length config.now.access) (P.told plant.old) (P.told plant.new)) }
     ensures unfailed { OnOk result ((P.told plant.new).faults ≡ (P.told plant.old).faults) }
@@ -108,7 +108,7 @@ fn bind_acct<P: Plant>(config: &Config, plant: &mut P) -> Result<(), Opening>
     }
     match plant.bind(Role::Acct, config.acct_local, Some(config.acct_server)) {
         Bound::Ok => Ok(()),
-        Bound::Failed => Err(Opening::Acct),
+        Bound::Failed => Err(Unopened::Acct),
     }
 }
 
@@ -125,7 +125,7 @@ fn bind_end<P: Plant>(role: Role, end: Option<Peer>, plant: &mut P) -> Bound
 }
 
 // Binds all roles but that of changes, one after the other, and says which could not be bound.
-fn bind_tunnel<P: Plant>(config: &Config, plant: &mut P) -> Result<(), Opening>
+fn bind_tunnel<P: Plant>(config: &Config, plant: &mut P) -> Result<(), Unopened>
     requires rules { KeepsRules config.now }
     ensures bound { OnOk result (Binds config.now (binds_before_coa config.now) (P.told plant.old) (P.told plant.new)) }
     ensures unfailed { OnOk result ((P.told plant.new).faults ≡ (P.told plant.old).faults) }
@@ -136,7 +136,7 @@ fn bind_tunnel<P: Plant>(config: &Config, plant: &mut P) -> Result<(), Opening>
     }
     match bind_end(Role::Tunnel, config.tunnel_local, plant) {
         Bound::Ok => Ok(()),
-        Bound::Failed => Err(Opening::Tunnel),
+        Bound::Failed => Err(Unopened::Tunnel),
     }
 }
 
@@ -151,7 +151,7 @@ fn coa_local(config: &Config) -> Option<Peer>
 }
 
 // Binds one role after the other, the end for changes last, and says which could not be bound.
-fn bind_all<P: Plant>(config: &Config, plant: &mut P) -> Result<(), Opening>
+fn bind_all<P: Plant>(config: &Config, plant: &mut P) -> Result<(), Unopened>
     requires rules { KeepsRules config.now }
     ensures bound { OnOk result (Binds config.now (binds_most config.now) (P.told plant.old) (P.told plant.new)) }
     ensures unfailed { OnOk result ((P.told plant.new).faults ≡ (P.told plant.old).faults) }
@@ -162,7 +162,7 @@ fn bind_all<P: Plant>(config: &Config, plant: &mut P) -> Result<(), Opening>
     }
     match bind_end(Role::Coa, coa_local(config), plant) {
         Bound::Ok => Ok(()),
-        Bound::Failed => Err(Opening::Coa),
+        Bound::Failed => Err(Unopened::Coa),
     }
 }
 
@@ -210,7 +210,7 @@ fn make_ready<E: Entropy, F: Files>(
             rounds,
             seed,
         }),
-        None => Err(Refusal::CannotOpen(Opening::Seed)),
+        None => Err(Refusal::CannotOpen(Unopened::Seed)),
     }
 }
 

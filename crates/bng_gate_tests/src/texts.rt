@@ -1,7 +1,7 @@
 use crate::asserts::{assert_octets, assert_same};
 use bng_base::Listed;
 use bng_config::Fault;
-use bng_gate::{Opening, Refusal, line_of, status};
+use bng_gate::{Unopened, Refusal, line_of, status};
 use bng_schema::{Field, Key, Rule};
 use std::process::Abort;
 use std::test::Fail;
@@ -41,18 +41,18 @@ fn a_fault_of_the_configuration_is_told_in_one_line(rt: HostRuntime) -> Result<(
 }
 
 /// What is not opened, and the line's first, second and last part.
-const OPENINGS: &[(Opening, &str, &str, &str)] = &[
+const OPENINGS: &[(Unopened, &str, &str, &str)] = &[
     (
-        Opening::Configuration,
+        Unopened::Configuration,
         "bng: cannot open configuration\n",
         "",
         "",
     ),
-    (Opening::Core, "bng: cannot open core\n", "", ""),
-    (Opening::Tunnel, "bng: cannot open tunnel\n", "", ""),
-    (Opening::Coa, "bng: cannot open coa\n", "", ""),
-    (Opening::Access(16), "bng: cannot open access ", "16", "\n"),
-    (Opening::Seed, "bng: cannot open seed\n", "", ""),
+    (Unopened::Core, "bng: cannot open core\n", "", ""),
+    (Unopened::Tunnel, "bng: cannot open tunnel\n", "", ""),
+    (Unopened::Coa, "bng: cannot open coa\n", "", ""),
+    (Unopened::Access(16), "bng: cannot open access ", "16", "\n"),
+    (Unopened::Seed, "bng: cannot open seed\n", "", ""),
 ];
 
 #[test]

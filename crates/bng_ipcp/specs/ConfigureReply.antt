@@ -6,14 +6,14 @@ use Rattle.bng_ppp_wire.specs.ConfigureReply as reply
 use Rattle.bng_ppp_wire.specs.ConfigureReply.{Request}
 use Rattle.bng_ipcp.specs.Options.{ip_address}
 use Rattle.bng_ipcp.specs.declared.configure_request.IpcpOptions.{IpcpOptions}
-use Rattle.bng_ipcp.specs.declared.configure_request.SentRequest.{SentRequest}
+use Rattle.bng_ipcp.specs.declared.configure_request.SentIpcpRequest.{SentIpcpRequest}
 use Rattle.bng_ipcp.specs.declared.configure_reply.Taken.{Taken}
 use Rattle.bng_ipcp.specs.declared.configure_reply.Taken.TheVariants.{Accepted, Changed, Ignored}
 use Rattle.bng_ipcp.specs.ConfigureRequest.{asked}
 use Rattle.bng_ipcp.specs.Ask.{Ask}
 
 -- the last Configure-Request that was sent, with its options as it lists them
-abbrev pub request_of : SentRequest → Request
+abbrev pub request_of : SentIpcpRequest → Request
 request_of s = record { id = s.id; options = asked s.options }
 
 abbrev pub last_of : Ask → Option Request

@@ -5,7 +5,7 @@ use Rattle.bng_base.specs.declared.address.Ip4.{Ip4}
 use Rattle.bng_base.specs.PppGrammar.{PppOption}
 use Rattle.bng_ppp_wire.specs.declared.option_table.Width.TheVariants.{Four}
 use Rattle.bng_ppp_wire.specs.declared.option_table.Good.TheVariants.{Only}
-use Rattle.bng_ppp_wire.specs.declared.option_table.Row.{Row}
+use Rattle.bng_ppp_wire.specs.declared.option_table.OptionRow.{OptionRow}
 use Rattle.bng_ppp_wire.specs.declared.judgement.Class.{Class}
 use Rattle.bng_ppp_wire.specs.declared.judgement.Judged.{Judged}
 use Rattle.bng_ppp_wire.specs.Judgement as table
@@ -13,16 +13,16 @@ use Rattle.bng_ipcp.specs.Options.{ip_address, primary_dns, secondary_dns}
 use Rattle.bng_ipcp.specs.declared.judgement.IpcpRules.{IpcpRules}
 
 -- IP-Address: the lease alone. A peer that asks for none is told it.
-abbrev pub address_row : Ip4 → Row
+abbrev pub address_row : Ip4 → OptionRow
 address_row lease = record { kind = ip_address; width = Four; good = Only lease.0; suggestion = lease.0; must_be_named = true }
 
 -- the address of a DNS server, where one is configured: this one alone
-abbrev pub server_rows : ℕ → Option Ip4 → List Row
+abbrev pub server_rows : ℕ → Option Ip4 → List OptionRow
 server_rows kind None = []
 server_rows kind (Some server) =
     record { kind = kind; width = Four; good = Only server.0; suggestion = server.0; must_be_named = false } ∷ []
 
-abbrev pub rows_of : IpcpRules → List Row
+abbrev pub rows_of : IpcpRules → List OptionRow
 rows_of r =
     address_row r.lease ∷ [] ++ server_rows primary_dns (slice_index_or r.dns 0 None)
     ++ server_rows secondary_dns (slice_index_or r.dns 1 None)

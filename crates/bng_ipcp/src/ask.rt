@@ -4,17 +4,17 @@ ghost use Rattle.bng_base.specs.PppGrammar.{packet_text, options_text};
 ghost use Rattle.bng_ppp_wire.specs.View.{packet_of};
 
 use crate::configure_reply::{Taken, left_out};
-use crate::configure_request::{IpcpOptions, SentRequest, asked};
+use crate::configure_request::{IpcpOptions, SentIpcpRequest, asked};
 use bng_base::{Frame, HEADROOM, Ip4};
 use bng_ppp_wire::code::CONFIGURE_REQUEST;
-use bng_ppp_wire::{Packet, Reply, put_made, read_reply};
+use bng_ppp_wire::{Packet, ConfigureReply, put_made, read_reply};
 use std::marker::Model;
 
 /// The gateway's side of IPCP on one link: what its next Configure-Request asks for, and the last one that it sent.
 #[derive(Clone, Copy)]
 pub struct IpcpAsk {
     wanted: IpcpOptions,
-    sent: Option<SentRequest>,
+    sent: Option<SentIpcpRequest>,
 }
 
 impl Model for IpcpAsk {
@@ -68,7 +68,7 @@ impl IpcpAsk {
             body: body.payload(),
         };
         let _done = request.write(into);
-        self.sent = Some(SentRequest {
+        self.sent = Some(SentIpcpRequest {
             id,
             options: wanted,
         });
@@ -88,13 +88,13 @@ impl IpcpAsk {
         };
         let asked = asked(&sent.options);
         match read_reply(sent.id, asked.as_slice(), reply) {
-            Reply::Ack => Taken::Accepted,
-            Reply::Nak(_) => Taken::Changed,
-            Reply::Reject(rejected) => {
+            ConfigureReply::Ack => Taken::Accepted,
+            ConfigureReply::Nak(_) => Taken::Changed,
+            ConfigureReply::Reject(rejected) => {
                 self.wanted = left_out(&self.wanted, rejected.as_slice());
                 Taken::Changed
             }
-            Reply::Other => Taken::Ignored,
+            ConfigureReply::Other => Taken::Ignored,
         }
     }
 }

@@ -17,7 +17,7 @@ pub struct IpcpOptions {
 
 /// A Configure-Request that was sent.
 #[derive(Clone, Copy)]
-pub struct SentRequest {
+pub struct SentIpcpRequest {
     /// Its Identifier.
     pub id: u8,
     pub options: IpcpOptions,

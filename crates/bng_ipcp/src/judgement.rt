@@ -5,7 +5,7 @@ ghost use Rattle.bng_ipcp.specs.Judgement.{IsJudgement, class_of, added, address
 use crate::option::{IP_ADDRESS, PRIMARY_DNS, SECONDARY_DNS};
 use arrayvec::ArrayVec;
 use bng_base::Ip4;
-use bng_ppp_wire::{Class, Good, Judged, Opt, Row, Width};
+use bng_ppp_wire::{Class, Good, Judged, Opt, OptionRow, Width};
 
 /// What a Configure-Request is judged by.
 #[derive(Clone, Copy)]
@@ -33,7 +33,7 @@ pub fn judge<'a>(request: &[Opt<'a>], rules: &IpcpRules) -> Judged<'a>
 }
 
 // The options that are negotiated.
-fn rows(rules: &IpcpRules) -> ArrayVec<Row, 3>
+fn rows(rules: &IpcpRules) -> ArrayVec<OptionRow, 3>
     ensures { result.items ≡ rows_of rules.now }
 {
     let mut rows = ArrayVec::new();
@@ -44,10 +44,10 @@ fn rows(rules: &IpcpRules) -> ArrayVec<Row, 3>
 }
 
 // IP-Address: the lease alone.
-fn address_row(lease: Ip4) -> Row
+fn address_row(lease: Ip4) -> OptionRow
     ensures { result ≡ row_of_address lease }
 {
-    Row {
+    OptionRow {
         kind: IP_ADDRESS,
         width: Width::Four,
         good: Good::Only(lease.0),
@@ -57,13 +57,13 @@ fn address_row(lease: Ip4) -> Row
 }
 
 // The address of a DNS server, where one is configured.
-fn add_server(kind: u8, server: Option<Ip4>, rows: &mut ArrayVec<Row, 3>)
+fn add_server(kind: u8, server: Option<Ip4>, rows: &mut ArrayVec<OptionRow, 3>)
     requires { length rows.old.items < 3 }
     ensures are { rows.new.items ≡ rows.old.items ++ server_rows kind server }
     ensures few { length rows.new.items ≤ length rows.old.items + 1 }
 {
     if let Some(server) = server {
-        rows.push(Row {
+        rows.push(OptionRow {
             kind,
             width: Width::Four,
             good: Good::Only(server.0),

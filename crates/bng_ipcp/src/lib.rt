@@ -13,6 +13,6 @@ pub mod option;
 
 pub use crate::ask::IpcpAsk;
 pub use crate::configure_reply::Taken;
-pub use crate::configure_request::{IpcpOptions, SentRequest};
+pub use crate::configure_request::{IpcpOptions, SentIpcpRequest};
 pub use crate::judgement::{IpcpRules, judge};
 pub use bng_ppp_wire::{Class, Judged, MadeOpt};

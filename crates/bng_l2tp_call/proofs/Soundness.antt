@@ -4,10 +4,10 @@ use Rattle.std.specs.Prelude.{IsSome, unwrap_or}
 use Rattle.std.proofs.lemmas.Bool.{eq-eqb, or_parts}
 use Rattle.bng_l2tp_wire.specs.Avps.{L2tpAvp}
 use Rattle.bng_l2tp_wire.specs.Messages.{ControlMessage, control_text}
-use Rattle.bng_l2tp_call.specs.declared.phase.Phase.{Phase}
-use Rattle.bng_l2tp_call.specs.declared.phase.Phase.TheVariants.{Idle, WaitConnect, Established, Ended}
-use Rattle.bng_l2tp_call.specs.declared.refusal.Refusal.{Refusal}
-use Rattle.bng_l2tp_call.specs.declared.refusal.Refusal.TheVariants.{UnknownAvp, WrongAvp, SequencingRequired, NoSlot}
+use Rattle.bng_l2tp_call.specs.declared.phase.CallPhase.{CallPhase}
+use Rattle.bng_l2tp_call.specs.declared.phase.CallPhase.TheVariants.{Idle, WaitConnect, Established, Ended}
+use Rattle.bng_l2tp_call.specs.declared.refusal.CallRefusal.{CallRefusal}
+use Rattle.bng_l2tp_call.specs.declared.refusal.CallRefusal.TheVariants.{UnknownAvp, WrongAvp, SequencingRequired, NoSlot}
 use Rattle.bng_l2tp_wire.specs.declared.message.TheConstants.{ICRQ, ICCN}
 use Rattle.bng_l2tp_wire.specs.declared.kind.TheConstants.{ASSIGNED_SESSION_ID, CALL_SERIAL_NUMBER}
 use Rattle.bng_l2tp_wire.specs.Values.{value_of, message_type, assigned_session, has_unreadable}
@@ -26,7 +26,7 @@ and_false true = refl
 and_false false = refl
 
 -- the phases that a step tells of
-stays : (p : Phase) → (false ≡ (is_waiting p && is_established p)) × (false ≡ (not (is_ended p) && is_ended p))
+stays : (p : CallPhase) → (false ≡ (is_waiting p && is_established p)) × (false ≡ (not (is_ended p) && is_ended p))
 stays Idle = (refl, refl)
 stays WaitConnect = (refl, refl)
 stays Established = (refl, refl)
@@ -35,7 +35,7 @@ stays Ended = (refl, refl)
 other_type : (a b : ℕ) → Some a ≡ Some b → a ≡ b
 other_type a b e = ap (λ (o : Option ℕ). unwrap_or o 0) e
 
-idle_of : (p : Phase) (type : Option ℕ) → Takes p type → type ≡ Some ICRQ → p ≡ Idle
+idle_of : (p : CallPhase) (type : Option ℕ) → Takes p type → type ≡ Some ICRQ → p ≡ Idle
 idle_of p type icrq_idle e = refl
 idle_of p type iccn_waiting e = absurd (let h = other_type 12 10 e in omega arith)
 idle_of p type cdn_waiting e = absurd (let h = other_type 14 10 e in omega arith)
@@ -45,7 +45,7 @@ idle_of p type wen_established e = absurd (let h = other_type 15 10 e in omega a
 idle_of p type sli_waiting e = absurd (let h = other_type 16 10 e in omega arith)
 idle_of p type sli_established e = absurd (let h = other_type 16 10 e in omega arith)
 
-waiting_of : (p : Phase) (type : Option ℕ) → Takes p type → type ≡ Some ICCN → p ≡ WaitConnect
+waiting_of : (p : CallPhase) (type : Option ℕ) → Takes p type → type ≡ Some ICCN → p ≡ WaitConnect
 waiting_of p type icrq_idle e = absurd (let h = other_type 10 12 e in omega arith)
 waiting_of p type iccn_waiting e = refl
 waiting_of p type cdn_waiting e = refl
@@ -55,7 +55,7 @@ waiting_of p type wen_established e = absurd (let h = other_type 15 12 e in omeg
 waiting_of p type sli_waiting e = refl
 waiting_of p type sli_established e = absurd (let h = other_type 16 12 e in omega arith)
 
-going_on : (p : Phase) (type : Option ℕ) → Takes p type → is_ended p ≡ false
+going_on : (p : CallPhase) (type : Option ℕ) → Takes p type → is_ended p ≡ false
 going_on p type icrq_idle = refl
 going_on p type iccn_waiting = refl
 going_on p type cdn_waiting = refl
@@ -96,7 +96,7 @@ has_slot s avps e l = λ zero_is.
 
 -- The steps -------------------------------------------------------------------------------------------------------------------------------
 
-cdn_short : (session number : ℕ) (cause : Refusal) → length (control_text (cdn session number (code_of cause))) ≤ 512
+cdn_short : (session number : ℕ) (cause : CallRefusal) → length (control_text (cdn session number (code_of cause))) ≤ 512
 cdn_short session number UnknownAvp = lit≤ tt
 cdn_short session number WrongAvp = lit≤ tt
 cdn_short session number SequencingRequired = lit≤ tt
@@ -127,16 +127,16 @@ addressed_keeps s avps =
     by true = (refl, refl)
     by false = (refl, refl)
 
-ends_told : (p : Phase) → is_ended p ≡ false → true ≡ (not (is_ended p) && is_ended Ended)
+ends_told : (p : CallPhase) → is_ended p ≡ false → true ≡ (not (is_ended p) && is_ended Ended)
 ends_told p e = sym (ap (λ (b : Bool). not b && true) e)
 
-at_most : (p : Phase) → rank p ≤ rank Ended
+at_most : (p : CallPhase) → rank p ≤ rank Ended
 at_most Idle = lit≤ tt
 at_most WaitConnect = lit≤ tt
 at_most Established = lit≤ tt
 at_most Ended = lit≤ tt
 
-refuses_sound : (s : CallState) (avps : List L2tpAvp) (cause : Refusal) → is_ended s.phase ≡ false → IsSound s (refuses s avps cause)
+refuses_sound : (s : CallState) (avps : List L2tpAvp) (cause : CallRefusal) → is_ended s.phase ≡ false → IsSound s (refuses s avps cause)
 refuses_sound s avps cause e = record {
   kept = λ t. record { numbered = λ no. absurd cc; addressed = λ no. absurd cc };
   few = lit≤ tt;
@@ -199,7 +199,7 @@ opens_sound s e = record {
   outs = tt;
   over = λ yes. absurd (let no = sym (ap is_ended e) ∙ yes in cc);
   onward = omega (arith, ap rank e);
-  opened = sym (ap (λ (p : Phase). is_waiting p && true) e);
+  opened = sym (ap (λ (p : CallPhase). is_waiting p && true) e);
   ended = and_false (not (is_ended s.phase));
   established = refl;
   cleared = refl;
@@ -229,7 +229,7 @@ disconnects_sound s e = record {
 module _ (s : CallState) (m : ControlMessage) where
   number_read : s.phase ≡ Idle → IsSome (assigned_session s.secret m.avps) → IsSome (addressed s m.avps).peer_number
   number_read e there =
-      subst (λ (p : Phase). IsSome (cond (is_idle p) (record s { peer_number = assigned_session s.secret m.avps }) s).peer_number) (sym e) there
+      subst (λ (p : CallPhase). IsSome (cond (is_idle p) (record s { peer_number = assigned_session s.secret m.avps }) s).peer_number) (sym e) there
 
   requested_sound : IsAccepted s m ICRQ → IsSound s (replies s m.avps)
   requested_sound a =
@@ -275,7 +275,7 @@ end_told_sound s e = record {
   session = refl;
 }
 
-standing : (p : Phase) → stands p ≡ true → is_ended p ≡ false
+standing : (p : CallPhase) → stands p ≡ true → is_ended p ≡ false
 standing Idle e = absurd cc
 standing WaitConnect e = refl
 standing Established e = refl

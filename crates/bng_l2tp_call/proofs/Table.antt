@@ -4,9 +4,9 @@ use Rattle.std.specs.List.{list_any}
 use Rattle.std.proofs.lemmas.Bool.{or_cases, and_parts}
 use Rattle.bng_l2tp_wire.specs.Messages.{ControlMessage}
 use Rattle.bng_l2tp_wire.proofs.Judging.{type_is}
-use Rattle.bng_l2tp_call.specs.declared.phase.Phase.{Phase}
-use Rattle.bng_l2tp_call.specs.declared.phase.Phase.TheVariants.{Idle, WaitConnect, Established, Ended}
-use Rattle.bng_l2tp_call.specs.declared.refusal.Refusal.{Refusal}
+use Rattle.bng_l2tp_call.specs.declared.phase.CallPhase.{CallPhase}
+use Rattle.bng_l2tp_call.specs.declared.phase.CallPhase.TheVariants.{Idle, WaitConnect, Established, Ended}
+use Rattle.bng_l2tp_call.specs.declared.refusal.CallRefusal.{CallRefusal}
 use Rattle.bng_l2tp_wire.specs.declared.message.TheConstants.{ICRQ, ICCN, CDN, WEN, SLI}
 use Rattle.bng_l2tp_wire.specs.Values.{message_type}
 use Rattle.bng_l2tp_wire.specs.Judge.{is_type}
@@ -17,7 +17,7 @@ use Rattle.bng_l2tp_call.specs.Steps.{Step, nothing, refuses, IsAccepted, Hears,
 use Rattle.bng_l2tp_call.specs.Cases.{accepted, judged, message_step}
 
 -- the phases and the messages that are taken in them
-pub data Takes : Phase → Option ℕ → Type 0 where
+pub data Takes : CallPhase → Option ℕ → Type 0 where
   icrq_idle : Takes Idle (Some ICRQ)
   iccn_waiting : Takes WaitConnect (Some ICCN)
   cdn_waiting : Takes WaitConnect (Some CDN)
@@ -28,7 +28,7 @@ pub data Takes : Phase → Option ℕ → Type 0 where
   sli_established : Takes Established (Some SLI)
 
 -- a row of the table, and the rows after it
-by_row : (p : Phase) (type : Option ℕ) (wanted : ℕ) (phases : List Phase) (rest : Bool) → (list_any (same_phase p) phases ≡ true → Takes p (Some wanted)) → (rest ≡ true → Takes p type)
+by_row : (p : CallPhase) (type : Option ℕ) (wanted : ℕ) (phases : List CallPhase) (rest : Bool) → (list_any (same_phase p) phases ≡ true → Takes p (Some wanted)) → (rest ≡ true → Takes p type)
     → (is_type type wanted && list_any (same_phase p) phases || rest) ≡ true → Takes p type
 by_row p type wanted phases rest here later e =
     elim (or_cases (is_type type wanted && list_any (same_phase p) phases) rest e) [
@@ -37,25 +37,25 @@ by_row p type wanted phases rest here later e =
       | inr rows ↦ later rows
     ]
 
-at_idle : (p : Phase) → list_any (same_phase p) (Idle ∷ []) ≡ true → Takes p (Some ICRQ)
+at_idle : (p : CallPhase) → list_any (same_phase p) (Idle ∷ []) ≡ true → Takes p (Some ICRQ)
 at_idle Idle e = icrq_idle
 at_idle WaitConnect e = absurd cc
 at_idle Established e = absurd cc
 at_idle Ended e = absurd cc
 
-at_waiting : (p : Phase) → list_any (same_phase p) (WaitConnect ∷ []) ≡ true → Takes p (Some ICCN)
+at_waiting : (p : CallPhase) → list_any (same_phase p) (WaitConnect ∷ []) ≡ true → Takes p (Some ICCN)
 at_waiting Idle e = absurd cc
 at_waiting WaitConnect e = iccn_waiting
 at_waiting Established e = absurd cc
 at_waiting Ended e = absurd cc
 
-at_standing : (type : ℕ) → Takes WaitConnect (Some type) → Takes Established (Some type) → (p : Phase) → list_any (same_phase p) (WaitConnect ∷ Established ∷ []) ≡ true → Takes p (Some type)
+at_standing : (type : ℕ) → Takes WaitConnect (Some type) → Takes Established (Some type) → (p : CallPhase) → list_any (same_phase p) (WaitConnect ∷ Established ∷ []) ≡ true → Takes p (Some type)
 at_standing type waiting established Idle e = absurd cc
 at_standing type waiting established WaitConnect e = waiting
 at_standing type waiting established Established e = established
 at_standing type waiting established Ended e = absurd cc
 
-pub takes : (p : Phase) (type : Option ℕ) → is_taken p type ≡ true → Takes p type
+pub takes : (p : CallPhase) (type : Option ℕ) → is_taken p type ≡ true → Takes p type
 takes p type e =
     by_row p type ICRQ (Idle ∷ []) _ (at_idle p)
     (by_row p type ICCN (WaitConnect ∷ []) _ (at_waiting p)
@@ -65,7 +65,7 @@ takes p type e =
 
 module _ (s : CallState) (m : ControlMessage) where
   -- a message that is accepted does what its row says
-  accepted_hears : (p : Phase) (type : Option ℕ) → is_taken s.phase (message_type m.avps) ≡ true → refusal_of s m.avps ≡ None → message_type m.avps ≡ type → Takes p type → Hears s m (accepted s type m.avps)
+  accepted_hears : (p : CallPhase) (type : Option ℕ) → is_taken s.phase (message_type m.avps) ≡ true → refusal_of s m.avps ≡ None → message_type m.avps ≡ type → Takes p type → Hears s m (accepted s type m.avps)
   accepted_hears p type e q t icrq_idle = requested (record { taken = e; type_is = t; right = q })
   accepted_hears p type e q t iccn_waiting = connected (record { taken = e; type_is = t; right = q })
   accepted_hears p type e q t cdn_waiting = disconnected (record { taken = e; type_is = t; right = q })
@@ -75,7 +75,7 @@ module _ (s : CallState) (m : ControlMessage) where
   accepted_hears p type e q t sli_waiting = link_set (record { taken = e; type_is = t; right = q })
   accepted_hears p type e q t sli_established = link_set (record { taken = e; type_is = t; right = q })
 
-  judged_hears : is_taken s.phase (message_type m.avps) ≡ true → (r : Option Refusal) → refusal_of s m.avps ≡ r → Hears s m (judged s (message_type m.avps) m.avps r)
+  judged_hears : is_taken s.phase (message_type m.avps) ≡ true → (r : Option CallRefusal) → refusal_of s m.avps ≡ r → Hears s m (judged s (message_type m.avps) m.avps r)
   judged_hears e None q = accepted_hears s.phase (message_type m.avps) e q refl (takes s.phase (message_type m.avps) e)
   judged_hears e (Some cause) q = refused (record { taken = e; first = q })
 
@@ -89,7 +89,7 @@ module _ (s : CallState) (m : ControlMessage) where
       by true e = judged_hears e (refusal_of s m.avps) refl
       by false e = passed e
 
-  taken_step : (r : Option Refusal) → is_taken s.phase (message_type m.avps) ≡ true → refusal_of s m.avps ≡ r → message_step s m.avps ≡ judged s (message_type m.avps) m.avps r
+  taken_step : (r : Option CallRefusal) → is_taken s.phase (message_type m.avps) ≡ true → refusal_of s m.avps ≡ r → message_step s m.avps ≡ judged s (message_type m.avps) m.avps r
   unfolding message_step
   taken_step r e q =
       ap (λ (b : Bool). cond b (judged s (message_type m.avps) m.avps (refusal_of s m.avps)) (nothing s)) e ∙ ap (judged s (message_type m.avps) m.avps) q
@@ -97,7 +97,7 @@ module _ (s : CallState) (m : ControlMessage) where
   accepted_step : (type : ℕ) → IsAccepted s m type → message_step s m.avps ≡ accepted s (Some type) m.avps
   accepted_step type a = taken_step None a.taken a.right ∙ ap (λ (t : Option ℕ). accepted s t m.avps) a.type_is
 
-  pub refused_step : (cause : Refusal) → IsRefused s m cause → message_step s m.avps ≡ refuses s m.avps cause
+  pub refused_step : (cause : CallRefusal) → IsRefused s m cause → message_step s m.avps ≡ refuses s m.avps cause
   refused_step cause r = taken_step (Some cause) r.taken r.first
 
   -- and only this one

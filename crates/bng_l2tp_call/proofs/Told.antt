@@ -1,9 +1,9 @@
 -- What the answer to a message tells of it.
 use Rattle.std.proofs.Common.{◌≡◌, ℕ, Bool, true, false, ◌&&◌, ◌||◌, cond, inl, inr, Option, Some, List, [], ◌∷◌, refl, sym, ap, subst, ◌∙◌}
 use Rattle.bng_l2tp_wire.specs.Messages.{ControlMessage, control_text}
-use Rattle.bng_l2tp_call.specs.declared.phase.Phase.{Phase}
-use Rattle.bng_l2tp_call.specs.declared.phase.Phase.TheVariants.{Idle, WaitConnect, Established, Ended}
-use Rattle.bng_l2tp_call.specs.declared.refusal.Refusal.{Refusal}
+use Rattle.bng_l2tp_call.specs.declared.phase.CallPhase.{CallPhase}
+use Rattle.bng_l2tp_call.specs.declared.phase.CallPhase.TheVariants.{Idle, WaitConnect, Established, Ended}
+use Rattle.bng_l2tp_call.specs.declared.refusal.CallRefusal.{CallRefusal}
 use Rattle.bng_l2tp_wire.specs.declared.message.TheConstants.{ICRQ, ICCN, CDN, WEN, SLI}
 use Rattle.bng_l2tp_wire.specs.Values.{message_type, assigned_session}
 use Rattle.bng_l2tp_wire.specs.View.{Said}
@@ -23,17 +23,17 @@ first_text x y e = cc
 
 module _ (s : CallState) (m : ControlMessage) where
   -- a CDN with the code of a cause goes out only where the message is refused for it
-  pub told_refused : {step : Step} → Hears s m step → (cause : Refusal) → TellsCode (code_of cause) step.said.outs → IsRefused s m cause
+  pub told_refused : {step : Step} → Hears s m step → (cause : CallRefusal) → TellsCode (code_of cause) step.said.outs → IsRefused s m cause
   told_refused (passed e) cause t = absurd (let h = t.text in cc)
   told_refused (refused {cause = other} r) cause t =
-      subst (λ (x : Refusal). IsRefused s m x) (same_cause (to_peer (addressed s m.avps)) (number_of s) t.session t.number other cause (first_text _ _ t.text)) r
+      subst (λ (x : CallRefusal). IsRefused s m x) (same_cause (to_peer (addressed s m.avps)) (number_of s) t.session t.number other cause (first_text _ _ t.text)) r
   told_refused (requested a) cause t = absurd (icrp_tells_none (to_peer (addressed s m.avps)) s.session t.session t.number cause (first_text _ _ t.text))
   told_refused (connected a) cause t = absurd (let h = t.text in cc)
   told_refused (disconnected a) cause t = absurd (let h = t.text in cc)
   told_refused (error_notified a) cause t = absurd (let h = t.text in cc)
   told_refused (link_set a) cause t = absurd (let h = t.text in cc)
 
-  pub refused_told : {step : Step} → Hears s m step → (cause : Refusal) → IsRefused s m cause → TellsCode (code_of cause) step.said.outs
+  pub refused_told : {step : Step} → Hears s m step → (cause : CallRefusal) → IsRefused s m cause → TellsCode (code_of cause) step.said.outs
   refused_told {step} h cause r = record {
     session = to_peer (addressed s m.avps);
     number = number_of s;
@@ -117,7 +117,7 @@ or_first : (a b : Bool) → (a || b) ≡ false → a ≡ false
 or_first true b e = absurd cc
 or_first false b e = refl
 
-no_request : (p : Phase) (type : Option ℕ) → is_taken p type ≡ false → (is_idle p && is_type type ICRQ) ≡ false
+no_request : (p : CallPhase) (type : Option ℕ) → is_taken p type ≡ false → (is_idle p && is_type type ICRQ) ≡ false
 no_request Idle type e = and_true_false (is_type type ICRQ) (or_first (is_type type ICRQ && true) _ e)
 no_request WaitConnect type e = refl
 no_request Established type e = refl
@@ -128,7 +128,7 @@ and_none true = refl
 and_none false = refl
 
 module _ (s : CallState) (m : ControlMessage) where
-  refused_number : (p : Phase) (type : Option ℕ) → Takes p type → (cond (is_idle p) (record s { peer_number = assigned_session s.secret m.avps }) s).peer_number ≡ cond (is_idle p && is_type type ICRQ) (assigned_session s.secret m.avps) s.peer_number
+  refused_number : (p : CallPhase) (type : Option ℕ) → Takes p type → (cond (is_idle p) (record s { peer_number = assigned_session s.secret m.avps }) s).peer_number ≡ cond (is_idle p && is_type type ICRQ) (assigned_session s.secret m.avps) s.peer_number
   refused_number p type icrq_idle = refl
   refused_number p type iccn_waiting = refl
   refused_number p type cdn_waiting = refl

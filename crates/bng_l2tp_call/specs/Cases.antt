@@ -1,7 +1,7 @@
 -- What a message does to a call, as the cases of the table are looked at one after the other (RFC 2661 section 7.4.2).
 use Rattle.std.specs.Prelude.{ℕ, if◌then◌else◌, List, Option, Some, None}
 use Rattle.bng_l2tp_wire.specs.Avps.{L2tpAvp}
-use Rattle.bng_l2tp_call.specs.declared.refusal.Refusal.{Refusal}
+use Rattle.bng_l2tp_call.specs.declared.refusal.CallRefusal.{CallRefusal}
 use Rattle.bng_l2tp_wire.specs.declared.message.TheConstants.{ICRQ, ICCN, CDN}
 use Rattle.bng_l2tp_wire.specs.Values.{message_type}
 use Rattle.bng_l2tp_wire.specs.Judge.{is_type}
@@ -17,7 +17,7 @@ accepted s type avps =
     else (if is_type type CDN then ends (nothing s)
     else nothing s))
 
-abbrev pub judged : CallState → Option ℕ → List L2tpAvp → Option Refusal → Step
+abbrev pub judged : CallState → Option ℕ → List L2tpAvp → Option CallRefusal → Step
 judged s type avps None = accepted s type avps
 judged s type avps (Some cause) = refuses s avps cause
 

@@ -2,8 +2,8 @@
 use Rattle.std.specs.Prelude.{ℕ, Bool, true, false, ◌&&◌, List, [], ◌∷◌, Option}
 use Rattle.std.specs.List.{list_any}
 use Rattle.bng_l2tp_wire.specs.Avps.{L2tpAvp}
-use Rattle.bng_l2tp_call.specs.declared.phase.Phase.{Phase}
-use Rattle.bng_l2tp_call.specs.declared.phase.Phase.TheVariants.{Idle, WaitConnect, Established, Ended}
+use Rattle.bng_l2tp_call.specs.declared.phase.CallPhase.{CallPhase}
+use Rattle.bng_l2tp_call.specs.declared.phase.CallPhase.TheVariants.{Idle, WaitConnect, Established, Ended}
 use Rattle.bng_l2tp_wire.specs.declared.message.TheConstants.{ICRQ, ICCN, CDN, WEN, SLI}
 use Rattle.bng_l2tp_wire.specs.declared.kind.TheConstants.{RESULT_CODE, ASSIGNED_SESSION_ID, CALL_SERIAL_NUMBER, FRAMING_TYPE, TX_CONNECT_SPEED}
 use Rattle.bng_l2tp_wire.specs.Judge.{is_type, lacks_one_of}
@@ -11,10 +11,10 @@ use Rattle.bng_l2tp_wire.specs.Judge.{is_type, lacks_one_of}
 -- a message of a call: in which phases of the call it is taken, and which AVPs it must have
 pub record Row : Type 0 where
   pub type : ℕ
-  pub taken : List Phase
+  pub taken : List CallPhase
   pub needs : List ℕ
 
-abbrev pub row : ℕ → List Phase → List ℕ → Row
+abbrev pub row : ℕ → List CallPhase → List ℕ → Row
 row type taken needs = record { type = type; taken = taken; needs = needs }
 
 abbrev pub rows : List Row
@@ -26,7 +26,7 @@ rows =
     ∷ row SLI (WaitConnect ∷ Established ∷ []) []
     ∷ []
 
-abbrev pub same_phase : Phase → Phase → Bool
+abbrev pub same_phase : CallPhase → CallPhase → Bool
 same_phase Idle Idle = true
 same_phase WaitConnect WaitConnect = true
 same_phase Established Established = true
@@ -34,7 +34,7 @@ same_phase Ended Ended = true
 same_phase _ _ = false
 
 -- a message that the call takes in this phase
-abbrev pub is_taken : Phase → Option ℕ → Bool
+abbrev pub is_taken : CallPhase → Option ℕ → Bool
 is_taken phase type = list_any (λ r. is_type type r.type && list_any (same_phase phase) r.taken) rows
 
 -- an AVP that the message must have is not there, or has a wrong length

@@ -3,8 +3,8 @@ use Rattle.std.specs.Prelude.{◌≡◌, ℕ, Bool, true, ◌==◌, ◌&&◌, �
 use Rattle.std.specs.List.{list_any}
 use Rattle.bng_l2tp_wire.specs.Avps.{L2tpAvp}
 use Rattle.bng_l2tp_wire.specs.Messages.{ControlMessage}
-use Rattle.bng_l2tp_call.specs.declared.refusal.Refusal.{Refusal}
-use Rattle.bng_l2tp_call.specs.declared.refusal.Refusal.TheVariants.{UnknownAvp, WrongAvp, SequencingRequired, NoSlot}
+use Rattle.bng_l2tp_call.specs.declared.refusal.CallRefusal.{CallRefusal}
+use Rattle.bng_l2tp_call.specs.declared.refusal.CallRefusal.TheVariants.{UnknownAvp, WrongAvp, SequencingRequired, NoSlot}
 use Rattle.bng_l2tp_wire.specs.declared.message.TheConstants.{ICRQ, ICCN}
 use Rattle.bng_l2tp_wire.specs.declared.kind.TheConstants.{SEQUENCING_REQUIRED}
 use Rattle.bng_l2tp_wire.specs.Values.{is_of, message_type, has_unreadable}
@@ -25,7 +25,7 @@ abbrev pub lacks_slot : ℕ → Option ℕ → Bool
 lacks_slot session type = is_type type ICRQ && session == 0
 
 -- the cases of a message of this type with these AVPs
-abbrev pub cases : CallState → Option ℕ → List L2tpAvp → List (Case Refusal)
+abbrev pub cases : CallState → Option ℕ → List L2tpAvp → List (Case CallRefusal)
 cases s type avps =
     if_so (has_unknown avps) UnknownAvp
     ∷ if_so (has_wrong_avp s.secret type avps) WrongAvp
@@ -34,10 +34,10 @@ cases s type avps =
     ∷ []
 
 -- why a message that is taken is refused, where it is
-unfoldable pub refusal_of : CallState → List L2tpAvp → Option Refusal
+unfoldable pub refusal_of : CallState → List L2tpAvp → Option CallRefusal
 refusal_of s avps = first_of (cases s (message_type avps) avps)
 
 -- the call takes the message in its phase, and refuses it for this cause
-pub record IsRefused (s : CallState) (m : ControlMessage) (cause : Refusal) : Type 0 where
+pub record IsRefused (s : CallState) (m : ControlMessage) (cause : CallRefusal) : Type 0 where
   pub taken : is_taken s.phase (message_type m.avps) ≡ true
   pub first : refusal_of s m.avps ≡ Some cause

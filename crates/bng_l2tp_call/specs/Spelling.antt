@@ -3,8 +3,8 @@
 use Rattle.std.specs.Prelude.{◌≡◌, ℕ, List, [], ◌∷◌}
 use Rattle.bng_l2tp_wire.specs.Messages.{ControlMessage, control_text}
 use Rattle.bng_l2tp_wire.specs.declared.result_code.ResultCode.{ResultCode}
-use Rattle.bng_l2tp_call.specs.declared.refusal.Refusal.{Refusal}
-use Rattle.bng_l2tp_call.specs.declared.refusal.Refusal.TheVariants.{UnknownAvp, WrongAvp, SequencingRequired, NoSlot}
+use Rattle.bng_l2tp_call.specs.declared.refusal.CallRefusal.{CallRefusal}
+use Rattle.bng_l2tp_call.specs.declared.refusal.CallRefusal.TheVariants.{UnknownAvp, WrongAvp, SequencingRequired, NoSlot}
 use Rattle.bng_l2tp_wire.specs.declared.message.TheConstants.{ICRP, CDN}
 use Rattle.bng_l2tp_wire.specs.declared.kind.TheConstants.{MESSAGE_TYPE, RESULT_CODE, ASSIGNED_SESSION_ID}
 use Rattle.bng_l2tp_wire.specs.Spelling.{avp, number_avp, unsent, result_only, general_error, code_octets}
@@ -15,7 +15,7 @@ icrp session number = unsent session (number_avp MESSAGE_TYPE ICRP ∷ number_av
 
 -- The Result Codes of a CDN that refuses a message (section 4.4.2): 2 with 8 an AVP that must be known is not, 2 with 3 a field is out of range,
 -- 5 a facility is lacking for ever, 4 one is lacking for now
-abbrev pub code_of : Refusal → ResultCode
+abbrev pub code_of : CallRefusal → ResultCode
 code_of UnknownAvp = general_error 8
 code_of WrongAvp = general_error 3
 code_of SequencingRequired = result_only 5

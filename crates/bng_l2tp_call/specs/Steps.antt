@@ -2,8 +2,8 @@
 use Rattle.std.specs.Prelude.{◌≡◌, ℕ, true, false, ◌⊎◌, if◌then◌else◌, List, [], ◌∷◌, Some, None, unwrap_or}
 use Rattle.bng_l2tp_wire.specs.Avps.{L2tpAvp}
 use Rattle.bng_l2tp_wire.specs.Messages.{ControlMessage, control_text}
-use Rattle.bng_l2tp_call.specs.declared.phase.Phase.TheVariants.{WaitConnect, Established, Ended}
-use Rattle.bng_l2tp_call.specs.declared.refusal.Refusal.{Refusal}
+use Rattle.bng_l2tp_call.specs.declared.phase.CallPhase.TheVariants.{WaitConnect, Established, Ended}
+use Rattle.bng_l2tp_call.specs.declared.refusal.CallRefusal.{CallRefusal}
 use Rattle.bng_l2tp_wire.specs.declared.message.TheConstants.{ICRQ, ICCN, CDN, WEN, SLI}
 use Rattle.bng_l2tp_wire.specs.Values.{message_type, assigned_session}
 use Rattle.bng_l2tp_wire.specs.View.{Said, sends}
@@ -40,7 +40,7 @@ abbrev pub addressed : CallState → List L2tpAvp → CallState
 addressed s avps = if is_idle s.phase then record s { peer_number = assigned_session s.secret avps } else s
 
 -- a CDN that refuses the message, which ends the call
-abbrev pub refuses : CallState → List L2tpAvp → Refusal → Step
+abbrev pub refuses : CallState → List L2tpAvp → CallRefusal → Step
 refuses s avps cause =
     ends (tells (addressed s avps) (cdn (to_peer (addressed s avps)) (number_of s) (code_of cause)))
 
@@ -61,13 +61,13 @@ pub record IsAccepted (s : CallState) (m : ControlMessage) (type : ℕ) : Type 0
 
 -- the message is a CDN, or it is refused
 abbrev pub IsLast : CallState → ControlMessage → Type 0
-IsLast s m = IsAccepted s m CDN ⊎ ((cause : Refusal) × IsRefused s m cause)
+IsLast s m = IsAccepted s m CDN ⊎ ((cause : CallRefusal) × IsRefused s m cause)
 
 -- What a message does to a call: the table, with a case for each row, for each refusal and for what is not taken.
 pub data Hears (s : CallState) (m : ControlMessage) : Step → Type 0 where
   -- a message that no row of the table takes in this phase changes nothing
   passed : is_taken s.phase (message_type m.avps) ≡ false → Hears s m (nothing s)
-  refused : {cause : Refusal} → IsRefused s m cause → Hears s m (refuses s m.avps cause)
+  refused : {cause : CallRefusal} → IsRefused s m cause → Hears s m (refuses s m.avps cause)
   requested : IsAccepted s m ICRQ → Hears s m (replies s m.avps)
   connected : IsAccepted s m ICCN → Hears s m (opens s)
   disconnected : IsAccepted s m CDN → Hears s m (ends (nothing s))

@@ -10,8 +10,8 @@ ghost use Rattle.bng_l2tp_call.specs.Cases.{accepted, message_step};
 ghost use Rattle.bng_l2tp_call.specs.Sound.{IsCall, IsSound, peer_number_after};
 
 use crate::judge::{asks_for_sequencing, has_wrong_avp, is_taken, lacks_slot};
-use crate::phase::Phase;
-use crate::refusal::{Refusal, administrative, code_of};
+use crate::phase::CallPhase;
+use crate::refusal::{CallRefusal, administrative, code_of};
 use crate::spelling::{cdn, icrp};
 use arrayvec::ArrayVec;
 use bng_base::{Frame, SessionNo, TunnelStep};
@@ -31,7 +31,7 @@ use std::marker::Model;
 pub struct Call {
     secret: Option<ArrayVec<u8, 64>>,
     session: SessionNo,
-    phase: Phase,
+    phase: CallPhase,
     peer_number: Option<u16>,
 }
 
@@ -68,7 +68,7 @@ impl Call {
         Call {
             secret: copied_secret(secret),
             session,
-            phase: Phase::Idle,
+            phase: CallPhase::Idle,
             peer_number: None,
         }
     }
@@ -88,7 +88,7 @@ impl Call {
         ensures steps { Hears self.old (control_of message.now) (record { said = said result; after = self.new }) }
         ensures only { (step : Step) → Hears self.old (control_of message.now) step → step ≡ record { said = said result; after = self.new } }
         ensures sound { IsSound self.old (record { said = said result; after = self.new }) }
-        ensures refused { (cause : Refusal) → IsRefused self.old (control_of message.now) cause ↔ TellsCode (code_of_refusal cause) (payloads result.outs.items) }
+        ensures refused { (cause : CallRefusal) → IsRefused self.old (control_of message.now) cause ↔ TellsCode (code_of_refusal cause) (payloads result.outs.items) }
         ensures replied { IsAccepted self.old (control_of message.now) ICRQ ↔ TellsReply (payloads result.outs.items) }
         ensures opened { IsTrue result.opened ↔ IsAccepted self.old (control_of message.now) ICCN }
         ensures ended { IsTrue result.ended ↔ IsLast self.old (control_of message.now) }
@@ -106,8 +106,8 @@ impl Call {
         ensures told { (stands self.old.phase ≡ true) ↔ TellsCode code_of_end (payloads result.outs.items) }
     {
         match self.phase {
-            Phase::Idle | Phase::Ended => nothing(),
-            Phase::WaitConnect | Phase::Established => {
+            CallPhase::Idle | CallPhase::Ended => nothing(),
+            CallPhase::WaitConnect | CallPhase::Established => {
                 let message = cdn(self.to_peer(), self.session.0, administrative());
                 self.finish(sends(message))
             }
@@ -126,8 +126,8 @@ impl Call {
         ensures { result ≡ is_established self.now.phase }
     {
         match self.phase {
-            Phase::Established => true,
-            Phase::Idle | Phase::WaitConnect | Phase::Ended => false,
+            CallPhase::Established => true,
+            CallPhase::Idle | CallPhase::WaitConnect | CallPhase::Ended => false,
         }
     }
 
@@ -143,37 +143,37 @@ impl Call {
         ensures { result ≡ number_of self.now }
     {
         match self.phase {
-            Phase::WaitConnect | Phase::Established => self.session.0,
-            Phase::Idle | Phase::Ended => 0,
+            CallPhase::WaitConnect | CallPhase::Established => self.session.0,
+            CallPhase::Idle | CallPhase::Ended => 0,
         }
     }
 
     // Ends the call in a step.
     fn finish(&mut self, step: TunnelStep) -> TunnelStep
         ensures said { said result ≡ record (said step) { ended = true } }
-        ensures after { self.new ≡ record self.old { phase = Phase.Ended } }
+        ensures after { self.new ≡ record self.old { phase = CallPhase.Ended } }
     {
-        self.phase = Phase::Ended;
+        self.phase = CallPhase::Ended;
         ended(step)
     }
 
     // Why a message is refused, where it is.
     #[tactic(auto, unfolding(crate::specs::Refusals::refusal_of))]
-    fn refusal(&self, avps: &[Avp<'_>]) -> Option<Refusal>
+    fn refusal(&self, avps: &[Avp<'_>]) -> Option<CallRefusal>
         ensures { result ≡ refusal_of self.now (avps_of avps.now) }
     {
         let found = type_in(avps);
         if has_unknown(avps) {
-            return Some(Refusal::UnknownAvp);
+            return Some(CallRefusal::UnknownAvp);
         }
         if has_wrong_avp(avps, &self.secret, found) {
-            return Some(Refusal::WrongAvp);
+            return Some(CallRefusal::WrongAvp);
         }
         if asks_for_sequencing(avps, found) {
-            return Some(Refusal::SequencingRequired);
+            return Some(CallRefusal::SequencingRequired);
         }
         if lacks_slot(self.session.0, found) {
-            return Some(Refusal::NoSlot);
+            return Some(CallRefusal::NoSlot);
         }
         None
     }
@@ -198,15 +198,15 @@ impl Call {
         ensures { self.new ≡ addressed self.old (avps_of avps.now) }
     {
         match self.phase {
-            Phase::Idle => {
+            CallPhase::Idle => {
                 self.peer_number = number_at(avps, &self.secret, ASSIGNED_SESSION_ID);
             }
-            Phase::WaitConnect | Phase::Established | Phase::Ended => {}
+            CallPhase::WaitConnect | CallPhase::Established | CallPhase::Ended => {}
         }
     }
 
     // Refuses a message, which ends the call.
-    fn refuse(&mut self, avps: &[Avp<'_>], refusal: Refusal) -> TunnelStep
+    fn refuse(&mut self, avps: &[Avp<'_>], refusal: CallRefusal) -> TunnelStep
         ensures said { said result ≡ (refuses self.old (avps_of avps.now) refusal).said }
         ensures after { self.new ≡ (refuses self.old (avps_of avps.now) refusal).after }
     {
@@ -235,7 +235,7 @@ impl Call {
         ensures after { self.new ≡ (replies self.old (avps_of avps.now)).after }
     {
         self.address(avps);
-        self.phase = Phase::WaitConnect;
+        self.phase = CallPhase::WaitConnect;
         sends(icrp(self.to_peer(), self.session.0))
     }
 
@@ -244,7 +244,7 @@ impl Call {
         ensures said { said result ≡ (opens self.old).said }
         ensures after { self.new ≡ (opens self.old).after }
     {
-        self.phase = Phase::Established;
+        self.phase = CallPhase::Established;
         opened(nothing())
     }
 }

@@ -3,7 +3,7 @@ ghost use Rattle.bng_l2tp_wire.specs.View.{avps_of, octets_of};
 ghost use Rattle.bng_l2tp_call.specs.Messages.{is_taken as is_taken_in, lacks_needed as lacks};
 ghost use Rattle.bng_l2tp_call.specs.Refusals.{has_wrong_avp as has_wrong_one, asks_for_sequencing as wants_sequencing, lacks_slot as lacks_a_slot};
 
-use crate::phase::Phase;
+use crate::phase::CallPhase;
 use arrayvec::ArrayVec;
 use bng_l2tp_wire::Avp;
 use bng_l2tp_wire::judge::{is_type, is_wrong};
@@ -15,14 +15,14 @@ use bng_l2tp_wire::message::{CDN, ICCN, ICRQ, SLI, WEN};
 use bng_l2tp_wire::placed::{has, has_unreadable};
 
 /// Whether a call takes a message of this type in this phase (RFC 2661 section 7.4.2).
-pub fn is_taken(phase: Phase, found: Option<u16>) -> bool
+pub fn is_taken(phase: CallPhase, found: Option<u16>) -> bool
     ensures { result ≡ is_taken_in phase found }
 {
     match phase {
-        Phase::Idle => is_type(found, ICRQ),
-        Phase::WaitConnect => matches!(found, Some(ICCN | CDN | WEN | SLI)),
-        Phase::Established => matches!(found, Some(CDN | WEN | SLI)),
-        Phase::Ended => false,
+        CallPhase::Idle => is_type(found, ICRQ),
+        CallPhase::WaitConnect => matches!(found, Some(ICCN | CDN | WEN | SLI)),
+        CallPhase::Established => matches!(found, Some(CDN | WEN | SLI)),
+        CallPhase::Ended => false,
     }
 }
 

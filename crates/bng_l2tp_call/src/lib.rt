@@ -16,6 +16,6 @@ mod refusal;
 mod spelling;
 
 pub use crate::call::Call;
-pub use crate::phase::Phase;
-pub use crate::refusal::{Refusal, administrative, code_of};
+pub use crate::phase::CallPhase;
+pub use crate::refusal::{CallRefusal, administrative, code_of};
 pub use crate::spelling::{cdn, icrp};

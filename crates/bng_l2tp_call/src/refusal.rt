@@ -7,7 +7,7 @@ use bng_l2tp_wire::result_code::{
 
 /// Why a message of a call is refused (RFC 2661 section 4.4.2). Each is told by a CDN.
 #[derive(Clone, Copy)]
-pub enum Refusal {
+pub enum CallRefusal {
     /// An AVP that must be known is not.
     UnknownAvp,
     /// An AVP that the message must have is missing or has a wrong length, or a hidden one cannot be read.
@@ -26,14 +26,14 @@ const LACKING_FOR_NOW: u16 = 4;
 const LACKING_FOR_EVER: u16 = 5;
 
 /// The code of a CDN that tells a refusal.
-pub fn code_of(refusal: Refusal) -> ResultCode
+pub fn code_of(refusal: CallRefusal) -> ResultCode
     ensures { result ≡ code_of_refusal refusal }
 {
     match refusal {
-        Refusal::UnknownAvp => general_error(UNKNOWN_AVP),
-        Refusal::WrongAvp => general_error(OUT_OF_RANGE),
-        Refusal::SequencingRequired => result_only(LACKING_FOR_EVER),
-        Refusal::NoSlot => result_only(LACKING_FOR_NOW),
+        CallRefusal::UnknownAvp => general_error(UNKNOWN_AVP),
+        CallRefusal::WrongAvp => general_error(OUT_OF_RANGE),
+        CallRefusal::SequencingRequired => result_only(LACKING_FOR_EVER),
+        CallRefusal::NoSlot => result_only(LACKING_FOR_NOW),
     }
 }
 

@@ -3,7 +3,7 @@ use arrayvec::ArrayVec;
 use bng_base::{Frame, Ip4, Lac, Peer, TunnelNo, TunnelStep};
 use bng_l2tp_call::Call;
 use bng_l2tp_wire::Control;
-use bng_lns::{Came, Taken, Told, Tunnels};
+use bng_lns::{Came, MessageOutcome, TunnelOutcome, Tunnels};
 use std::alloc::Global;
 use std::process::Abort;
 use std::test::Fail;
@@ -87,7 +87,7 @@ fn came(from: Peer, moment: u64) -> Came {
 }
 
 // what becomes of a message
-fn hears(lns: &mut Tunnels, came: &Came, octets: &[u8]) -> Result<Taken, Fail> {
+fn hears(lns: &mut Tunnels, came: &Came, octets: &[u8]) -> Result<MessageOutcome, Fail> {
     let message = Control::read(octets)?;
     Ok(lns.hear(&text(b"bng1"), &lacs(), came, &message))
 }
@@ -127,16 +127,16 @@ fn hears_datagram(
     lns: &mut Tunnels,
     came: &Came,
     datagram: &str,
-) -> Result<Taken, Fail> {
+) -> Result<MessageOutcome, Fail> {
     let octets = hex::decode(alloc, datagram)?;
     hears(lns, came, octets.as_slice())
 }
 
 // the number of the tunnel that took a message, and its step
-fn step_of(rt: &impl Abort, taken: Taken) -> (TunnelNo, TunnelStep) {
+fn step_of(rt: &impl Abort, taken: MessageOutcome) -> (TunnelNo, TunnelStep) {
     match taken {
-        Taken::Step { number, step } => (number, step),
-        Taken::Unknown | Taken::Passed => {
+        MessageOutcome::Step { number, step } => (number, step),
+        MessageOutcome::Unknown | MessageOutcome::Ignored => {
             assert_holds(rt, false);
             unreachable!()
         }
@@ -144,10 +144,10 @@ fn step_of(rt: &impl Abort, taken: Taken) -> (TunnelNo, TunnelStep) {
 }
 
 // the number of the tunnel that took a message
-fn number_in(taken: &Taken) -> Option<u16> {
+fn number_in(taken: &MessageOutcome) -> Option<u16> {
     match taken {
-        Taken::Step { number, .. } => Some(number.0),
-        Taken::Unknown | Taken::Passed => None,
+        MessageOutcome::Step { number, .. } => Some(number.0),
+        MessageOutcome::Unknown | MessageOutcome::Ignored => None,
     }
 }
 
@@ -202,11 +202,11 @@ fn passes(
 ) -> Result<TunnelStep, Fail> {
     let message = Control::read(octets)?;
     match lns.hear(&text(b"bng1"), &lacs(), came, &message) {
-        Taken::Step { number, step } => {
+        MessageOutcome::Step { number, step } => {
             assert_holds(rt, step.call);
             Ok(lns.answer(number, step, call, &message, came.moment))
         }
-        Taken::Unknown | Taken::Passed => {
+        MessageOutcome::Unknown | MessageOutcome::Ignored => {
             assert_holds(rt, false);
             unreachable!()
         }
@@ -241,7 +241,7 @@ fn asks(
     lns: &mut Tunnels,
     id: u8,
     moment: u64,
-) -> Result<Taken, Fail> {
+) -> Result<MessageOutcome, Fail> {
     let mut sccrq = hex::decode(alloc, SCCRQ)?;
     assert_holds(rt, sccrq.len() == 56);
     sccrq[55] = id;
@@ -249,12 +249,12 @@ fn asks(
 }
 
 // Whether a message is for no tunnel of its peer.
-fn is_unknown(taken: &Taken) -> bool {
-    matches!(taken, Taken::Unknown)
+fn is_unknown(taken: &MessageOutcome) -> bool {
+    matches!(taken, MessageOutcome::Unknown)
 }
 
 // the octets that a tunnel tells of its own
-fn told(alloc: Global, told: Option<Told>) -> Result<String, Fail> {
+fn told(alloc: Global, told: Option<TunnelOutcome>) -> Result<String, Fail> {
     match told {
         Some(told) => outs(alloc, &told.step),
         None => Ok(String::new(alloc)),

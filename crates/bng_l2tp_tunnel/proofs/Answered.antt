@@ -8,11 +8,11 @@ use Rattle.bng_l2tp_wire.specs.Avps.{L2tpAvp}
 use Rattle.bng_l2tp_wire.specs.Messages.{ControlMessage, control_text}
 use Rattle.bng_l2tp_wire.specs.declared.message.TheConstants.{SCCCN, STOP_CCN}
 use Rattle.bng_l2tp_tunnel.specs.declared.acknowledging.Acknowledging.TheVariants.{ByAny, ByZlb}
-use Rattle.bng_l2tp_tunnel.specs.declared.phase.Phase.{Phase}
-use Rattle.bng_l2tp_tunnel.specs.declared.phase.Phase.TheVariants.{Idle, Replied, Established, Cleared}
+use Rattle.bng_l2tp_tunnel.specs.declared.phase.TunnelPhase.{TunnelPhase}
+use Rattle.bng_l2tp_tunnel.specs.declared.phase.TunnelPhase.TheVariants.{Idle, Replied, Established, Cleared}
 use Rattle.bng_l2tp_tunnel.specs.TunnelState.{TunnelState}
 use Rattle.bng_l2tp_tunnel.specs.Outs.{datagram, let_out, after_out, flight_most, zlb, or_zlb, with_zlb}
-use Rattle.bng_l2tp_tunnel.specs.declared.refusal.Refusal.{Refusal}
+use Rattle.bng_l2tp_tunnel.specs.declared.refusal.TunnelRefusal.{TunnelRefusal}
 use Rattle.bng_l2tp_wire.specs.Values.{message_type}
 use Rattle.bng_l2tp_wire.specs.Judge.{is_type}
 use Rattle.bng_l2tp_tunnel.specs.Messages.{is_of_call}
@@ -50,7 +50,7 @@ module _ (s : TunnelState) where
       first true b = flushed_some
       first false b = second b
 
-  judged_some : (type : Option ℕ) (now : ℕ) (r : Option Refusal) → 0 < length (judged s type now r).said.outs
+  judged_some : (type : Option ℕ) (now : ℕ) (r : Option TunnelRefusal) → 0 < length (judged s type now r).said.outs
   judged_some type now None = accepted_some type
   judged_some type now (Some refusal) = queued_some (control_text (stop_ccn s.number (code_of refusal))) now
 
@@ -74,7 +74,7 @@ unfolding message_step
 message_answered s m random now e other =
     by_phase s.phase e
   where
-    by_phase : (p : Phase) → stands p ≡ true → IsAnswered (heard_by s m) (in_phase p s m random now).said.outs
+    by_phase : (p : TunnelPhase) → stands p ≡ true → IsAnswered (heard_by s m) (in_phase p s m random now).said.outs
     by_phase Idle e = absurd cc
     by_phase Replied e = heard_answered (having_heard s m now) m.avps now (heard_by s m) other
     by_phase Established e = heard_answered (having_heard s m now) m.avps now (heard_by s m) other

@@ -5,7 +5,7 @@ use Rattle.bng_l2tp_reliable.specs.declared.answers.Heard.TheVariants.{Deliver}
 use Rattle.bng_l2tp_wire.specs.Avps.{L2tpAvp}
 use Rattle.bng_l2tp_wire.specs.Messages.{ControlMessage}
 use Rattle.bng_l2tp_tunnel.specs.declared.acknowledging.Acknowledging.{Acknowledging}
-use Rattle.bng_l2tp_tunnel.specs.declared.phase.Phase.TheVariants.{Cleared}
+use Rattle.bng_l2tp_tunnel.specs.declared.phase.TunnelPhase.TheVariants.{Cleared}
 use Rattle.bng_l2tp_wire.specs.View.{Said}
 use Rattle.bng_l2tp_tunnel.specs.TunnelState.{TunnelState}
 use Rattle.bng_l2tp_tunnel.specs.Steps.{queued_text, clears, delivered, heard, heard_by, having_heard, hearing}

@@ -5,10 +5,10 @@ use Rattle.bng_l2tp_reliable.specs.declared.answers.Heard.TheVariants.{Deliver, 
 use Rattle.bng_l2tp_wire.specs.Messages.{ControlMessage}
 use Rattle.bng_l2tp_wire.specs.declared.message.TheConstants.{SCCCN, STOP_CCN}
 use Rattle.bng_l2tp_tunnel.specs.declared.acknowledging.Acknowledging.TheVariants.{ByZlb}
-use Rattle.bng_l2tp_tunnel.specs.declared.phase.Phase.{Phase}
-use Rattle.bng_l2tp_tunnel.specs.declared.phase.Phase.TheVariants.{Idle, Replied, Established, Cleared}
+use Rattle.bng_l2tp_tunnel.specs.declared.phase.TunnelPhase.{TunnelPhase}
+use Rattle.bng_l2tp_tunnel.specs.declared.phase.TunnelPhase.TheVariants.{Idle, Replied, Established, Cleared}
 use Rattle.bng_l2tp_tunnel.specs.TunnelState.{TunnelState}
-use Rattle.bng_l2tp_tunnel.specs.declared.refusal.Refusal.{Refusal}
+use Rattle.bng_l2tp_tunnel.specs.declared.refusal.TunnelRefusal.{TunnelRefusal}
 use Rattle.bng_l2tp_wire.specs.Values.{message_type}
 use Rattle.bng_l2tp_wire.specs.Judge.{is_type}
 use Rattle.bng_l2tp_tunnel.specs.Messages.{is_of_call}
@@ -27,7 +27,7 @@ module _ (s : TunnelState) (m : ControlMessage) where
       first false q true e = absurd cc
       first false q false e = absurd cc
 
-  judged_authentic : (now : ℕ) (r : Option Refusal) → refusal_of s m.avps ≡ r → (judged s (message_type m.avps) now r).said.established ≡ true → IsAnswerOf s m
+  judged_authentic : (now : ℕ) (r : Option TunnelRefusal) → refusal_of s m.avps ≡ r → (judged s (message_type m.avps) now r).said.established ≡ true → IsAnswerOf s m
   judged_authentic now None q e = accepted_authentic (passed s m.avps q).authorized e
   judged_authentic now (Some refusal) q e = absurd cc
 
@@ -46,7 +46,7 @@ opened_none : (s : TunnelState) (m : ControlMessage) (random : List ℕ) (now : 
 opened_none s m random now =
     by (begins m) (refusal_of s m.avps)
   where
-    by : (b : Bool) (r : Option Refusal) → (cond b (opened_by s m random now r) (clears (nothing s))).said.established ≡ false
+    by : (b : Bool) (r : Option TunnelRefusal) → (cond b (opened_by s m random now r) (clears (nothing s))).said.established ≡ false
     by true None = refl
     by true (Some refusal) = refl
     by false r = refl
@@ -60,7 +60,7 @@ message_authentic s m random now e =
     heard_now : (hearing s m now).said.established ≡ true → IsAnswerOf s m
     heard_now e = let x = heard_authentic (having_heard s m now) m now (heard_by s m) e in record { type = x.type; answer = x.answer }
 
-    by_phase : (p : Phase) → (in_phase p s m random now).said.established ≡ true → IsAnswerOf s m
+    by_phase : (p : TunnelPhase) → (in_phase p s m random now).said.established ≡ true → IsAnswerOf s m
     by_phase Idle e = absurd (let no = opened_none s m random now in cc)
     by_phase Replied e = heard_now e
     by_phase Established e = heard_now e

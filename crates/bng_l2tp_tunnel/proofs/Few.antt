@@ -17,9 +17,9 @@ use Rattle.bng_l2tp_wire.specs.declared.kind.TheConstants.{CHALLENGE}
 use Rattle.bng_l2tp_wire.specs.declared.message.TheConstants.{SCCCN, STOP_CCN}
 use Rattle.bng_l2tp_tunnel.specs.declared.acknowledging.Acknowledging.{Acknowledging}
 use Rattle.bng_l2tp_tunnel.specs.declared.acknowledging.Acknowledging.TheVariants.{Never, ByAny, ByZlb}
-use Rattle.bng_l2tp_tunnel.specs.declared.phase.Phase.{Phase}
-use Rattle.bng_l2tp_tunnel.specs.declared.phase.Phase.TheVariants.{Idle, Replied, Established, Cleared}
-use Rattle.bng_l2tp_tunnel.specs.declared.refusal.Refusal.{Refusal}
+use Rattle.bng_l2tp_tunnel.specs.declared.phase.TunnelPhase.{TunnelPhase}
+use Rattle.bng_l2tp_tunnel.specs.declared.phase.TunnelPhase.TheVariants.{Idle, Replied, Established, Cleared}
+use Rattle.bng_l2tp_tunnel.specs.declared.refusal.TunnelRefusal.{TunnelRefusal}
 use Rattle.bng_l2tp_tunnel.specs.TunnelState.{TunnelState}
 use Rattle.bng_l2tp_wire.specs.Values.{value_of, message_type, assigned_tunnel}
 use Rattle.bng_l2tp_wire.specs.Judge.{is_type}
@@ -92,7 +92,7 @@ module _ (s : TunnelState) where
       by false true = omega arith
       by false false = flushed_few s ByZlb
 
-  judged_few : (type : Option ℕ) (now : ℕ) (r : Option Refusal) → length (judged s type now r).said.outs ≤ 9
+  judged_few : (type : Option ℕ) (now : ℕ) (r : Option TunnelRefusal) → length (judged s type now r).said.outs ≤ 9
   judged_few type now None = accepted_few type
   judged_few type now (Some refusal) = queued_few ByAny s (control_text (stop_ccn s.number (code_of refusal))) now
 
@@ -116,7 +116,7 @@ module _ (s : TunnelState) where
       by false true = refl
       by false false = refl
 
-  judged_quiet : (type : Option ℕ) (now : ℕ) (r : Option Refusal) → (judged s type now r).said.call ≡ false
+  judged_quiet : (type : Option ℕ) (now : ℕ) (r : Option TunnelRefusal) → (judged s type now r).said.call ≡ false
   judged_quiet type now None = accepted_quiet type
   judged_quiet type now (Some refusal) = refl
 
@@ -137,7 +137,7 @@ module _ (s : TunnelState) where
   heard_hands avps now Acked e = absurd cc
 
 module _ (s : TunnelState) (m : ControlMessage) (random : List ℕ) (now : ℕ) where
-  turned_few : (tunnel : Option ℕ) (refusal : Refusal) → length (turned_away tunnel refusal) ≤ 9
+  turned_few : (tunnel : Option ℕ) (refusal : TunnelRefusal) → length (turned_away tunnel refusal) ≤ 9
   turned_few None refusal = omega arith
   turned_few (Some tunnel) refusal = omega arith
 
@@ -145,7 +145,7 @@ module _ (s : TunnelState) (m : ControlMessage) (random : List ℕ) (now : ℕ) 
   opening_few =
       by (begins m) (refusal_of s m.avps)
     where
-      by : (b : Bool) (r : Option Refusal) → length (cond b (opened_by s m random now r) (clears (nothing s))).said.outs ≤ 9
+      by : (b : Bool) (r : Option TunnelRefusal) → length (cond b (opened_by s m random now r) (clears (nothing s))).said.outs ≤ 9
       by true None = queued_few ByAny (made s m random now) (control_text (sccrp s.name s.number s.secret random (value_of s.secret CHALLENGE m.avps))) now
       by true (Some refusal) = turned_few (assigned_tunnel s.secret m.avps) refusal
       by false r = omega arith
@@ -154,7 +154,7 @@ module _ (s : TunnelState) (m : ControlMessage) (random : List ℕ) (now : ℕ) 
   opening_quiet =
       by (begins m) (refusal_of s m.avps)
     where
-      by : (b : Bool) (r : Option Refusal) → (cond b (opened_by s m random now r) (clears (nothing s))).said.call ≡ false
+      by : (b : Bool) (r : Option TunnelRefusal) → (cond b (opened_by s m random now r) (clears (nothing s))).said.call ≡ false
       by true None = refl
       by true (Some refusal) = refl
       by false r = refl
@@ -164,7 +164,7 @@ module _ (s : TunnelState) (m : ControlMessage) (random : List ℕ) (now : ℕ) 
   message_few =
       by_phase s.phase
     where
-      by_phase : (p : Phase) → length (in_phase p s m random now).said.outs ≤ 9
+      by_phase : (p : TunnelPhase) → length (in_phase p s m random now).said.outs ≤ 9
       by_phase Idle = opening_few
       by_phase Replied = heard_few (having_heard s m now) m.avps now (heard_by s m)
       by_phase Established = heard_few (having_heard s m now) m.avps now (heard_by s m)
@@ -175,7 +175,7 @@ module _ (s : TunnelState) (m : ControlMessage) (random : List ℕ) (now : ℕ) 
   message_hands =
       by_phase s.phase
     where
-      by_phase : (p : Phase) → (in_phase p s m random now).said.call ≡ true → IsHandedOver (in_phase p s m random now)
+      by_phase : (p : TunnelPhase) → (in_phase p s m random now).said.call ≡ true → IsHandedOver (in_phase p s m random now)
       by_phase Idle e = absurd (let no = opening_quiet in cc)
       by_phase Replied e = heard_hands (having_heard s m now) m.avps now (heard_by s m) e
       by_phase Established e = heard_hands (having_heard s m now) m.avps now (heard_by s m) e

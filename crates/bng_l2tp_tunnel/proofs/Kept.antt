@@ -9,10 +9,10 @@ use Rattle.bng_l2tp_wire.specs.Avps.{L2tpAvp}
 use Rattle.bng_l2tp_wire.specs.Messages.{ControlMessage}
 use Rattle.bng_l2tp_wire.specs.declared.message.TheConstants.{SCCCN, STOP_CCN}
 use Rattle.bng_l2tp_tunnel.specs.declared.acknowledging.Acknowledging.TheVariants.{Never, ByZlb}
-use Rattle.bng_l2tp_tunnel.specs.declared.phase.Phase.{Phase}
-use Rattle.bng_l2tp_tunnel.specs.declared.phase.Phase.TheVariants.{Idle, Replied, Established, Cleared}
+use Rattle.bng_l2tp_tunnel.specs.declared.phase.TunnelPhase.{TunnelPhase}
+use Rattle.bng_l2tp_tunnel.specs.declared.phase.TunnelPhase.TheVariants.{Idle, Replied, Established, Cleared}
 use Rattle.bng_l2tp_tunnel.specs.TunnelState.{TunnelState, lasting_of}
-use Rattle.bng_l2tp_tunnel.specs.declared.refusal.Refusal.{Refusal}
+use Rattle.bng_l2tp_tunnel.specs.declared.refusal.TunnelRefusal.{TunnelRefusal}
 use Rattle.bng_l2tp_wire.specs.Values.{message_type}
 use Rattle.bng_l2tp_wire.specs.Judge.{is_type}
 use Rattle.bng_l2tp_tunnel.specs.Messages.{is_of_call}
@@ -30,7 +30,7 @@ module _ (s : TunnelState) where
       by false true = refl
       by false false = refl
 
-  judged_keeps : (type : Option ℕ) (now : ℕ) (r : Option Refusal) → lasting_of (judged s type now r).after ≡ lasting_of s
+  judged_keeps : (type : Option ℕ) (now : ℕ) (r : Option TunnelRefusal) → lasting_of (judged s type now r).after ≡ lasting_of s
   judged_keeps type now None = accepted_keeps type
   judged_keeps type now (Some refusal) = refl
 
@@ -49,7 +49,7 @@ module _ (s : TunnelState) where
   opening_keeps m random now =
       by (begins m) (refusal_of s m.avps)
     where
-      by : (b : Bool) (r : Option Refusal) → lasting_of (cond b (opened_by s m random now r) (clears (nothing s))).after ≡ lasting_of s
+      by : (b : Bool) (r : Option TunnelRefusal) → lasting_of (cond b (opened_by s m random now r) (clears (nothing s))).after ≡ lasting_of s
       by true None = refl
       by true (Some refusal) = refl
       by false r = refl
@@ -69,7 +69,7 @@ unfolding message_step
 message_keeps s m random now =
     by_phase s.phase
   where
-    by_phase : (p : Phase) → lasting_of (in_phase p s m random now).after ≡ lasting_of s
+    by_phase : (p : TunnelPhase) → lasting_of (in_phase p s m random now).after ≡ lasting_of s
     by_phase Idle = opening_keeps s m random now
     by_phase Replied = heard_keeps (having_heard s m now) m.avps now (heard_by s m)
     by_phase Established = heard_keeps (having_heard s m now) m.avps now (heard_by s m)

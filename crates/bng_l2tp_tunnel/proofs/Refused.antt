@@ -7,8 +7,8 @@ use Rattle.bng_l2tp_wire.specs.Messages.{ControlMessage}
 use Rattle.bng_l2tp_wire.specs.declared.kind.TheConstants.{PROTOCOL_VERSION, FRAMING_CAPABILITIES, HOST_NAME, ASSIGNED_TUNNEL_ID}
 use Rattle.bng_l2tp_wire.specs.declared.message.TheConstants.{SCCRQ, SCCCN}
 use Rattle.bng_l2tp_wire.proofs.Judging.{type_is, first_none, number_there}
-use Rattle.bng_l2tp_tunnel.specs.declared.phase.Phase.{Phase}
-use Rattle.bng_l2tp_tunnel.specs.declared.phase.Phase.TheVariants.{Idle, Replied, Established, Cleared}
+use Rattle.bng_l2tp_tunnel.specs.declared.phase.TunnelPhase.{TunnelPhase}
+use Rattle.bng_l2tp_tunnel.specs.declared.phase.TunnelPhase.TheVariants.{Idle, Replied, Established, Cleared}
 use Rattle.bng_l2tp_wire.specs.Values.{value_of, message_type, assigned_tunnel, has_unreadable}
 use Rattle.bng_l2tp_wire.specs.Judge.{is_type, is_wrong}
 use Rattle.bng_l2tp_tunnel.specs.Messages.{is_taken, lacks_needed}
@@ -43,11 +43,11 @@ passed s avps e =
     }
 
 -- an SCCCN is taken after an SCCRP alone
-pub replied_if : (p : Phase) (type : Option ℕ) → is_type type SCCCN ≡ true → is_taken p type ≡ true → is_replied p ≡ true
+pub replied_if : (p : TunnelPhase) (type : Option ℕ) → is_type type SCCCN ≡ true → is_taken p type ≡ true → is_replied p ≡ true
 replied_if p type e t =
     by_phase p (subst (λ (x : Option ℕ). is_taken p x ≡ true) (type_is type SCCCN e) t)
   where
-    by_phase : (q : Phase) → is_taken q (Some SCCCN) ≡ true → is_replied q ≡ true
+    by_phase : (q : TunnelPhase) → is_taken q (Some SCCCN) ≡ true → is_replied q ≡ true
     by_phase Idle t = absurd cc
     by_phase Replied t = refl
     by_phase Established t = absurd cc

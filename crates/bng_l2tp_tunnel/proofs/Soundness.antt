@@ -17,12 +17,12 @@ use Rattle.bng_l2tp_wire.specs.declared.kind.TheConstants.{CHALLENGE}
 use Rattle.bng_l2tp_wire.specs.declared.message.TheConstants.{SCCRQ, SCCCN, STOP_CCN}
 use Rattle.bng_l2tp_tunnel.specs.declared.acknowledging.Acknowledging.{Acknowledging}
 use Rattle.bng_l2tp_tunnel.specs.declared.acknowledging.Acknowledging.TheVariants.{Never, ByAny, ByZlb}
-use Rattle.bng_l2tp_tunnel.specs.declared.phase.Phase.{Phase}
-use Rattle.bng_l2tp_tunnel.specs.declared.phase.Phase.TheVariants.{Idle, Replied, Established, Cleared}
+use Rattle.bng_l2tp_tunnel.specs.declared.phase.TunnelPhase.{TunnelPhase}
+use Rattle.bng_l2tp_tunnel.specs.declared.phase.TunnelPhase.TheVariants.{Idle, Replied, Established, Cleared}
 use Rattle.bng_l2tp_tunnel.specs.TunnelState.{TunnelState}
 use Rattle.bng_l2tp_wire.specs.View.{Said, sends}
 use Rattle.bng_l2tp_tunnel.specs.Outs.{datagram, let_out, after_out, flight_most, zlb, with_zlb}
-use Rattle.bng_l2tp_tunnel.specs.declared.refusal.Refusal.{Refusal}
+use Rattle.bng_l2tp_tunnel.specs.declared.refusal.TunnelRefusal.{TunnelRefusal}
 use Rattle.bng_l2tp_wire.specs.Values.{value_of, message_type, assigned_tunnel, window_of}
 use Rattle.bng_l2tp_wire.specs.Judge.{is_type}
 use Rattle.bng_l2tp_tunnel.specs.Messages.{is_of_call, is_taken}
@@ -88,19 +88,19 @@ received_spelled : (c : ChannelState) (ns nr : ℕ) (none : Bool) (now : ℕ) �
 received_spelled c ns nr none now h = AllByRecursion-drop (λ (t : Message). IsSpelled t.items) (acknowledged c nr) c.messages h
 
 -- the phases that a step tells of
-pub stays : (p : Phase) → (false ≡ (is_replied p && is_established p)) × (false ≡ (not (is_cleared p) && is_cleared p))
+pub stays : (p : TunnelPhase) → (false ≡ (is_replied p && is_established p)) × (false ≡ (not (is_cleared p) && is_cleared p))
 stays Idle = (refl, refl)
 stays Replied = (refl, refl)
 stays Established = (refl, refl)
 stays Cleared = (refl, refl)
 
-pub ends : (p : Phase) → is_cleared p ≡ false → (false ≡ (is_replied p && is_established Cleared)) × (true ≡ (not (is_cleared p) && is_cleared Cleared))
+pub ends : (p : TunnelPhase) → is_cleared p ≡ false → (false ≡ (is_replied p && is_established Cleared)) × (true ≡ (not (is_cleared p) && is_cleared Cleared))
 ends Idle e = (refl, refl)
 ends Replied e = (refl, refl)
 ends Established e = (refl, refl)
 ends Cleared e = absurd cc
 
-pub standing : (p : Phase) → stands p ≡ true → is_cleared p ≡ false
+pub standing : (p : TunnelPhase) → stands p ≡ true → is_cleared p ≡ false
 standing Idle e = absurd cc
 standing Replied e = refl
 standing Established e = refl
@@ -120,7 +120,7 @@ sound_if_good s step t e good until f g = record {
 zlb_sent : (tunnel : ℕ) (c : ChannelState) → IsSentTo tunnel c.nr (zlb tunnel c)
 zlb_sent tunnel c = record { message = record { tunnel = tunnel; session = 0; ns = c.ns; nr = c.nr; avps = [] }; text = refl; tunnel_is = refl; nr_is = refl }
 
-no_end : (p : Phase) → false ≡ (not (is_cleared p) && is_cleared Established)
+no_end : (p : TunnelPhase) → false ≡ (not (is_cleared p) && is_cleared Established)
 no_end Idle = refl
 no_end Replied = refl
 no_end Established = refl
@@ -141,7 +141,7 @@ module _ (s : TunnelState) (t : IsReady s) (e : stands s.phase ≡ true) where
       let end = ends s.phase (standing s.phase e) in
       sound_if_good s (clears step) t e (record { spelled = g.spelled; window = g.window; rules = g.rules; peer = g.peer; outs = g.outs }) (λ no. absurd cc) (f ∙ end.0) end.1
 
-  pub refuse_sound : (refusal : Refusal) (now : ℕ) → IsSound s (clears (answered ByAny s (stop_ccn s.number (code_of refusal)) now))
+  pub refuse_sound : (refusal : TunnelRefusal) (now : ℕ) → IsSound s (clears (answered ByAny s (stop_ccn s.number (code_of refusal)) now))
   refuse_sound refusal now =
       let text = control_text (stop_ccn s.number (code_of refusal)) in
       clears_sound (queued_text ByAny s text now) (queued_good ByAny s text now t.spelled t.window (stop_ccn s.number (code_of refusal), refl)) refl
@@ -178,7 +178,7 @@ module _ (s : TunnelState) (t : IsReady s) (e : stands s.phase ≡ true) where
       first true q = established_sound (replied_if s.phase type q taken)
       first false q = second (is_type type STOP_CCN)
 
-  pub judged_sound : (avps : List L2tpAvp) (now : ℕ) (r : Option Refusal) → refusal_of s avps ≡ r → IsSound s (judged s (message_type avps) now r)
+  pub judged_sound : (avps : List L2tpAvp) (now : ℕ) (r : Option TunnelRefusal) → refusal_of s avps ≡ r → IsSound s (judged s (message_type avps) now r)
   judged_sound avps now None q = accepted_sound (message_type avps) (passed s avps q).taken
   judged_sound avps now (Some refusal) q = refuse_sound refusal now
 
@@ -203,9 +203,9 @@ module _ (s : TunnelState) (t : IsReady s) (e : stands s.phase ≡ true) where
 pub sound_from : (r s : TunnelState) (step : Step) → r.phase ≡ s.phase → IsSound r step → IsSound s step
 sound_from r s step e x = record {
   tunnel = x.tunnel;
-  outs = subst (λ (p : Phase). AllByRecursion (IsSentTo (to_peer step.after) (cond (stands p) step.after.channel.nr 1)) step.said.outs) e x.outs;
-  established = subst (λ (p : Phase). step.said.established ≡ (is_replied p && is_established step.after.phase)) e x.established;
-  cleared = subst (λ (p : Phase). step.said.cleared ≡ (not (is_cleared p) && is_cleared step.after.phase)) e x.cleared;
+  outs = subst (λ (p : TunnelPhase). AllByRecursion (IsSentTo (to_peer step.after) (cond (stands p) step.after.channel.nr 1)) step.said.outs) e x.outs;
+  established = subst (λ (p : TunnelPhase). step.said.established ≡ (is_replied p && is_established step.after.phase)) e x.established;
+  cleared = subst (λ (p : TunnelPhase). step.said.cleared ≡ (not (is_cleared p) && is_cleared step.after.phase)) e x.cleared;
 }
 
 pub hearing_sound : (s : TunnelState) (m : ControlMessage) (now : ℕ) → IsTunnel s → stands s.phase ≡ true → IsSound s (hearing s m now)
@@ -215,7 +215,7 @@ hearing_sound s m now t e =
 
 -- Opening -----------------------------------------------------------------------------------------------------------------------------------
 
-turned_away_sent : (tunnel : Option ℕ) (refusal : Refusal) → AllByRecursion (IsSentTo (unwrap_or tunnel 0) 1) (turned_away tunnel refusal)
+turned_away_sent : (tunnel : Option ℕ) (refusal : TunnelRefusal) → AllByRecursion (IsSentTo (unwrap_or tunnel 0) 1) (turned_away tunnel refusal)
 turned_away_sent None refusal = tt
 turned_away_sent (Some tunnel) refusal =
     (record { message = record (stop_ccn 0 (code_of refusal)) { tunnel = tunnel; nr = 1 }; text = refl; tunnel_is = refl; nr_is = refl }, tt)
@@ -240,7 +240,7 @@ module _ (s : TunnelState) (m : ControlMessage) (random : List ℕ) (now : ℕ) 
       let end = ends s.phase (ap is_cleared e) in
       record {
         tunnel = record { spelled = after.spelled; window = after.window; known = λ no. absurd cc; numbered = λ no. absurd cc; addressed = λ no. absurd cc; until = λ no. absurd cc };
-        outs = subst (λ (nr : ℕ). AllByRecursion (IsSentTo (to_peer step.after) nr) step.said.outs) (sym (ap (λ (p : Phase). cond (stands p) step.after.channel.nr 1) e)) outs;
+        outs = subst (λ (nr : ℕ). AllByRecursion (IsSentTo (to_peer step.after) nr) step.said.outs) (sym (ap (λ (p : TunnelPhase). cond (stands p) step.after.channel.nr 1) e)) outs;
         established = f ∙ end.0;
         cleared = end.1;
       }
@@ -256,12 +256,12 @@ module _ (s : TunnelState) (m : ControlMessage) (random : List ℕ) (now : ℕ) 
       record {
         tunnel = x.tunnel;
         outs = subst (λ (n : ℕ). AllByRecursion (IsSentTo (to_peer (replied s m random now).after) n) (replied s m random now).said.outs)
-            (nr ∙ sym (ap (λ (p : Phase). cond (stands p) (replied s m random now).after.channel.nr 1) e)) x.outs;
+            (nr ∙ sym (ap (λ (p : TunnelPhase). cond (stands p) (replied s m random now).after.channel.nr 1) e)) x.outs;
         established = and_false (is_replied s.phase);
         cleared = and_false (not (is_cleared s.phase));
       }
 
-  opened_sound : begins m ≡ true → (r : Option Refusal) → refusal_of s m.avps ≡ r → IsSound s (opened_by s m random now r)
+  opened_sound : begins m ≡ true → (r : Option TunnelRefusal) → refusal_of s m.avps ≡ r → IsSound s (opened_by s m random now r)
   opened_sound b None q = replied_sound b q
   opened_sound b (Some refusal) q =
       closed_sound (record { said = sends (turned_away (assigned_tunnel s.secret m.avps) refusal); after = record s { peer_number = assigned_tunnel s.secret m.avps } })
@@ -280,7 +280,7 @@ unfolding message_step
 message_sound s m random now t =
     by_phase s.phase refl
   where
-    by_phase : (p : Phase) → s.phase ≡ p → IsSound s (in_phase p s m random now)
+    by_phase : (p : TunnelPhase) → s.phase ≡ p → IsSound s (in_phase p s m random now)
     by_phase Idle e = opening_sound s m random now t e
     by_phase Replied e = hearing_sound s m now t (ap stands e)
     by_phase Established e = hearing_sound s m now t (ap stands e)

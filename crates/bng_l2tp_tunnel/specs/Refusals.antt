@@ -4,8 +4,8 @@ use Rattle.md5.specs.Md5.{md5}
 use Rattle.bng_l2tp_wire.specs.Avps.{L2tpAvp}
 use Rattle.bng_l2tp_wire.specs.declared.kind.TheConstants.{PROTOCOL_VERSION, CHALLENGE, CHALLENGE_RESPONSE}
 use Rattle.bng_l2tp_wire.specs.declared.message.TheConstants.{SCCRQ, SCCCN}
-use Rattle.bng_l2tp_tunnel.specs.declared.refusal.Refusal.{Refusal}
-use Rattle.bng_l2tp_tunnel.specs.declared.refusal.Refusal.TheVariants.{NotConfigured, WrongVersion, UnknownAvp, WrongAvp, NotAuthorized, Unexpected, NoNumber}
+use Rattle.bng_l2tp_tunnel.specs.declared.refusal.TunnelRefusal.{TunnelRefusal}
+use Rattle.bng_l2tp_tunnel.specs.declared.refusal.TunnelRefusal.TheVariants.{NotConfigured, WrongVersion, UnknownAvp, WrongAvp, NotAuthorized, Unexpected, NoNumber}
 use Rattle.bng_l2tp_wire.specs.Values.{value_of, message_type, has_unreadable}
 use Rattle.bng_l2tp_wire.specs.Judge.{is_type, has_unknown, Case, if_so, first_of}
 use Rattle.bng_l2tp_tunnel.specs.Messages.{is_of_call, is_taken, lacks_needed}
@@ -61,7 +61,7 @@ abbrev pub lacks_number : ℕ → Option ℕ → Bool
 lacks_number number type = is_type type SCCRQ && number == 0
 
 -- the cases of a message of this type with these AVPs
-abbrev pub cases : TunnelState → Option ℕ → List L2tpAvp → List (Case Refusal)
+abbrev pub cases : TunnelState → Option ℕ → List L2tpAvp → List (Case TunnelRefusal)
 cases s type avps =
     if_so (not s.known) NotConfigured
     ∷ if_so (is_of_wrong_version s.secret type avps) WrongVersion
@@ -73,5 +73,5 @@ cases s type avps =
     ∷ []
 
 -- why the message is refused, where it is
-unfoldable pub refusal_of : TunnelState → List L2tpAvp → Option Refusal
+unfoldable pub refusal_of : TunnelState → List L2tpAvp → Option TunnelRefusal
 refusal_of s avps = first_of (cases s (message_type avps) avps)

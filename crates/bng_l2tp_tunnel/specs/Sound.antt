@@ -7,8 +7,8 @@ use Rattle.bng_l2tp_reliable.specs.ChannelState.{Message}
 use Rattle.bng_l2tp_reliable.specs.Calls.{next_out}
 use Rattle.bng_l2tp_wire.specs.Messages.{ControlMessage, control_text}
 use Rattle.bng_l2tp_wire.specs.declared.message.TheConstants.{SCCCN}
-use Rattle.bng_l2tp_tunnel.specs.declared.phase.Phase.{Phase}
-use Rattle.bng_l2tp_tunnel.specs.declared.phase.Phase.TheVariants.{Idle, Replied, Established, Cleared}
+use Rattle.bng_l2tp_tunnel.specs.declared.phase.TunnelPhase.{TunnelPhase}
+use Rattle.bng_l2tp_tunnel.specs.declared.phase.TunnelPhase.TheVariants.{Idle, Replied, Established, Cleared}
 use Rattle.bng_l2tp_tunnel.specs.TunnelState.{TunnelState}
 use Rattle.bng_l2tp_wire.specs.Values.{message_type}
 use Rattle.bng_l2tp_tunnel.specs.Messages.{is_of_call}
@@ -16,13 +16,13 @@ use Rattle.bng_l2tp_tunnel.specs.Refusals.{has_answer}
 use Rattle.bng_l2tp_tunnel.specs.Outs.{flight_most}
 use Rattle.bng_l2tp_tunnel.specs.Steps.{Step, stands, is_established, to_peer, heard_by}
 
-abbrev pub is_replied : Phase → Bool
+abbrev pub is_replied : TunnelPhase → Bool
 is_replied Idle = false
 is_replied Replied = true
 is_replied Established = false
 is_replied Cleared = false
 
-abbrev pub is_cleared : Phase → Bool
+abbrev pub is_cleared : TunnelPhase → Bool
 is_cleared Idle = false
 is_cleared Replied = false
 is_cleared Established = false

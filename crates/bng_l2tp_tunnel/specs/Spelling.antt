@@ -5,8 +5,8 @@ use Rattle.bng_l2tp_wire.specs.Messages.{ControlMessage}
 use Rattle.bng_l2tp_wire.specs.declared.kind.TheConstants.{MESSAGE_TYPE, RESULT_CODE, PROTOCOL_VERSION, FRAMING_CAPABILITIES, HOST_NAME, ASSIGNED_TUNNEL_ID, RECEIVE_WINDOW_SIZE, CHALLENGE, CHALLENGE_RESPONSE}
 use Rattle.bng_l2tp_wire.specs.declared.message.TheConstants.{SCCRP, STOP_CCN, HELLO}
 use Rattle.bng_l2tp_wire.specs.declared.result_code.ResultCode.{ResultCode}
-use Rattle.bng_l2tp_tunnel.specs.declared.refusal.Refusal.{Refusal}
-use Rattle.bng_l2tp_tunnel.specs.declared.refusal.Refusal.TheVariants.{NotConfigured, WrongVersion, UnknownAvp, WrongAvp, NotAuthorized, Unexpected, NoNumber}
+use Rattle.bng_l2tp_tunnel.specs.declared.refusal.TunnelRefusal.{TunnelRefusal}
+use Rattle.bng_l2tp_tunnel.specs.declared.refusal.TunnelRefusal.TheVariants.{NotConfigured, WrongVersion, UnknownAvp, WrongAvp, NotAuthorized, Unexpected, NoNumber}
 use Rattle.bng_l2tp_tunnel.specs.Refusals.{version, challenge_response}
 use Rattle.bng_l2tp_wire.specs.Spelling.{avp, number_avp, unsent, result_only, general_error, code_octets}
 
@@ -51,7 +51,7 @@ sccrp name number secret challenge asked =
 
 -- The Result Codes of a StopCCN (section 4.4.2): 4 the requester is not authorized, 5 its protocol version is not supported, 2 with 8 an AVP that
 -- must be known is not, 2 with 3 a field is out of range, 7 an error of the state machine, 2 with 4 no resources are left
-abbrev pub code_of : Refusal → ResultCode
+abbrev pub code_of : TunnelRefusal → ResultCode
 code_of NotConfigured = result_only 4
 code_of WrongVersion = result_only 5
 code_of UnknownAvp = general_error 8

@@ -13,9 +13,9 @@ use Rattle.bng_l2tp_wire.specs.Avps.{L2tpAvp}
 use Rattle.bng_l2tp_wire.specs.Messages.{ControlMessage, control_text}
 use Rattle.bng_l2tp_wire.specs.declared.kind.TheConstants.{CHALLENGE}
 use Rattle.bng_l2tp_wire.specs.declared.message.TheConstants.{SCCRQ, SCCCN, STOP_CCN}
-use Rattle.bng_l2tp_tunnel.specs.declared.phase.Phase.{Phase}
-use Rattle.bng_l2tp_tunnel.specs.declared.phase.Phase.TheVariants.{Idle, Replied, Established, Cleared}
-use Rattle.bng_l2tp_tunnel.specs.declared.refusal.Refusal.{Refusal}
+use Rattle.bng_l2tp_tunnel.specs.declared.phase.TunnelPhase.{TunnelPhase}
+use Rattle.bng_l2tp_tunnel.specs.declared.phase.TunnelPhase.TheVariants.{Idle, Replied, Established, Cleared}
+use Rattle.bng_l2tp_tunnel.specs.declared.refusal.TunnelRefusal.{TunnelRefusal}
 use Rattle.bng_l2tp_tunnel.specs.declared.acknowledging.Acknowledging.{Acknowledging}
 use Rattle.bng_l2tp_tunnel.specs.declared.acknowledging.Acknowledging.TheVariants.{Never, ByAny, ByZlb}
 use Rattle.bng_l2tp_wire.specs.Values.{value_of, message_type, assigned_tunnel, window_of}
@@ -40,13 +40,13 @@ abbrev pub to_peer : TunnelState → ℕ
 to_peer s = unwrap_or s.peer_number 0
 
 -- a tunnel that was made, and was not cleared
-abbrev pub stands : Phase → Bool
+abbrev pub stands : TunnelPhase → Bool
 stands Idle = false
 stands Replied = true
 stands Established = true
 stands Cleared = false
 
-abbrev pub is_established : Phase → Bool
+abbrev pub is_established : TunnelPhase → Bool
 is_established Idle = false
 is_established Replied = false
 is_established Established = true
@@ -79,7 +79,7 @@ clears step = record { said = record step.said { cleared = true }; after = recor
 -- SCCRQ ---------------------------------------------------------------------------------------------------------------------------------
 
 -- The StopCCN that turns an SCCRQ away: outside of any channel, and of no tunnel. Where the peer's tunnel cannot be read there is none.
-abbrev pub turned_away : Option ℕ → Refusal → List (List ℕ)
+abbrev pub turned_away : Option ℕ → TunnelRefusal → List (List ℕ)
 turned_away None refusal = []
 turned_away (Some tunnel) refusal = control_text (record (stop_ccn 0 (code_of refusal)) { tunnel = tunnel; nr = 1 }) ∷ []
 
@@ -97,14 +97,14 @@ replied s m random now =
     answered ByAny (made s m random now) (sccrp s.name s.number s.secret random (value_of s.secret CHALLENGE m.avps)) now
 
 -- an SCCRQ that is refused
-abbrev pub refused : TunnelState → List L2tpAvp → Refusal → Step
+abbrev pub refused : TunnelState → List L2tpAvp → TunnelRefusal → Step
 refused s avps refusal =
     clears (record {
       said = sends (turned_away (assigned_tunnel s.secret avps) refusal);
       after = record s { peer_number = assigned_tunnel s.secret avps };
     })
 
-abbrev pub opened_by : TunnelState → ControlMessage → List ℕ → ℕ → Option Refusal → Step
+abbrev pub opened_by : TunnelState → ControlMessage → List ℕ → ℕ → Option TunnelRefusal → Step
 opened_by s m random now None = replied s m random now
 opened_by s m random now (Some refusal) = refused s m.avps refusal
 
@@ -137,7 +137,7 @@ accepted s type =
     else (if is_type type STOP_CCN then ended s
     else flushed ByZlb s)
 
-abbrev pub judged : TunnelState → Option ℕ → ℕ → Option Refusal → Step
+abbrev pub judged : TunnelState → Option ℕ → ℕ → Option TunnelRefusal → Step
 judged s type now None = accepted s type
 judged s type now (Some refusal) = clears (answered ByAny s (stop_ccn s.number (code_of refusal)) now)
 
@@ -169,7 +169,7 @@ having_heard s m now = record s { channel = received s.channel m.ns m.nr (is_zlb
 abbrev pub hearing : TunnelState → ControlMessage → ℕ → Step
 hearing s m now = heard (having_heard s m now) m.avps now (heard_by s m)
 
-abbrev pub in_phase : Phase → TunnelState → ControlMessage → List ℕ → ℕ → Step
+abbrev pub in_phase : TunnelPhase → TunnelState → ControlMessage → List ℕ → ℕ → Step
 in_phase Idle s m random now = opening s m random now
 in_phase Replied s m random now = hearing s m now
 in_phase Established s m random now = hearing s m now

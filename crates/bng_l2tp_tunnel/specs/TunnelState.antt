@@ -3,8 +3,8 @@ use Rattle.std.specs.Prelude.{ℕ, Bool, List, Option, None, replicate}
 use Rattle.bng_base.specs.declared.address.Peer.{Peer}
 use Rattle.bng_l2tp_reliable.specs.ChannelState.{ChannelState, begun}
 use Rattle.bng_base.specs.declared.address.TunnelNo.{TunnelNo}
-use Rattle.bng_l2tp_tunnel.specs.declared.phase.Phase.{Phase}
-use Rattle.bng_l2tp_tunnel.specs.declared.phase.Phase.TheVariants.{Idle}
+use Rattle.bng_l2tp_tunnel.specs.declared.phase.TunnelPhase.{TunnelPhase}
+use Rattle.bng_l2tp_tunnel.specs.declared.phase.TunnelPhase.TheVariants.{Idle}
 use Rattle.bng_l2tp_tunnel.specs.declared.rules.TunnelRules.{TunnelRules}
 use Rattle.bng_l2tp_wire.specs.Values.{default_window}
 use Rattle.bng_l2tp_wire.specs.View.{octets_of}
@@ -19,7 +19,7 @@ pub record TunnelState : Type 0 where
   -- the tunnel's number, 0 where none may be taken
   pub number : ℕ
   pub peer : Peer
-  pub phase : Phase
+  pub phase : TunnelPhase
   -- the peer's Assigned Tunnel ID
   pub peer_number : Option ℕ
   -- the Challenge that was sent, where there is a secret

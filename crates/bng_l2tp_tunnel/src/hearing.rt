@@ -11,8 +11,8 @@ use crate::judge::{
     lacks_number,
 };
 use crate::outs::zlb;
-use crate::phase::Phase;
-use crate::refusal::{Refusal, code_of};
+use crate::phase::TunnelPhase;
+use crate::refusal::{TunnelRefusal, code_of};
 use crate::spelling::{sccrp, stop_ccn};
 use crate::tunnel::Tunnel;
 use arrayvec::ArrayVec;
@@ -40,7 +40,7 @@ pub fn is_zlb(message: &Control<'_>) -> bool
 }
 
 // The StopCCN that turns an SCCRQ away, if the peer's tunnel is known.
-fn turned_away(tunnel: Option<u16>, refusal: Refusal) -> Outs
+fn turned_away(tunnel: Option<u16>, refusal: TunnelRefusal) -> Outs
     ensures { payloads result.items ≡ turns_away tunnel refusal }
 {
     let mut outs = ArrayVec::new();
@@ -51,40 +51,40 @@ fn turned_away(tunnel: Option<u16>, refusal: Refusal) -> Outs
 }
 
 // Whether a message is for a call of an established tunnel.
-fn is_for_call(phase: Phase, found: Option<u16>) -> bool
+fn is_for_call(phase: TunnelPhase, found: Option<u16>) -> bool
     ensures { result ≡ (is_established phase && belongs_to_call found) }
 {
-    phase == Phase::Established && is_of_call(found)
+    phase == TunnelPhase::Established && is_of_call(found)
 }
 
 impl Tunnel {
     // Why a message is refused, where it is.
     #[tactic(auto, unfolding(crate::specs::Refusals::refusal_of))]
-    fn refusal(&self, avps: &[Avp<'_>]) -> Option<Refusal>
+    fn refusal(&self, avps: &[Avp<'_>]) -> Option<TunnelRefusal>
         ensures { result ≡ refusal_of self.now (avps_of avps.now) }
     {
         let found = type_in(avps);
         let secret = &self.rules.secret;
         if !self.rules.known {
-            return Some(Refusal::NotConfigured);
+            return Some(TunnelRefusal::NotConfigured);
         }
         if is_of_wrong_version(avps, secret, found) {
-            return Some(Refusal::WrongVersion);
+            return Some(TunnelRefusal::WrongVersion);
         }
         if has_unknown_avp(avps, found) {
-            return Some(Refusal::UnknownAvp);
+            return Some(TunnelRefusal::UnknownAvp);
         }
         if has_wrong_avp(avps, secret, found) {
-            return Some(Refusal::WrongAvp);
+            return Some(TunnelRefusal::WrongAvp);
         }
         if fails_challenge(avps, secret, &self.challenge, found) {
-            return Some(Refusal::NotAuthorized);
+            return Some(TunnelRefusal::NotAuthorized);
         }
         if !is_taken(self.phase, found) {
-            return Some(Refusal::Unexpected);
+            return Some(TunnelRefusal::Unexpected);
         }
         if lacks_number(self.number.0, found) {
-            return Some(Refusal::NoNumber);
+            return Some(TunnelRefusal::NoNumber);
         }
         None
     }
@@ -116,13 +116,13 @@ impl Tunnel {
 
     // Answers an SCCRQ that is refused.
     #[inline(never)]
-    fn turn_away(&mut self, avps: &[Avp<'_>], refusal: Refusal) -> TunnelStep
+    fn turn_away(&mut self, avps: &[Avp<'_>], refusal: TunnelRefusal) -> TunnelStep
         ensures said { said result ≡ (refused self.old (avps_of avps.now) refusal).said }
         ensures after { self.new ≡ (refused self.old (avps_of avps.now) refusal).after }
     {
         let tunnel = number_at(avps, &self.rules.secret, ASSIGNED_TUNNEL_ID);
         self.peer_number = tunnel;
-        self.phase = Phase::Cleared;
+        self.phase = TunnelPhase::Cleared;
         cleared(sends(turned_away(tunnel, refusal)))
     }
 
@@ -152,7 +152,7 @@ impl Tunnel {
         let avps = message.avps.as_slice();
         let tunnel = number_at(avps, &self.rules.secret, ASSIGNED_TUNNEL_ID);
         let window = window_of(avps, &self.rules.secret);
-        self.phase = Phase::Replied;
+        self.phase = TunnelPhase::Replied;
         self.peer_number = tunnel;
         self.challenge = *random;
         self.channel = Channel::new(window, now);
@@ -220,13 +220,13 @@ impl Tunnel {
 
     // Refuses a message, which clears the tunnel.
     #[inline(never)]
-    fn refuse(&mut self, refusal: Refusal, now: u64) -> TunnelStep
+    fn refuse(&mut self, refusal: TunnelRefusal, now: u64) -> TunnelStep
         ensures said { said result ≡ (clears (answered Acknowledging.ByAny self.old (stop_ccn_of self.old.number (code_of_refusal refusal)) now)).said }
         ensures after { self.new ≡ (clears (answered Acknowledging.ByAny self.old (stop_ccn_of self.old.number (code_of_refusal refusal)) now)).after }
     {
         let stop = stop_ccn(0, 0, self.number.0, code_of(refusal));
         let step = self.queue(stop.payload(), now, Acknowledging::ByAny);
-        self.phase = Phase::Cleared;
+        self.phase = TunnelPhase::Cleared;
         cleared(step)
     }
 
@@ -250,7 +250,7 @@ impl Tunnel {
     {
         let mut step = self.flush(Acknowledging::ByZlb);
         step.established = true;
-        self.phase = Phase::Established;
+        self.phase = TunnelPhase::Established;
         step
     }
 
@@ -262,7 +262,7 @@ impl Tunnel {
     {
         let mut outs = ArrayVec::new();
         outs.push(zlb(&self.channel, self.to_peer()));
-        self.phase = Phase::Cleared;
+        self.phase = TunnelPhase::Cleared;
         cleared(sends(outs))
     }
 }

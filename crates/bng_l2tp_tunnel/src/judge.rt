@@ -3,7 +3,7 @@ ghost use Rattle.bng_l2tp_wire.specs.View.{avps_of, octets_of};
 ghost use Rattle.bng_l2tp_tunnel.specs.Messages.{is_of_call as belongs_to_call, is_taken as is_taken_in, lacks_needed as lacks};
 ghost use Rattle.bng_l2tp_tunnel.specs.Refusals.{has_other_version as is_of_other_version, challenge_response, has_answer as answers, is_asked_in_vain as asks_in_vain, fails_challenge as fails, is_of_wrong_version as has_wrong_version, has_unknown_avp as has_unknown_one, has_wrong_avp as has_wrong_one, lacks_number as lacks_a_number};
 
-use crate::phase::Phase;
+use crate::phase::TunnelPhase;
 use arrayvec::ArrayVec;
 use bng_digest::chap_value;
 use bng_l2tp_wire::Avp;
@@ -27,14 +27,14 @@ pub fn is_of_call(found: Option<u16>) -> bool
 }
 
 /// Whether a tunnel takes a message of this type in this phase (RFC 2661 section 7.2).
-pub fn is_taken(phase: Phase, found: Option<u16>) -> bool
+pub fn is_taken(phase: TunnelPhase, found: Option<u16>) -> bool
     ensures { result ≡ is_taken_in phase found }
 {
     match phase {
-        Phase::Idle => is_type(found, SCCRQ),
-        Phase::Replied => is_type(found, SCCCN) || is_type(found, STOP_CCN),
-        Phase::Established => is_type(found, STOP_CCN) || is_type(found, HELLO),
-        Phase::Cleared => false,
+        TunnelPhase::Idle => is_type(found, SCCRQ),
+        TunnelPhase::Replied => is_type(found, SCCCN) || is_type(found, STOP_CCN),
+        TunnelPhase::Established => is_type(found, STOP_CCN) || is_type(found, HELLO),
+        TunnelPhase::Cleared => false,
     }
 }
 

@@ -26,8 +26,8 @@ pub use crate::judge::{
     VERSION, challenge_response, has_answer, has_other_version, is_asked_in_vain, is_of_call,
 };
 pub use crate::outs::{datagram, let_out, outs_of, resent, zlb};
-pub use crate::phase::Phase;
-pub use crate::refusal::{Refusal, code_of, shut_down};
+pub use crate::phase::TunnelPhase;
+pub use crate::refusal::{TunnelRefusal, code_of, shut_down};
 pub use crate::rules::TunnelRules;
 pub use crate::spelling::{
     BOTH_FRAMINGS, OWN_WINDOW, hello, push_challenge, push_response, response_to, stop_ccn,

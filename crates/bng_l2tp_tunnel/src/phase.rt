@@ -1,6 +1,6 @@
 /// How far a tunnel has come (RFC 2661 section 7.2).
 #[derive(Clone, Copy)]
-pub enum Phase {
+pub enum TunnelPhase {
     /// It has taken no message.
     Idle,
     /// An SCCRQ was taken and an SCCRP sent.

@@ -7,7 +7,7 @@ use bng_l2tp_wire::result_code::{
 
 /// Why a tunnel is refused (RFC 2661 sections 4.4.2 and 7.2.1). Each is told by a StopCCN.
 #[derive(Clone, Copy)]
-pub enum Refusal {
+pub enum TunnelRefusal {
     /// The peer's address is not a configured one.
     NotConfigured,
     /// The Protocol Version is not 1.0.
@@ -34,16 +34,16 @@ const SHUT_DOWN: u16 = 6;
 const STATE_ERROR: u16 = 7;
 
 /// The code of a StopCCN that tells a refusal.
-pub fn code_of(refusal: Refusal) -> ResultCode
+pub fn code_of(refusal: TunnelRefusal) -> ResultCode
     ensures { result ≡ code_of_refusal refusal }
 {
     match refusal {
-        Refusal::NotConfigured | Refusal::NotAuthorized => result_only(UNAUTHORIZED),
-        Refusal::WrongVersion => result_only(UNSUPPORTED_VERSION),
-        Refusal::UnknownAvp => general_error(UNKNOWN_AVP),
-        Refusal::WrongAvp => general_error(OUT_OF_RANGE),
-        Refusal::Unexpected => result_only(STATE_ERROR),
-        Refusal::NoNumber => general_error(NO_RESOURCES),
+        TunnelRefusal::NotConfigured | TunnelRefusal::NotAuthorized => result_only(UNAUTHORIZED),
+        TunnelRefusal::WrongVersion => result_only(UNSUPPORTED_VERSION),
+        TunnelRefusal::UnknownAvp => general_error(UNKNOWN_AVP),
+        TunnelRefusal::WrongAvp => general_error(OUT_OF_RANGE),
+        TunnelRefusal::Unexpected => result_only(STATE_ERROR),
+        TunnelRefusal::NoNumber => general_error(NO_RESOURCES),
     }
 }
 

@@ -10,7 +10,7 @@ ghost use Rattle.bng_l2tp_tunnel.specs.Steps.{flushed, nothing as does_nothing, 
 
 use crate::acknowledging::Acknowledging;
 use crate::outs::{outs_of, resent, zlb};
-use crate::phase::Phase;
+use crate::phase::TunnelPhase;
 use crate::refusal::shut_down;
 use crate::rules::TunnelRules;
 use crate::spelling::{hello, stop_ccn};
@@ -32,7 +32,7 @@ pub struct Tunnel {
     pub(crate) rules: TunnelRules,
     pub(crate) number: TunnelNo,
     pub(crate) peer: Peer,
-    pub(crate) phase: Phase,
+    pub(crate) phase: TunnelPhase,
     pub(crate) peer_number: Option<u16>,
     pub(crate) challenge: [u8; 16],
     pub(crate) channel: Channel,
@@ -72,7 +72,7 @@ impl Tunnel {
             },
             number,
             peer,
-            phase: Phase::Idle,
+            phase: TunnelPhase::Idle,
             peer_number: None,
             challenge: [0; 16],
             channel: Channel::new(DEFAULT_WINDOW, now),
@@ -108,9 +108,9 @@ impl Tunnel {
         ensures room { IsTrue result.call → length (payloads result.outs.items) ≤ 8 }
     {
         match self.phase {
-            Phase::Idle => self.open(message, random, now),
-            Phase::Replied | Phase::Established => self.hear(message, now),
-            Phase::Cleared => nothing(),
+            TunnelPhase::Idle => self.open(message, random, now),
+            TunnelPhase::Replied | TunnelPhase::Established => self.hear(message, now),
+            TunnelPhase::Cleared => nothing(),
         }
     }
 
@@ -127,8 +127,8 @@ impl Tunnel {
         ensures few { length (payloads result.outs.items) ≤ 8 }
     {
         match self.phase {
-            Phase::Idle | Phase::Cleared => nothing(),
-            Phase::Replied | Phase::Established => self.remind(now),
+            TunnelPhase::Idle | TunnelPhase::Cleared => nothing(),
+            TunnelPhase::Replied | TunnelPhase::Established => self.remind(now),
         }
     }
 
@@ -156,8 +156,8 @@ impl Tunnel {
         ensures left_out { IsTrue result.left_out ↔ ((stands self.old.phase ≡ true) × (length (waiting self.old.channel) ≡ WAITING_MOST)) }
     {
         match self.phase {
-            Phase::Idle | Phase::Cleared => nothing(),
-            Phase::Replied | Phase::Established => self.queue(message, now, Acknowledging::Never),
+            TunnelPhase::Idle | TunnelPhase::Cleared => nothing(),
+            TunnelPhase::Replied | TunnelPhase::Established => self.queue(message, now, Acknowledging::Never),
         }
     }
 
@@ -173,8 +173,8 @@ impl Tunnel {
         ensures one { IsTunnel self.old → length (payloads result.outs.items) ≤ 1 }
     {
         match self.phase {
-            Phase::Idle | Phase::Cleared => nothing(),
-            Phase::Replied | Phase::Established => self.shut_down(now),
+            TunnelPhase::Idle | TunnelPhase::Cleared => nothing(),
+            TunnelPhase::Replied | TunnelPhase::Established => self.shut_down(now),
         }
     }
 
@@ -190,8 +190,8 @@ impl Tunnel {
         ensures { result ≡ stands self.now.phase }
     {
         match self.phase {
-            Phase::Replied | Phase::Established => true,
-            Phase::Idle | Phase::Cleared => false,
+            TunnelPhase::Replied | TunnelPhase::Established => true,
+            TunnelPhase::Idle | TunnelPhase::Cleared => false,
         }
     }
 
@@ -267,7 +267,7 @@ impl Tunnel {
     {
         let stop = stop_ccn(0, 0, self.number.0, shut_down());
         let step = self.queue(stop.payload(), now, Acknowledging::Never);
-        self.phase = Phase::Cleared;
+        self.phase = TunnelPhase::Cleared;
         cleared(step)
     }
 
@@ -294,7 +294,7 @@ impl Tunnel {
         ensures said { said result ≡ (clears (does_nothing self.old)).said }
         ensures after { self.new ≡ (clears (does_nothing self.old)).after }
     {
-        self.phase = Phase::Cleared;
+        self.phase = TunnelPhase::Cleared;
         cleared(nothing())
     }
 

@@ -9,7 +9,7 @@ use Rattle.bng_l2tp_reliable.specs.Calls.{queued}
 use Rattle.bng_l2tp_wire.specs.Avps.{L2tpAvp}
 use Rattle.bng_l2tp_wire.specs.Messages.{ControlMessage}
 use Rattle.bng_l2tp_tunnel.specs.declared.acknowledging.Acknowledging.TheVariants.{ByZlb}
-use Rattle.bng_l2tp_tunnel.specs.declared.refusal.Refusal.{Refusal}
+use Rattle.bng_l2tp_tunnel.specs.declared.refusal.TunnelRefusal.{TunnelRefusal}
 use Rattle.bng_l2tp_wire.specs.Values.{value_of, message_type, assigned_tunnel, window_of}
 use Rattle.bng_l2tp_wire.specs.Judge.{is_type}
 use Rattle.bng_l2tp_tunnel.specs.Outs.{flight_most}
@@ -111,7 +111,7 @@ module _ (s : LacState) (m : ControlMessage) (now : ℕ) (none : waiting s.chann
       by false true q e = absurd (false≢true e)
       by false false q e = absurd (false≢true e)
 
-  judged_asks : (refusal : Option Refusal) → refusal_of s m.avps ≡ refusal → (judged (learned s m.avps) m.avps now refusal).said.established ≡ true
+  judged_asks : (refusal : Option TunnelRefusal) → refusal_of s m.avps ≡ refusal → (judged (learned s m.avps) m.avps now refusal).said.established ≡ true
       → HasAsked s m.avps (judged (learned s m.avps) m.avps now refusal)
   judged_asks None q e = accepted_asks (λ type. waiting_if s.phase (message_type m.avps) type (passed s m.avps q).taken) e
   judged_asks (Some refusal) q e = absurd (false≢true e)

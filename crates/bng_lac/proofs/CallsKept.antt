@@ -3,7 +3,7 @@ use Rattle.std.proofs.Common.{◌≡◌, ℕ, Bool, true, false, cond, Option, N
 use Rattle.bng_l2tp_wire.specs.Avps.{L2tpAvp}
 use Rattle.bng_l2tp_wire.specs.Values.{message_type, assigned_session}
 use Rattle.bng_l2tp_wire.specs.Judge.{is_type}
-use Rattle.bng_l2tp_call.specs.declared.refusal.Refusal.{Refusal}
+use Rattle.bng_l2tp_call.specs.declared.refusal.CallRefusal.{CallRefusal}
 use Rattle.bng_l2tp_wire.specs.declared.message.TheConstants.{ICRP, CDN}
 use Rattle.bng_lac.specs.declared.call.LacCall.{LacCall}
 use Rattle.bng_lac.specs.Messages.{is_taken_by}
@@ -22,7 +22,7 @@ module _ (secret : Option (List ℕ)) (c : LacCall) (avps : List L2tpAvp) (a : L
   by_type false true e = absurd (none_some a e)
   by_type false false e = ap (λ (d : LacCall). d.session.0) (sym (some_same c a e))
 
-  by_refusal : (cause : Option Refusal) → (judged secret c avps cause).after ≡ Some a → a.session.0 ≡ c.session.0
+  by_refusal : (cause : Option CallRefusal) → (judged secret c avps cause).after ≡ Some a → a.session.0 ≡ c.session.0
   by_refusal None e = by_type (is_type (message_type avps) ICRP) (is_type (message_type avps) CDN) e
   by_refusal (Some cause) e = absurd (none_some a e)
 

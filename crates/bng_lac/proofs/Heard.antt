@@ -8,7 +8,7 @@ use Rattle.bng_l2tp_reliable.specs.Calls.{next_out, after_next}
 use Rattle.bng_l2tp_wire.specs.Avps.{L2tpAvp}
 use Rattle.bng_l2tp_wire.specs.Messages.{ControlMessage, control_text}
 use Rattle.bng_l2tp_tunnel.specs.declared.acknowledging.Acknowledging.TheVariants.{Never, ByAny, ByZlb}
-use Rattle.bng_l2tp_tunnel.specs.declared.refusal.Refusal.{Refusal}
+use Rattle.bng_l2tp_tunnel.specs.declared.refusal.TunnelRefusal.{TunnelRefusal}
 use Rattle.bng_l2tp_wire.specs.Values.{message_type, assigned_tunnel, assigned_session}
 use Rattle.bng_l2tp_wire.specs.Judge.{is_type}
 use Rattle.bng_l2tp_tunnel.specs.Outs.{datagram, let_out, after_out, flight_most, zlb, with_zlb, or_zlb}
@@ -16,7 +16,7 @@ use Rattle.bng_l2tp_tunnel.specs.Spelling.{stop_ccn, code_of}
 use Rattle.bng_l2tp_tunnel.specs.Sound.{IsAnswered}
 use Rattle.bng_l2tp_wire.specs.declared.message.TheConstants.{ICRP, SCCRP, STOP_CCN}
 use Rattle.bng_lac.specs.declared.call.LacCall.{LacCall}
-use Rattle.bng_lac.specs.declared.phase.Phase.TheVariants.{Established}
+use Rattle.bng_lac.specs.declared.phase.LacPhase.TheVariants.{Established}
 use Rattle.bng_lac.specs.LacState.{LacState, is_waiting, is_established}
 use Rattle.bng_lac.specs.Messages.{is_of_call}
 use Rattle.bng_lac.specs.Refusals.{refusal_of}
@@ -69,11 +69,11 @@ module _ (s : LacState) (avps : List L2tpAvp) (now : ℕ) where
       by false true = refl
       by false false = refl
 
-  judged_quiet : (refusal : Option Refusal) → (judged s avps now refusal).said.cleared ≡ false → IsQuiet s.calls (judged s avps now refusal)
+  judged_quiet : (refusal : Option TunnelRefusal) → (judged s avps now refusal).said.cleared ≡ false → IsQuiet s.calls (judged s avps now refusal)
   judged_quiet None e = accepted_quiet (message_type avps) e
   judged_quiet (Some refusal) e = absurd (false≢true (sym e))
 
-  judged_tells : (refusal : Option Refusal) → (judged s avps now refusal).said.opened ≡ false
+  judged_tells : (refusal : Option TunnelRefusal) → (judged s avps now refusal).said.opened ≡ false
   judged_tells None = accepted_tells (message_type avps)
   judged_tells (Some refusal) = refl
 
@@ -217,7 +217,7 @@ module _ (s : LacState) (avps : List L2tpAvp) (now : ℕ) where
       by false true = omega arith
       by false false = zlb_some s
 
-  judged_some : (refusal : Option Refusal) → 0 < length (judged s avps now refusal).said.outs
+  judged_some : (refusal : Option TunnelRefusal) → 0 < length (judged s avps now refusal).said.outs
   judged_some None = accepted_some (message_type avps)
   judged_some (Some refusal) = any_some (record s { channel = queue_text s.channel (control_text (stop_ccn s.number (code_of refusal))) now })
 
@@ -251,7 +251,7 @@ module _ (s : LacState) (m : ControlMessage) (now : ℕ) where
       by false true q e = absurd (false≢true e)
       by false false q e = absurd (false≢true e)
 
-  judged_authentic : (refusal : Option Refusal) → refusal_of s m.avps ≡ refusal → (judged (learned s m.avps) m.avps now refusal).said.established ≡ true → IsAnswerOf s m
+  judged_authentic : (refusal : Option TunnelRefusal) → refusal_of s m.avps ≡ refusal → (judged (learned s m.avps) m.avps now refusal).said.established ≡ true → IsAnswerOf s m
   judged_authentic None q e = accepted_authentic (learned s m.avps) (λ type. answers s m type (passed s m.avps q).authorized) e
   judged_authentic (Some refusal) q e = absurd (false≢true e)
 

@@ -5,7 +5,7 @@ use Rattle.std.proofs.lemmas.Bool.Decides.{nat_tests}
 use Rattle.bng_l2tp_wire.specs.Avps.{L2tpAvp}
 use Rattle.bng_l2tp_wire.specs.Values.{message_type}
 use Rattle.bng_l2tp_wire.specs.Judge.{is_type}
-use Rattle.bng_l2tp_call.specs.declared.refusal.Refusal.{Refusal}
+use Rattle.bng_l2tp_call.specs.declared.refusal.CallRefusal.{CallRefusal}
 use Rattle.bng_l2tp_wire.specs.declared.message.TheConstants.{ICRP, CDN}
 use Rattle.bng_lac.specs.declared.call.LacCall.{LacCall}
 use Rattle.bng_lac.specs.Messages.{is_taken_by}
@@ -121,7 +121,7 @@ module _ (secret : Option (List ℕ)) (c : LacCall) (avps : List L2tpAvp) where
   by_type false true is taken up = absurd (false≢true up)
   by_type false false is taken up = absurd (false≢true up)
 
-  by_refusal : (cause : Option Refusal) → is_taken_by c (message_type avps) ≡ true → (judged secret c avps cause).opened ≡ true → (c.peer ≡ None) × (message_type avps ≡ Some ICRP)
+  by_refusal : (cause : Option CallRefusal) → is_taken_by c (message_type avps) ≡ true → (judged secret c avps cause).opened ≡ true → (c.peer ≡ None) × (message_type avps ≡ Some ICRP)
   by_refusal None taken up = by_type (is_type (message_type avps) ICRP) (is_type (message_type avps) CDN) refl taken up
   by_refusal (Some cause) taken up = absurd (false≢true up)
 

@@ -6,8 +6,8 @@ use Rattle.byteorder.specs.Endian.{big_from}
 use Rattle.bng_l2tp_wire.specs.Avps.{L2tpAvp}
 use Rattle.bng_l2tp_wire.specs.Values.{message_type, value_of, number_in, has_unreadable, assigned_session}
 use Rattle.bng_l2tp_wire.specs.Judge.{is_type, is_wrong, has_unknown}
-use Rattle.bng_l2tp_call.specs.declared.refusal.Refusal.{Refusal}
-use Rattle.bng_l2tp_call.specs.declared.refusal.Refusal.TheVariants.{UnknownAvp, WrongAvp}
+use Rattle.bng_l2tp_call.specs.declared.refusal.CallRefusal.{CallRefusal}
+use Rattle.bng_l2tp_call.specs.declared.refusal.CallRefusal.TheVariants.{UnknownAvp, WrongAvp}
 use Rattle.bng_l2tp_wire.specs.declared.message.TheConstants.{ICRP, CDN}
 use Rattle.bng_l2tp_wire.specs.declared.kind.TheConstants.{ASSIGNED_SESSION_ID}
 use Rattle.bng_lac.specs.declared.call.LacCall.{LacCall}
@@ -103,7 +103,7 @@ module _ (secret : Option (List ℕ)) (c : LacCall) (avps : List L2tpAvp) where
   by_type w false true q = inr (inr (record { after = refl; opened = refl; ended = refl }))
   by_type w false false q = inl (record { after = refl; opened = refl; ended = refl })
 
-  by_refusal : (cause : Option Refusal) → call_refusal_of secret avps ≡ cause → Does secret c avps (judged secret c avps cause)
+  by_refusal : (cause : Option CallRefusal) → call_refusal_of secret avps ≡ cause → Does secret c avps (judged secret c avps cause)
   by_refusal None q = by_type (not_wrong secret avps q) (is_type (message_type avps) ICRP) (is_type (message_type avps) CDN) refl
   by_refusal (Some cause) q = inr (inr (record { after = refl; opened = refl; ended = refl }))
 

@@ -4,12 +4,12 @@ use Rattle.std.proofs.lemmas.Bool.{eqb-true, not-false, or_parts, false≢true}
 use Rattle.byteorder.specs.Endian.{big_from}
 use Rattle.bng_l2tp_wire.specs.Avps.{L2tpAvp}
 use Rattle.bng_l2tp_wire.specs.Messages.{ControlMessage}
-use Rattle.bng_l2tp_tunnel.specs.declared.refusal.Refusal.{Refusal}
+use Rattle.bng_l2tp_tunnel.specs.declared.refusal.TunnelRefusal.{TunnelRefusal}
 use Rattle.bng_l2tp_wire.specs.Values.{number_in, value_of, message_type, assigned_tunnel, has_unreadable}
 use Rattle.bng_l2tp_wire.specs.Judge.{is_type, is_wrong, has_unknown}
 use Rattle.bng_l2tp_tunnel.specs.Refusals.{has_other_version, is_asked_in_vain, has_answer}
-use Rattle.bng_lac.specs.declared.phase.Phase.{Phase}
-use Rattle.bng_lac.specs.declared.phase.Phase.TheVariants.{Idle, WaitReply, Established}
+use Rattle.bng_lac.specs.declared.phase.LacPhase.{LacPhase}
+use Rattle.bng_lac.specs.declared.phase.LacPhase.TheVariants.{Idle, WaitReply, Established}
 use Rattle.bng_l2tp_wire.specs.declared.message.TheConstants.{SCCRP}
 use Rattle.bng_l2tp_wire.specs.declared.kind.TheConstants.{PROTOCOL_VERSION, FRAMING_CAPABILITIES, HOST_NAME, ASSIGNED_TUNNEL_ID}
 use Rattle.bng_lac.specs.LacState.{LacState, is_waiting}
@@ -17,7 +17,7 @@ use Rattle.bng_lac.specs.Messages.{is_of_call, is_taken, lacks_needed}
 use Rattle.bng_lac.specs.Refusals.{has_wrong_avp, fails_challenge, refusal_of}
 use Rattle.bng_lac.specs.Sound.{IsAnswerOf}
 
-first_none : (b : Bool) (r : Refusal) (rest : Option Refusal) → cond b (Some r) rest ≡ None → (b ≡ false) × (rest ≡ None)
+first_none : (b : Bool) (r : TunnelRefusal) (rest : Option TunnelRefusal) → cond b (Some r) rest ≡ None → (b ≡ false) × (rest ≡ None)
 first_none true r rest e = absurd cc
 first_none false r rest e = (refl, e)
 
@@ -42,11 +42,11 @@ type_is None wanted e = absurd (false≢true e)
 type_is (Some type) wanted e = ap (λ (n : ℕ). Some n) (eqb-true type wanted e)
 
 -- an SCCRP is taken while the tunnel waits for one alone
-pub waiting_if : (p : Phase) (type : Option ℕ) → is_type type SCCRP ≡ true → is_taken p type ≡ true → is_waiting p ≡ true
+pub waiting_if : (p : LacPhase) (type : Option ℕ) → is_type type SCCRP ≡ true → is_taken p type ≡ true → is_waiting p ≡ true
 waiting_if p type e t =
     by_phase p (subst (λ (x : Option ℕ). is_taken p x ≡ true) (type_is type SCCRP e) t)
   where
-    by_phase : (q : Phase) → is_taken q (Some SCCRP) ≡ true → is_waiting q ≡ true
+    by_phase : (q : LacPhase) → is_taken q (Some SCCRP) ≡ true → is_waiting q ≡ true
     by_phase Idle t = absurd (false≢true t)
     by_phase WaitReply t = refl
     by_phase Established t = absurd (false≢true t)

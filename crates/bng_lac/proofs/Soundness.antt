@@ -18,7 +18,7 @@ use Rattle.bng_l2tp_wire.specs.Avps.{L2tpAvp}
 use Rattle.bng_l2tp_wire.specs.Messages.{ControlMessage, control_text}
 use Rattle.bng_l2tp_tunnel.specs.declared.acknowledging.Acknowledging.{Acknowledging}
 use Rattle.bng_l2tp_tunnel.specs.declared.acknowledging.Acknowledging.TheVariants.{Never, ByAny, ByZlb}
-use Rattle.bng_l2tp_tunnel.specs.declared.refusal.Refusal.{Refusal}
+use Rattle.bng_l2tp_tunnel.specs.declared.refusal.TunnelRefusal.{TunnelRefusal}
 use Rattle.bng_l2tp_wire.specs.Values.{value_of, message_type, assigned_tunnel, window_of, assigned_session}
 use Rattle.bng_l2tp_wire.specs.Judge.{is_type}
 use Rattle.bng_l2tp_tunnel.specs.Outs.{datagram, let_out, after_out, flight_most, zlb, with_zlb, or_zlb}
@@ -28,11 +28,11 @@ use Rattle.bng_l2tp_tunnel.specs.Steps.{is_zlb}
 use Rattle.bng_l2tp_tunnel.specs.Sound.{IsSpelled, AreSpelled, IsSentTo}
 use Rattle.bng_l2tp_tunnel.proofs.Texts.{AllByRecursion-append, AllByRecursion-drop, after_out-keeps, let_out_sent, flight_sent}
 use Rattle.bng_l2tp_tunnel.proofs.Flights.{after_out-window}
-use Rattle.bng_l2tp_call.specs.declared.refusal.Refusal.{Refusal as CallRefusal}
+use Rattle.bng_l2tp_call.specs.declared.refusal.CallRefusal.{CallRefusal as CallRefusal}
 use Rattle.bng_l2tp_wire.specs.declared.message.TheConstants.{ICRP, CDN, SCCRP, STOP_CCN}
 use Rattle.bng_l2tp_call.specs.Spelling.{cdn, administrative, code_of as call_code_of}
-use Rattle.bng_lac.specs.declared.phase.Phase.{Phase}
-use Rattle.bng_lac.specs.declared.phase.Phase.TheVariants.{Idle, WaitReply, Established}
+use Rattle.bng_lac.specs.declared.phase.LacPhase.{LacPhase}
+use Rattle.bng_lac.specs.declared.phase.LacPhase.TheVariants.{Idle, WaitReply, Established}
 use Rattle.bng_lac.specs.declared.call.LacCall.{LacCall}
 use Rattle.bng_lac.specs.declared.rules.LacRules.{LacRules}
 use Rattle.bng_l2tp_wire.specs.declared.kind.TheConstants.{CHALLENGE}
@@ -49,31 +49,31 @@ use Rattle.bng_lac.proofs.Passed.{passed, has_tunnel, waiting_if}
 
 -- Phases ---------------------------------------------------------------------------------------------------------------------------------
 
-not_both : (p : Phase) → is_waiting p ≡ true → is_established p ≡ true → ⊥
+not_both : (p : LacPhase) → is_waiting p ≡ true → is_established p ≡ true → ⊥
 not_both Idle w e = false≢true w
 not_both WaitReply w e = false≢true e
 not_both Established w e = false≢true w
 
-no_phase : (p : Phase) → is_used p ≡ true → is_used p ≡ false → ⊥
+no_phase : (p : LacPhase) → is_used p ≡ true → is_used p ≡ false → ⊥
 no_phase p e f = false≢true (sym f ∙ e)
 
-used_if_waiting : (p : Phase) → is_waiting p ≡ true → is_used p ≡ true
+used_if_waiting : (p : LacPhase) → is_waiting p ≡ true → is_used p ≡ true
 used_if_waiting Idle e = absurd (false≢true e)
 used_if_waiting WaitReply e = refl
 used_if_waiting Established e = refl
 
-used_if_established : (p : Phase) → is_established p ≡ true → is_used p ≡ true
+used_if_established : (p : LacPhase) → is_established p ≡ true → is_used p ≡ true
 used_if_established Idle e = absurd (false≢true e)
 used_if_established WaitReply e = refl
 used_if_established Established e = refl
 
 -- a step that does not change the phase tells of none
-stays : (p : Phase) → false ≡ (is_waiting p && is_established p)
+stays : (p : LacPhase) → false ≡ (is_waiting p && is_established p)
 stays Idle = refl
 stays WaitReply = refl
 stays Established = refl
 
-goes_on : (p : Phase) → is_used p ≡ true → false ≡ not (is_used p)
+goes_on : (p : LacPhase) → is_used p ≡ true → false ≡ not (is_used p)
 goes_on p e = sym (ap not e)
 
 and_false : (b : Bool) → false ≡ (b && false)
@@ -291,7 +291,7 @@ sound_from : (r s : LacState) (step : Step) → r.phase ≡ s.phase → lasting_
 sound_from r s step e l x = record {
   tunnel = x.tunnel;
   outs = x.outs;
-  established = x.established ∙ ap (λ (p : Phase). is_waiting p && is_established step.after.phase) e;
+  established = x.established ∙ ap (λ (p : LacPhase). is_waiting p && is_established step.after.phase) e;
   cleared = x.cleared;
   call = x.call;
   lasting = x.lasting ∙ l;
@@ -327,7 +327,7 @@ judged_sound s avps now t e =
     l : Learns s avps r
     l = learns s avps t
 
-    by : (refusal : Option Refusal) → refusal_of s avps ≡ refusal → IsSound r (judged r avps now refusal)
+    by : (refusal : Option TunnelRefusal) → refusal_of s avps ≡ refusal → IsSound r (judged r avps now refusal)
     by None q =
         let pass = passed s avps q in
         accepted_sound r (message_type avps) avps now l.tunnel (ap is_used l.phase ∙ e) (λ type.

@@ -8,13 +8,13 @@ use Rattle.bng_l2tp_reliable.specs.declared.answers.Heard.TheVariants.{Deliver, 
 use Rattle.bng_l2tp_wire.specs.Avps.{L2tpAvp}
 use Rattle.bng_l2tp_wire.specs.Messages.{ControlMessage}
 use Rattle.bng_l2tp_tunnel.specs.declared.acknowledging.Acknowledging.TheVariants.{ByZlb}
-use Rattle.bng_l2tp_tunnel.specs.declared.refusal.Refusal.{Refusal}
+use Rattle.bng_l2tp_tunnel.specs.declared.refusal.TunnelRefusal.{TunnelRefusal}
 use Rattle.bng_l2tp_wire.specs.Values.{message_type, assigned_tunnel}
 use Rattle.bng_l2tp_wire.specs.Judge.{is_type}
 use Rattle.bng_l2tp_tunnel.specs.Sound.{is_delivered}
 use Rattle.bng_lac.specs.declared.call.LacCall.{LacCall}
-use Rattle.bng_lac.specs.declared.phase.Phase.{Phase}
-use Rattle.bng_lac.specs.declared.phase.Phase.TheVariants.{Idle, WaitReply, Established}
+use Rattle.bng_lac.specs.declared.phase.LacPhase.{LacPhase}
+use Rattle.bng_lac.specs.declared.phase.LacPhase.TheVariants.{Idle, WaitReply, Established}
 use Rattle.bng_l2tp_wire.specs.declared.message.TheConstants.{SCCRP, STOP_CCN}
 use Rattle.bng_lac.specs.LacState.{LacState, is_used, is_waiting, is_established}
 use Rattle.bng_lac.specs.Messages.{is_of_call}
@@ -44,7 +44,7 @@ module _ (s : LacState) (session : ℕ) (t : IsLac s) where
   established_if c peer q f =
       by s.phase refl
     where
-      by : (p : Phase) → s.phase ≡ p → is_established p ≡ true
+      by : (p : LacPhase) → s.phase ≡ p → is_established p ≡ true
       by Idle e = absurd (none-some c (sym (ap (call_of session) (t.idle (ap is_used e))) ∙ q))
       by WaitReply e = absurd (none-some peer (sym (all_found IsDown session s.calls c (t.down (ap is_waiting e)) q) ∙ f))
       by Established e = refl
@@ -82,12 +82,12 @@ not_now : (b : Bool) (x y : Option ℕ) → y ≡ cond (b && false) x y
 not_now true x y = refl
 not_now false x y = refl
 
-not_waiting : (p : Phase) (x y : Option ℕ) → is_established p ≡ true → y ≡ cond (is_waiting p && true) x y
+not_waiting : (p : LacPhase) (x y : Option ℕ) → is_established p ≡ true → y ≡ cond (is_waiting p && true) x y
 not_waiting Idle x y e = refl
 not_waiting WaitReply x y e = absurd (false≢true e)
 not_waiting Established x y e = refl
 
-judged_number : (s : LacState) (avps : List L2tpAvp) (now : ℕ) (refusal : Option Refusal) → (judged s avps now refusal).after.peer_number ≡ s.peer_number
+judged_number : (s : LacState) (avps : List L2tpAvp) (now : ℕ) (refusal : Option TunnelRefusal) → (judged s avps now refusal).after.peer_number ≡ s.peer_number
 judged_number s avps now None =
     by (is_type (message_type avps) SCCRP) (is_type (message_type avps) STOP_CCN)
   where

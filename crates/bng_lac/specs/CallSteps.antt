@@ -4,7 +4,7 @@ use Rattle.bng_l2tp_wire.specs.Avps.{L2tpAvp}
 use Rattle.bng_l2tp_wire.specs.Messages.{control_text}
 use Rattle.bng_l2tp_wire.specs.Values.{message_type, assigned_session}
 use Rattle.bng_l2tp_wire.specs.Judge.{is_type}
-use Rattle.bng_l2tp_call.specs.declared.refusal.Refusal.{Refusal}
+use Rattle.bng_l2tp_call.specs.declared.refusal.CallRefusal.{CallRefusal}
 use Rattle.bng_l2tp_wire.specs.declared.message.TheConstants.{ICRP, CDN}
 use Rattle.bng_l2tp_call.specs.Spelling.{cdn, code_of}
 use Rattle.bng_lac.specs.declared.call.LacCall.{LacCall}
@@ -46,7 +46,7 @@ abbrev pub ends : CallStep
 ends = record { answer = None; after = None; opened = false; ended = true }
 
 -- a CDN that refuses the message, which ends the call
-abbrev pub refuses : Option (List ℕ) → LacCall → List L2tpAvp → Refusal → CallStep
+abbrev pub refuses : Option (List ℕ) → LacCall → List L2tpAvp → CallRefusal → CallStep
 refuses secret c avps cause = record {
   answer = Some (control_text (cdn (answered_session c.peer (assigned_session secret avps)) c.session.0 (code_of cause)));
   after = None;
@@ -61,7 +61,7 @@ accepted secret c type avps =
     else (if is_type type CDN then ends
     else passes c)
 
-abbrev pub judged : Option (List ℕ) → LacCall → List L2tpAvp → Option Refusal → CallStep
+abbrev pub judged : Option (List ℕ) → LacCall → List L2tpAvp → Option CallRefusal → CallStep
 judged secret c avps None = accepted secret c (message_type avps) avps
 judged secret c avps (Some cause) = refuses secret c avps cause
 

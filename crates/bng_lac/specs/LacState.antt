@@ -5,8 +5,8 @@ use Rattle.bng_base.specs.declared.address.Peer.{Peer}
 use Rattle.bng_l2tp_reliable.specs.ChannelState.{ChannelState, begun}
 use Rattle.bng_l2tp_wire.specs.Values.{default_window}
 use Rattle.bng_l2tp_wire.specs.View.{octets_of}
-use Rattle.bng_lac.specs.declared.phase.Phase.{Phase}
-use Rattle.bng_lac.specs.declared.phase.Phase.TheVariants.{Idle, WaitReply, Established}
+use Rattle.bng_lac.specs.declared.phase.LacPhase.{LacPhase}
+use Rattle.bng_lac.specs.declared.phase.LacPhase.TheVariants.{Idle, WaitReply, Established}
 use Rattle.bng_lac.specs.declared.call.LacCall.{LacCall}
 use Rattle.bng_lac.specs.declared.rules.LacRules.{LacRules}
 
@@ -19,7 +19,7 @@ pub record LacState : Type 0 where
   pub number : ℕ
   -- the network server
   pub lns : Peer
-  pub phase : Phase
+  pub phase : LacPhase
   -- the server's Assigned Tunnel ID
   pub peer_number : Option ℕ
   -- the Challenge that was sent, where there is a secret
@@ -46,17 +46,17 @@ unused rules = record {
 }
 
 -- the tunnel was opened, and was not cleared
-abbrev pub is_used : Phase → Bool
+abbrev pub is_used : LacPhase → Bool
 is_used Idle = false
 is_used WaitReply = true
 is_used Established = true
 
-abbrev pub is_waiting : Phase → Bool
+abbrev pub is_waiting : LacPhase → Bool
 is_waiting Idle = false
 is_waiting WaitReply = true
 is_waiting Established = false
 
-abbrev pub is_established : Phase → Bool
+abbrev pub is_established : LacPhase → Bool
 is_established Idle = false
 is_established WaitReply = false
 is_established Established = true

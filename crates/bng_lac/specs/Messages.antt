@@ -5,8 +5,8 @@ use Rattle.bng_l2tp_wire.specs.Avps.{L2tpAvp}
 use Rattle.bng_l2tp_wire.specs.Judge.{is_type, lacks_one_of}
 use Rattle.bng_l2tp_wire.specs.declared.message.TheConstants.{ICRP, CDN, WEN, SLI, SCCRP, STOP_CCN, HELLO}
 use Rattle.bng_l2tp_wire.specs.declared.kind.TheConstants.{RESULT_CODE, ASSIGNED_SESSION_ID, PROTOCOL_VERSION, FRAMING_CAPABILITIES, HOST_NAME, ASSIGNED_TUNNEL_ID}
-use Rattle.bng_lac.specs.declared.phase.Phase.{Phase}
-use Rattle.bng_lac.specs.declared.phase.Phase.TheVariants.{Idle, WaitReply, Established}
+use Rattle.bng_lac.specs.declared.phase.LacPhase.{LacPhase}
+use Rattle.bng_lac.specs.declared.phase.LacPhase.TheVariants.{Idle, WaitReply, Established}
 use Rattle.bng_lac.specs.declared.call.LacCall.{LacCall}
 
 -- the messages of a call that come from a network server (section 3.2), and WEN, which it has no cause to send (section 6.13)
@@ -16,22 +16,22 @@ is_of_call type = list_any (is_type type) (ICRP ∷ CDN ∷ WEN ∷ SLI ∷ [])
 -- a message of a tunnel: in which phases of the tunnel it is taken
 pub record Row : Type 0 where
   pub type : ℕ
-  pub taken : List Phase
+  pub taken : List LacPhase
 
-abbrev pub row : ℕ → List Phase → Row
+abbrev pub row : ℕ → List LacPhase → Row
 row type taken = record { type = type; taken = taken }
 
 abbrev pub rows : List Row
 rows = row SCCRP (WaitReply ∷ []) ∷ row STOP_CCN (WaitReply ∷ Established ∷ []) ∷ row HELLO (Established ∷ []) ∷ []
 
-abbrev pub same_phase : Phase → Phase → Bool
+abbrev pub same_phase : LacPhase → LacPhase → Bool
 same_phase Idle Idle = true
 same_phase WaitReply WaitReply = true
 same_phase Established Established = true
 same_phase _ _ = false
 
 -- a message that the tunnel takes in this phase
-abbrev pub is_taken : Phase → Option ℕ → Bool
+abbrev pub is_taken : LacPhase → Option ℕ → Bool
 is_taken phase type = list_any (λ r. is_type type r.type && list_any (same_phase phase) r.taken) rows
 
 -- A call takes an ICRP where it waits for one, and the others always.

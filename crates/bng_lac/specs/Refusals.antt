@@ -1,13 +1,13 @@
 -- Why a message is refused, by RFC 2661 sections 4.4.2, 5.1.1 and 7.2.1: lists of cases, of which the first that holds counts.
 use Rattle.std.specs.Prelude.{ℕ, Bool, ◌&&◌, ◌||◌, not, if◌then◌else◌, List, [], ◌∷◌, Option, Some, None}
 use Rattle.bng_l2tp_wire.specs.Avps.{L2tpAvp}
-use Rattle.bng_l2tp_tunnel.specs.declared.refusal.Refusal.{Refusal}
-use Rattle.bng_l2tp_tunnel.specs.declared.refusal.Refusal.TheVariants.{WrongVersion, UnknownAvp, WrongAvp, NotAuthorized, Unexpected}
+use Rattle.bng_l2tp_tunnel.specs.declared.refusal.TunnelRefusal.{TunnelRefusal}
+use Rattle.bng_l2tp_tunnel.specs.declared.refusal.TunnelRefusal.TheVariants.{WrongVersion, UnknownAvp, WrongAvp, NotAuthorized, Unexpected}
 use Rattle.bng_l2tp_wire.specs.Values.{message_type, has_unreadable}
 use Rattle.bng_l2tp_wire.specs.Judge.{is_type, has_unknown, Case, if_so, first_of}
 use Rattle.bng_l2tp_tunnel.specs.Refusals.{has_other_version, has_answer, is_asked_in_vain}
-use Rattle.bng_l2tp_call.specs.declared.refusal.Refusal.{Refusal as CallRefusal}
-use Rattle.bng_l2tp_call.specs.declared.refusal.Refusal.TheVariants.{UnknownAvp as UnknownAvpOfCall, WrongAvp as WrongAvpOfCall}
+use Rattle.bng_l2tp_call.specs.declared.refusal.CallRefusal.{CallRefusal as CallRefusal}
+use Rattle.bng_l2tp_call.specs.declared.refusal.CallRefusal.TheVariants.{UnknownAvp as UnknownAvpOfCall, WrongAvp as WrongAvpOfCall}
 use Rattle.bng_l2tp_wire.specs.declared.message.TheConstants.{SCCRP}
 use Rattle.bng_lac.specs.LacState.{LacState}
 use Rattle.bng_lac.specs.Messages.{is_of_call, is_taken, lacks_needed}
@@ -22,7 +22,7 @@ fails_challenge secret challenge type avps =
     is_type type SCCRP && (is_asked_in_vain secret avps || not (has_answer SCCRP secret challenge avps))
 
 -- The cases of a message of this type with these AVPs. What a call's message says is looked at by its call alone.
-abbrev pub cases : LacState → Option ℕ → List L2tpAvp → List (Case Refusal)
+abbrev pub cases : LacState → Option ℕ → List L2tpAvp → List (Case TunnelRefusal)
 cases s type avps =
     if_so (not (is_of_call type) && has_other_version s.secret avps) WrongVersion
     ∷ if_so (not (is_of_call type) && has_unknown avps) UnknownAvp
@@ -32,7 +32,7 @@ cases s type avps =
     ∷ []
 
 -- why the tunnel refuses the message, where it does
-unfoldable pub refusal_of : LacState → List L2tpAvp → Option Refusal
+unfoldable pub refusal_of : LacState → List L2tpAvp → Option TunnelRefusal
 refusal_of s avps = first_of (cases s (message_type avps) avps)
 
 -- why a call that takes the message refuses it, where it does

@@ -12,7 +12,7 @@ use Rattle.bng_l2tp_reliable.specs.Calls.{queued, is_full, heard_of, received, n
 use Rattle.bng_l2tp_reliable.specs.Timers.{due_of, after_due}
 use Rattle.bng_l2tp_wire.specs.Avps.{L2tpAvp}
 use Rattle.bng_l2tp_wire.specs.Messages.{ControlMessage, control_text}
-use Rattle.bng_l2tp_tunnel.specs.declared.refusal.Refusal.{Refusal}
+use Rattle.bng_l2tp_tunnel.specs.declared.refusal.TunnelRefusal.{TunnelRefusal}
 use Rattle.bng_l2tp_tunnel.specs.declared.acknowledging.Acknowledging.{Acknowledging}
 use Rattle.bng_l2tp_tunnel.specs.declared.acknowledging.Acknowledging.TheVariants.{Never, ByAny, ByZlb}
 use Rattle.bng_l2tp_wire.specs.Values.{default_window, value_of, message_type, assigned_tunnel, window_of}
@@ -25,7 +25,7 @@ use Rattle.bng_l2tp_call.specs.Spelling.{cdn, administrative}
 use Rattle.bng_lac.specs.declared.called.Called.{Called}
 use Rattle.bng_lac.specs.declared.called.Called.TheVariants.{Asked, Full}
 use Rattle.bng_lac.specs.declared.call.LacCall.{LacCall}
-use Rattle.bng_lac.specs.declared.phase.Phase.TheVariants.{Idle, WaitReply, Established}
+use Rattle.bng_lac.specs.declared.phase.LacPhase.TheVariants.{Idle, WaitReply, Established}
 use Rattle.bng_l2tp_wire.specs.declared.message.TheConstants.{SCCRP, STOP_CCN}
 use Rattle.bng_l2tp_wire.specs.declared.kind.TheConstants.{CHALLENGE}
 use Rattle.bng_lac.specs.LacState.{LacState, is_waiting, is_established}
@@ -142,7 +142,7 @@ accepted s type avps now =
     else (if is_type type STOP_CCN then ended s
     else flushed ByZlb s)
 
-abbrev pub judged : LacState → List L2tpAvp → ℕ → Option Refusal → Step
+abbrev pub judged : LacState → List L2tpAvp → ℕ → Option TunnelRefusal → Step
 judged s avps now None = accepted s (message_type avps) avps now
 judged s avps now (Some refusal) = clears (answered ByAny s (stop_ccn s.number (code_of refusal)) now)
 

@@ -9,15 +9,15 @@ ghost use Rattle.bng_lac.specs.Steps.{asks_each, connecting, answered, clears, c
 
 use crate::call::LacCall;
 use crate::judge::{fails_challenge, has_wrong_avp, is_for_call, is_of_call, is_taken};
-use crate::phase::Phase;
-use crate::sending::{Asked, ask_each};
+use crate::phase::LacPhase;
+use crate::sending::{SentCalls, ask_each};
 use crate::spelling::scccn;
-use crate::told::tell;
+use crate::outcome::tell;
 use crate::tunnel::LacTunnel;
 use arrayvec::ArrayVec;
 use bng_base::TunnelStep;
 use bng_l2tp_reliable::{Channel, Heard, Queued};
-use bng_l2tp_tunnel::{Acknowledging, Refusal, code_of, has_other_version, is_zlb, stop_ccn, zlb};
+use bng_l2tp_tunnel::{Acknowledging, TunnelRefusal, code_of, has_other_version, is_zlb, stop_ccn, zlb};
 use bng_l2tp_wire::judge::has_unknown;
 use bng_l2tp_wire::kind::{ASSIGNED_TUNNEL_ID, CHALLENGE};
 use bng_l2tp_wire::message::{SCCRP, STOP_CCN};
@@ -32,14 +32,14 @@ fn connect(
     secret: &Option<ArrayVec<u8, 64>>,
     avps: &[Avp<'_>],
     now: u64,
-) -> Asked
+) -> SentCalls
     ensures { asking_of channel.new result ≡ connecting channel.old (octets_of secret.now) serial (avps_of avps.now) now }
 {
     let answer = scccn(secret, &value_of(avps, secret, CHALLENGE));
     channel.set_window(window_of(avps, secret));
     let queued = channel.send(answer.payload(), now);
     let full = queued == Queued::WindowQueueFull;
-    Asked {
+    SentCalls {
         serial,
         left_out: full,
     }
@@ -53,7 +53,7 @@ fn connect_calls(
     secret: &Option<ArrayVec<u8, 64>>,
     avps: &[Avp<'_>],
     now: u64,
-) -> Asked
+) -> SentCalls
     ensures channel { channel.new ≡ (asks_each (connecting channel.old (octets_of secret.now) serial (avps_of avps.now) now) calls.now now).channel }
     ensures serial { result.serial ≡ (asks_each (connecting channel.old (octets_of secret.now) serial (avps_of avps.now) now) calls.now now).serial }
     ensures left_out { result.left_out ≡ (asks_each (connecting channel.old (octets_of secret.now) serial (avps_of avps.now) now) calls.now now).left_out }
@@ -65,26 +65,26 @@ fn connect_calls(
 impl LacTunnel {
     // Why a message is refused, where it is.
     #[tactic(auto, unfolding(crate::specs::Refusals::refusal_of))]
-    fn refusal(&self, avps: &[Avp<'_>]) -> Option<Refusal>
+    fn refusal(&self, avps: &[Avp<'_>]) -> Option<TunnelRefusal>
         ensures { result ≡ refusal_of self.now (avps_of avps.now) }
     {
         let found = type_in(avps);
         let secret = &self.rules.secret;
         let others = !is_of_call(found);
         if others && has_other_version(avps, secret) {
-            return Some(Refusal::WrongVersion);
+            return Some(TunnelRefusal::WrongVersion);
         }
         if others && has_unknown(avps) {
-            return Some(Refusal::UnknownAvp);
+            return Some(TunnelRefusal::UnknownAvp);
         }
         if others && has_wrong_avp(avps, secret, found) {
-            return Some(Refusal::WrongAvp);
+            return Some(TunnelRefusal::WrongAvp);
         }
         if fails_challenge(avps, secret, &self.challenge, found) {
-            return Some(Refusal::NotAuthorized);
+            return Some(TunnelRefusal::NotAuthorized);
         }
         if !is_taken(self.phase, found) {
-            return Some(Refusal::Unexpected);
+            return Some(TunnelRefusal::Unexpected);
         }
         None
     }
@@ -140,10 +140,10 @@ impl LacTunnel {
         ensures { self.new ≡ learned self.old (avps_of avps.now) }
     {
         match self.phase {
-            Phase::WaitReply => {
+            LacPhase::WaitReply => {
                 self.peer_number = number_at(avps, &self.rules.secret, ASSIGNED_TUNNEL_ID);
             }
-            Phase::Idle | Phase::Established => {}
+            LacPhase::Idle | LacPhase::Established => {}
         }
     }
 
@@ -151,12 +151,12 @@ impl LacTunnel {
     pub(crate) fn forget(&mut self)
         ensures { self.new ≡ cleared_of self.old }
     {
-        self.phase = Phase::Idle;
+        self.phase = LacPhase::Idle;
         self.calls.clear();
     }
 
     // Refuses a message, which clears the tunnel.
-    fn refuse(&mut self, refusal: Refusal, now: u64) -> TunnelStep
+    fn refuse(&mut self, refusal: TunnelRefusal, now: u64) -> TunnelStep
         ensures said { said result ≡ (clears (answered Acknowledging.ByAny self.old (stop_ccn_of self.old.number (code_of_refusal refusal)) now)).said }
         ensures after { self.new ≡ (clears (answered Acknowledging.ByAny self.old (stop_ccn_of self.old.number (code_of_refusal refusal)) now)).after }
     {
@@ -187,7 +187,7 @@ impl LacTunnel {
         let calls = self.calls.as_slice();
         let asked = connect_calls(&mut self.channel, calls, self.serial, secret, avps, now);
         self.serial = asked.serial;
-        self.phase = Phase::Established;
+        self.phase = LacPhase::Established;
         let mut step = self.flush(Acknowledging::ByAny);
         step.established = true;
         step.left_out = asked.left_out;

@@ -6,9 +6,9 @@ ghost use Rattle.bng_lac.specs.Messages.{is_of_call as belongs_to_call, is_taken
 ghost use Rattle.bng_lac.specs.Refusals.{has_wrong_avp as has_wrong_one, fails_challenge as fails, call_refusal_of};
 
 use crate::call::LacCall;
-use crate::phase::Phase;
+use crate::phase::LacPhase;
 use arrayvec::ArrayVec;
-use bng_l2tp_call::Refusal;
+use bng_l2tp_call::CallRefusal;
 use bng_l2tp_tunnel::{has_answer, is_asked_in_vain};
 use bng_l2tp_wire::Avp;
 use bng_l2tp_wire::judge::{has_unknown, is_type, is_wrong};
@@ -28,23 +28,23 @@ pub(crate) fn is_of_call(found: Option<u16>) -> bool
 }
 
 /// Whether a message is for a call of an established tunnel.
-pub(crate) fn is_for_call(phase: Phase, found: Option<u16>) -> bool
+pub(crate) fn is_for_call(phase: LacPhase, found: Option<u16>) -> bool
     ensures { result ≡ (is_established phase && belongs_to_call found) }
 {
     match phase {
-        Phase::Established => is_of_call(found),
-        Phase::Idle | Phase::WaitReply => false,
+        LacPhase::Established => is_of_call(found),
+        LacPhase::Idle | LacPhase::WaitReply => false,
     }
 }
 
 /// Whether a tunnel takes a message of this type in this phase (RFC 2661 section 7.2).
-pub(crate) fn is_taken(phase: Phase, found: Option<u16>) -> bool
+pub(crate) fn is_taken(phase: LacPhase, found: Option<u16>) -> bool
     ensures { result ≡ is_taken_in phase found }
 {
     match phase {
-        Phase::Idle => false,
-        Phase::WaitReply => is_type(found, SCCRP) || is_type(found, STOP_CCN),
-        Phase::Established => is_type(found, STOP_CCN) || is_type(found, HELLO),
+        LacPhase::Idle => false,
+        LacPhase::WaitReply => is_type(found, SCCRP) || is_type(found, STOP_CCN),
+        LacPhase::Established => is_type(found, STOP_CCN) || is_type(found, HELLO),
     }
 }
 
@@ -107,14 +107,14 @@ pub(crate) fn fails_challenge(
 
 /// Why a call that takes a message refuses it, where it does.
 #[tactic(auto, unfolding(crate::specs::Refusals::call_refusal_of))]
-pub(crate) fn call_refusal(avps: &[Avp<'_>], secret: &Option<ArrayVec<u8, 64>>) -> Option<Refusal>
+pub(crate) fn call_refusal(avps: &[Avp<'_>], secret: &Option<ArrayVec<u8, 64>>) -> Option<CallRefusal>
     ensures { result ≡ call_refusal_of (octets_of secret.now) (avps_of avps.now) }
 {
     if has_unknown(avps) {
-        return Some(Refusal::UnknownAvp);
+        return Some(CallRefusal::UnknownAvp);
     }
     if has_wrong_avp(avps, secret, type_in(avps)) {
-        return Some(Refusal::WrongAvp);
+        return Some(CallRefusal::WrongAvp);
     }
     None
 }

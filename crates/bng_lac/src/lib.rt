@@ -21,7 +21,7 @@ mod phase;
 mod rules;
 mod sending;
 mod spelling;
-mod told;
+mod outcome;
 mod tunnel;
 
 pub use crate::call::LacCall;

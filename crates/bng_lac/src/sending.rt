@@ -39,26 +39,26 @@ fn push_zlb_alone(outs: &mut Outs, channel: &Channel, tunnel: u16)
 
 /// The serial number after those of the ICRQs that were handed to a channel, and whether one was left out.
 #[derive(Clone, Copy)]
-pub(crate) struct Asked {
+pub(crate) struct SentCalls {
     pub(crate) serial: u32,
     pub(crate) left_out: bool,
 }
 
 // Hands an ICRQ for a call to the channel.
-fn ask_one(channel: &mut Channel, call: LacCall, before: Asked, now: u64) -> Asked
+fn ask_one(channel: &mut Channel, call: LacCall, before: SentCalls, now: u64) -> SentCalls
     ensures { asking_of channel.new result ≡ asks (asking_of channel.old before) call now }
 {
     let request = icrq(call.session.0, before.serial);
     let queued = channel.send(request.payload(), now);
     let full = queued == Queued::WindowQueueFull;
-    Asked {
+    SentCalls {
         serial: before.serial.wrapping_add(1),
         left_out: before.left_out | full,
     }
 }
 
 /// Hands an ICRQ for each of these calls to the channel, in their order.
-pub(crate) fn ask_each(channel: &mut Channel, calls: &[LacCall], before: Asked, now: u64) -> Asked
+pub(crate) fn ask_each(channel: &mut Channel, calls: &[LacCall], before: SentCalls, now: u64) -> SentCalls
     ensures { asking_of channel.new result ≡ asks_each (asking_of channel.old before) calls.now now }
 {
     let mut asked = before;

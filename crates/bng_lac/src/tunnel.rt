@@ -12,7 +12,7 @@ use crate::call::LacCall;
 use crate::called::Called;
 use crate::calls::Calls;
 use crate::error::LacError;
-use crate::phase::Phase;
+use crate::phase::LacPhase;
 use crate::rules::LacRules;
 use crate::spelling::{icrq, sccrq};
 use bng_base::{NOBODY, Peer, SessionNo, TunnelNo, TunnelStep};
@@ -43,7 +43,7 @@ pub struct LacTunnel {
     pub(crate) rules: LacRules,
     pub(crate) number: TunnelNo,
     pub(crate) lns: Peer,
-    pub(crate) phase: Phase,
+    pub(crate) phase: LacPhase,
     pub(crate) peer_number: Option<u16>,
     pub(crate) challenge: [u8; 16],
     pub(crate) channel: Channel,
@@ -88,7 +88,7 @@ impl LacTunnel {
             },
             number: TunnelNo(0),
             lns: NOBODY,
-            phase: Phase::Idle,
+            phase: LacPhase::Idle,
             peer_number: None,
             challenge: [0; 16],
             channel: Channel::new(DEFAULT_WINDOW, 0),
@@ -111,7 +111,7 @@ impl LacTunnel {
         );
         self.number = number;
         self.lns = lns;
-        self.phase = Phase::WaitReply;
+        self.phase = LacPhase::WaitReply;
         self.peer_number = None;
         self.challenge = *random;
         self.channel = Channel::new(DEFAULT_WINDOW, now);
@@ -229,8 +229,8 @@ impl LacTunnel {
         ensures { result ≡ is_in_use self.now.phase }
     {
         match self.phase {
-            Phase::WaitReply | Phase::Established => true,
-            Phase::Idle => false,
+            LacPhase::WaitReply | LacPhase::Established => true,
+            LacPhase::Idle => false,
         }
     }
 
@@ -269,8 +269,8 @@ impl LacTunnel {
         ensures full { IsTrue result ↔ (((is_wait_reply self.now.phase ≡ true) × (63 ≤ length self.now.calls)) ⊎ (length (waiting self.now.channel) ≡ 64)) }
     {
         let many = match self.phase {
-            Phase::WaitReply => self.calls.as_slice().len() >= WAITING_FOR_TUNNEL_MOST,
-            Phase::Idle | Phase::Established => false,
+            LacPhase::WaitReply => self.calls.as_slice().len() >= WAITING_FOR_TUNNEL_MOST,
+            LacPhase::Idle | LacPhase::Established => false,
         };
         many || self.channel.is_full()
     }
@@ -281,8 +281,8 @@ impl LacTunnel {
         ensures { self.new ≡ with_new_call self.old session now }
     {
         match self.phase {
-            Phase::Established => self.ask(session.0, now),
-            Phase::Idle | Phase::WaitReply => {}
+            LacPhase::Established => self.ask(session.0, now),
+            LacPhase::Idle | LacPhase::WaitReply => {}
         }
         self.calls.put(LacCall {
             session,
@@ -304,11 +304,11 @@ impl LacTunnel {
         ensures { self.new ≡ record self.old { channel = parting self.old call now } }
     {
         match self.phase {
-            Phase::Established => {
+            LacPhase::Established => {
                 let message = cdn(call.peer.unwrap_or(0), call.session.0, administrative());
                 let _ = self.channel.send(message.payload(), now);
             }
-            Phase::Idle | Phase::WaitReply => {}
+            LacPhase::Idle | LacPhase::WaitReply => {}
         }
     }
 

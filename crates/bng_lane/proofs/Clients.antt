@@ -10,7 +10,7 @@ use Rattle.bng_radius_wire.specs.Grammar.{Packet, IsRadius, length_in}
 use Rattle.bng_radius_wire.specs.Digests.{filled, CanBeSigned}
 use Rattle.bng_rad_client.specs.declared.due.Sought.TheVariants.{Timeout, Endless}
 use Rattle.bng_rad_client.specs.declared.pending.Pending.{Pending}
-use Rattle.bng_rad_client.specs.declared.replies.Ignored.{Ignored as Cause}
+use Rattle.bng_rad_client.specs.declared.replies.IgnoredReply.{IgnoredReply as Cause}
 use Rattle.bng_rad_client.specs.declared.replies.Replied.TheVariants.{Matched, Ignored}
 use Rattle.bng_rad_client.specs.declared.rules.Lane.{Lane}
 use Rattle.bng_rad_client.specs.declared.rules.Lane.TheVariants.{Auth, Acct}

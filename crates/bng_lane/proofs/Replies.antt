@@ -10,8 +10,8 @@ use Rattle.bng_rad_client.specs.declared.pending.Pending.{Pending}
 use Rattle.bng_rad_client.specs.declared.rules.Lane.TheVariants.{Auth}
 use Rattle.bng_rad_client.specs.declared.rules.Owner.{Owner}
 use Rattle.bng_rad_client.specs.declared.rules.Owner.TheVariants.{Ask, Record}
-use Rattle.bng_rad_client.specs.declared.replies.Ignored.{Ignored as Cause}
-use Rattle.bng_rad_client.specs.declared.replies.Ignored.TheVariants.{Stranger, Malformed, NotPending, WrongDigest}
+use Rattle.bng_rad_client.specs.declared.replies.IgnoredReply.{IgnoredReply as Cause}
+use Rattle.bng_rad_client.specs.declared.replies.IgnoredReply.TheVariants.{Stranger, Malformed, NotPending, WrongDigest}
 use Rattle.bng_rad_client.specs.declared.replies.Replied.TheVariants.{Matched, Ignored}
 use Rattle.bng_rad_client.specs.Replies.{Answers, authenticator_of}
 use Rattle.bng_rad_client.specs.Table.{request_of}

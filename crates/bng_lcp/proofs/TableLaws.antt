@@ -5,7 +5,7 @@ use Rattle.std.proofs.lemmas.Bool.Decides.{nat_tests}
 use Rattle.byteorder.specs.Endian.{big_number}
 use Rattle.bng_base.specs.PppGrammar.{PppOption}
 use Rattle.bng_ppp_wire.specs.declared.option_table.Good.{Good}
-use Rattle.bng_ppp_wire.specs.declared.option_table.Row.{Row}
+use Rattle.bng_ppp_wire.specs.declared.option_table.OptionRow.{OptionRow}
 use Rattle.bng_ppp_wire.specs.declared.judgement.Class.TheVariants.{Ack}
 use Rattle.bng_ppp_wire.specs.OptionTable.{is_good}
 use Rattle.bng_ppp_wire.specs.Judgement.{class_at, class_by, not_good, added}
@@ -37,7 +37,7 @@ at_length : (n : Bool) (good : Good) (m : ℕ) (b : Bool) → b ≡ true → cla
 at_length n good m true is e = good_at n good m e
 at_length n good m false is e = absurd cc
 
-at_kind : (n : Bool) (value : List ℕ) (row : Row) (other : Option Row) (b : Bool) → b ≡ true → class_by n value (if b then Some row else other) ≡ Ack → class_by n value (Some row) ≡ Ack
+at_kind : (n : Bool) (value : List ℕ) (row : OptionRow) (other : Option OptionRow) (b : Bool) → b ≡ true → class_by n value (if b then Some row else other) ≡ Ack → class_by n value (Some row) ≡ Ack
 at_kind n value row other true is e = e
 at_kind n value row other false is e = absurd cc
 

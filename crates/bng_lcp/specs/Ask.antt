@@ -2,7 +2,7 @@
 use Rattle.std.specs.Prelude.{ℕ, List, Option}
 use Rattle.bng_base.specs.declared.settings.AuthKind.{AuthKind}
 use Rattle.bng_lcp.specs.declared.configure_request.LcpOptions.{LcpOptions}
-use Rattle.bng_lcp.specs.declared.configure_request.SentRequest.{SentRequest}
+use Rattle.bng_lcp.specs.declared.configure_request.SentLcpRequest.{SentLcpRequest}
 
 pub record Ask : Type 0 where
   -- the largest MRU that is taken
@@ -12,4 +12,4 @@ pub record Ask : Type 0 where
   -- what the next Configure-Request asks for
   pub wanted : LcpOptions
   -- the last Configure-Request that was sent
-  pub sent : Option SentRequest
+  pub sent : Option SentLcpRequest

@@ -11,7 +11,7 @@ use Rattle.bng_ppp_wire.specs.ConfigureReply as reply
 use Rattle.bng_ppp_wire.specs.ConfigureReply.{Request}
 use Rattle.bng_lcp.specs.Options.{maximum_receive_unit, authentication_protocol, magic_number, chap_with_md5}
 use Rattle.bng_lcp.specs.declared.configure_request.LcpOptions.{LcpOptions}
-use Rattle.bng_lcp.specs.declared.configure_request.SentRequest.{SentRequest}
+use Rattle.bng_lcp.specs.declared.configure_request.SentLcpRequest.{SentLcpRequest}
 use Rattle.bng_lcp.specs.declared.configure_reply.Taken.{Taken}
 use Rattle.bng_lcp.specs.declared.configure_reply.Taken.TheVariants.{Accepted, Changed, Ignored, Unwilling}
 use Rattle.bng_lcp.specs.Judgement.{is_mru, is_magic, is_mru_within, magic_from}
@@ -19,7 +19,7 @@ use Rattle.bng_lcp.specs.ConfigureRequest.{asked}
 use Rattle.bng_lcp.specs.Ask.{Ask}
 
 -- the last Configure-Request that was sent, with its options as it lists them
-abbrev pub request_of : SentRequest → Request
+abbrev pub request_of : SentLcpRequest → Request
 request_of s = record { id = s.id; options = asked s.options }
 
 abbrev pub last_of : Ask → Option Request

@@ -4,7 +4,7 @@ use Rattle.std.specs.Prelude.{ℕ, Bool, false, ◌&&◌, ◌==◌, List, [], �
 use Rattle.bng_base.specs.PppGrammar.{PppOption}
 use Rattle.bng_ppp_wire.specs.declared.option_table.Width.TheVariants.{Two, Four}
 use Rattle.bng_ppp_wire.specs.declared.option_table.Good.TheVariants.{Within, Neither}
-use Rattle.bng_ppp_wire.specs.declared.option_table.Row.{Row}
+use Rattle.bng_ppp_wire.specs.declared.option_table.OptionRow.{OptionRow}
 use Rattle.bng_ppp_wire.specs.declared.judgement.Class.{Class}
 use Rattle.bng_ppp_wire.specs.declared.judgement.Judged.{Judged}
 use Rattle.bng_ppp_wire.specs.OptionTable.{is_within}
@@ -29,7 +29,7 @@ abbrev pub magic_from : ℕ → ℕ
 magic_from n = if n == 0 then 1 else n
 
 -- Maximum-Receive-Unit: 128 to the limit, which is suggested
-abbrev pub mru_row : ℕ → Row
+abbrev pub mru_row : ℕ → OptionRow
 mru_row limit = record {
   kind = maximum_receive_unit;
   width = Two;
@@ -39,7 +39,7 @@ mru_row limit = record {
 }
 
 -- Magic-Number: it is never 0, and two ends have different ones
-abbrev pub magic_row : ℕ → ℕ → Row
+abbrev pub magic_row : ℕ → ℕ → OptionRow
 magic_row own fresh = record {
   kind = magic_number;
   width = Four;
@@ -48,7 +48,7 @@ magic_row own fresh = record {
   must_be_named = false;
 }
 
-abbrev pub rows_of : LcpRules → List Row
+abbrev pub rows_of : LcpRules → List OptionRow
 rows_of r = mru_row r.limit ∷ magic_row r.own_magic r.fresh_magic ∷ []
 
 abbrev pub class_of : LcpRules → PppOption → Class

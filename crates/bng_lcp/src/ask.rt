@@ -5,14 +5,14 @@ ghost use Rattle.bng_ppp_wire.specs.View.{option_of, options_of, packet_of};
 
 use crate::authentication_protocol::auth_after;
 use crate::configure_reply::{Taken, left_out};
-use crate::configure_request::{LcpOptions, SentRequest, asked};
+use crate::configure_request::{LcpOptions, SentLcpRequest, asked};
 use crate::magic_number::magic_from;
 use crate::maximum_receive_unit::is_mru_within;
 use crate::option::{AUTHENTICATION_PROTOCOL, MAGIC_NUMBER, MAXIMUM_RECEIVE_UNIT};
 use arrayvec::ArrayVec;
 use bng_base::{AuthKind, Frame, HEADROOM};
 use bng_ppp_wire::code::CONFIGURE_REQUEST;
-use bng_ppp_wire::{Opt, Packet, Reply, names, put_made, read_reply};
+use bng_ppp_wire::{Opt, Packet, ConfigureReply, names, put_made, read_reply};
 use std::marker::Model;
 
 /// The gateway's side of LCP on one link: what its next Configure-Request asks for, and the last one that it sent.
@@ -21,7 +21,7 @@ pub struct LcpAsk {
     limit: u16,
     allowed: ArrayVec<AuthKind, 2>,
     wanted: LcpOptions,
-    sent: Option<SentRequest>,
+    sent: Option<SentLcpRequest>,
 }
 
 impl Model for LcpAsk {
@@ -88,7 +88,7 @@ impl LcpAsk {
             body: body.payload(),
         };
         let _done = request.write(into);
-        self.sent = Some(SentRequest {
+        self.sent = Some(SentLcpRequest {
             id,
             options: wanted,
         });
@@ -109,20 +109,20 @@ impl LcpAsk {
         };
         let asked = asked(&sent.options);
         match read_reply(sent.id, asked.as_slice(), reply) {
-            Reply::Ack => Taken::Accepted,
-            Reply::Nak(suggested) => {
+            ConfigureReply::Ack => Taken::Accepted,
+            ConfigureReply::Nak(suggested) => {
                 let fresh = u32::from_be_bytes([random[0], random[1], random[2], random[3]]);
                 self.wanted = self.after_nak(suggested.as_slice(), magic_from(fresh));
                 Taken::Changed
             }
-            Reply::Reject(rejected) => {
+            ConfigureReply::Reject(rejected) => {
                 if names(rejected.as_slice(), AUTHENTICATION_PROTOCOL) {
                     return Taken::Unwilling;
                 }
                 self.wanted = left_out(&self.wanted, rejected.as_slice());
                 Taken::Changed
             }
-            Reply::Other => Taken::Ignored,
+            ConfigureReply::Other => Taken::Ignored,
         }
     }
 

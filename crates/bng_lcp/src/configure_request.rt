@@ -21,7 +21,7 @@ pub struct LcpOptions {
 
 /// A Configure-Request that was sent.
 #[derive(Clone, Copy)]
-pub struct SentRequest {
+pub struct SentLcpRequest {
     /// Its Identifier.
     pub id: u8,
     pub options: LcpOptions,

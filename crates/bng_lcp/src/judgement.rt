@@ -4,7 +4,7 @@ ghost use Rattle.bng_lcp.specs.Judgement.{IsJudgement, class_of, mru_row as row_
 
 use crate::magic_number::magic_from;
 use crate::option::{LEAST_MRU, MAGIC_NUMBER, MAXIMUM_RECEIVE_UNIT};
-use bng_ppp_wire::{Class, Good, Judged, Opt, Row, Width};
+use bng_ppp_wire::{Class, Good, Judged, Opt, OptionRow, Width};
 
 /// What a Configure-Request is judged by.
 #[derive(Clone, Copy)]
@@ -34,7 +34,7 @@ pub fn judge<'a>(request: &[Opt<'a>], rules: &LcpRules) -> Judged<'a>
 }
 
 // The options that are negotiated.
-fn rows(rules: &LcpRules) -> [Row; 2]
+fn rows(rules: &LcpRules) -> [OptionRow; 2]
     ensures { result ≡ rows_of rules.now }
 {
     [
@@ -44,10 +44,10 @@ fn rows(rules: &LcpRules) -> [Row; 2]
 }
 
 // Maximum-Receive-Unit: 128 to the limit.
-fn mru_row(limit: u16) -> Row
+fn mru_row(limit: u16) -> OptionRow
     ensures { result ≡ row_of_mru limit }
 {
-    Row {
+    OptionRow {
         kind: MAXIMUM_RECEIVE_UNIT,
         width: Width::Two,
         good: Good::Within(u32::from(LEAST_MRU), u32::from(limit)),
@@ -57,10 +57,10 @@ fn mru_row(limit: u16) -> Row
 }
 
 // Magic-Number: neither 0 nor the gateway's own.
-fn magic_row(own: u32, fresh: u32) -> Row
+fn magic_row(own: u32, fresh: u32) -> OptionRow
     ensures { result ≡ row_of_magic own fresh }
 {
-    Row {
+    OptionRow {
         kind: MAGIC_NUMBER,
         width: Width::Four,
         good: Good::Neither(0, own),

@@ -16,6 +16,6 @@ pub mod option;
 
 pub use crate::ask::LcpAsk;
 pub use crate::configure_reply::Taken;
-pub use crate::configure_request::{LcpOptions, SentRequest};
+pub use crate::configure_request::{LcpOptions, SentLcpRequest};
 pub use crate::judgement::{LcpRules, judge};
 pub use bng_ppp_wire::{Class, Judged, MadeOpt};

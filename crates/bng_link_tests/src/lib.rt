@@ -18,8 +18,8 @@ mod lcp;
 #[cfg(test)]
 mod ppp;
 #[cfg(test)]
-mod whole_ends;
+mod link_ends;
 #[cfg(test)]
-mod whole_fixtures;
+mod link_fixtures;
 #[cfg(test)]
-mod whole_links;
+mod links;

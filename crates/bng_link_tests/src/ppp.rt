@@ -3,7 +3,7 @@ ghost use Rattle.std.specs.Prelude.{◌<◌, ◌^◌, length};
 use crate::asserts::{assert_holds, assert_octets, assert_same};
 use arrayvec::ArrayVec;
 use bng_base::{AuthKind, Ip4};
-use bng_ppp::{Input, Link, LinkKind, LinkRules, Steps};
+use bng_ppp::{LcpInput, LcpLink, LinkKind, LinkRules, LcpOutcome};
 use std::process::Abort;
 
 // The gateway's magic number is a1b2c3d4.
@@ -34,55 +34,55 @@ fn rules(echo: u16) -> LinkRules
 }
 
 // The octets of the one frame that a step sends, none where it sends another number of them.
-fn only(steps: &Steps) -> &[u8] {
+fn only(steps: &LcpOutcome) -> &[u8] {
     match steps.outs.as_slice() {
         [frame] => frame.payload(),
         _ => &[],
     }
 }
 
-fn start(link: &mut Link, rules: &LinkRules) -> Steps
+fn start(link: &mut LcpLink, rules: &LinkRules) -> LcpOutcome
     requires { 0 < length rules.now.auth.items }
 {
-    let mut steps = Steps::new();
-    link.step(rules, Input::Start, 0, &RANDOM, &mut steps);
+    let mut steps = LcpOutcome::new();
+    link.step(rules, LcpInput::Start, 0, &RANDOM, &mut steps);
     steps
 }
 
-fn hear(link: &mut Link, rules: &LinkRules, octets: &[u8]) -> Steps
+fn hear(link: &mut LcpLink, rules: &LinkRules, octets: &[u8]) -> LcpOutcome
     requires { 0 < length rules.now.auth.items }
 {
-    let mut steps = Steps::new();
-    link.step(rules, Input::Frame(octets), 0, &RANDOM, &mut steps);
+    let mut steps = LcpOutcome::new();
+    link.step(rules, LcpInput::Frame(octets), 0, &RANDOM, &mut steps);
     steps
 }
 
-fn at(link: &mut Link, rules: &LinkRules, now: u64) -> Steps
+fn at(link: &mut LcpLink, rules: &LinkRules, now: u64) -> LcpOutcome
     requires moment { now < 2 ^ 60 }
     requires some { 0 < length rules.now.auth.items }
 {
-    let mut steps = Steps::new();
-    link.step(rules, Input::Timer, now, &RANDOM, &mut steps);
+    let mut steps = LcpOutcome::new();
+    link.step(rules, LcpInput::Timer, now, &RANDOM, &mut steps);
     steps
 }
 
 // Hears a frame, whatever the link does then.
-fn take(link: &mut Link, rules: &LinkRules, octets: &[u8])
+fn take(link: &mut LcpLink, rules: &LinkRules, octets: &[u8])
     requires { 0 < length rules.now.auth.items }
 {
     let _steps = hear(link, rules, octets);
 }
 
 // A link that has been started.
-fn started(kind: LinkKind, rules: &LinkRules) -> Link
+fn started(kind: LinkKind, rules: &LinkRules) -> LcpLink
     requires { 0 < length rules.now.auth.items }
 {
-    let mut link = Link::new(kind, &RANDOM, 0);
+    let mut link = LcpLink::new(kind, &RANDOM, 0);
     let _asked = start(&mut link, rules);
     link
 }
 
-fn opened(rules: &LinkRules) -> Link
+fn opened(rules: &LinkRules) -> LcpLink
     requires { 0 < length rules.now.auth.items }
 {
     let mut link = started(LinkKind::Pppoe, rules);
@@ -92,7 +92,7 @@ fn opened(rules: &LinkRules) -> Link
 }
 
 // Hears a frame, at which one frame is sent, this one.
-fn assert_answer(rt: &impl Abort, link: &mut Link, rules: &LinkRules, octets: &[u8], answer: &[u8])
+fn assert_answer(rt: &impl Abort, link: &mut LcpLink, rules: &LinkRules, octets: &[u8], answer: &[u8])
     requires { 0 < length rules.now.auth.items }
 {
     let steps = hear(link, rules, octets);
@@ -100,14 +100,14 @@ fn assert_answer(rt: &impl Abort, link: &mut Link, rules: &LinkRules, octets: &[
 }
 
 // Hears a frame, at which none is sent.
-fn assert_unanswered(rt: &impl Abort, link: &mut Link, rules: &LinkRules, octets: &[u8])
+fn assert_unanswered(rt: &impl Abort, link: &mut LcpLink, rules: &LinkRules, octets: &[u8])
     requires { 0 < length rules.now.auth.items }
 {
     assert_holds(rt, hear(link, rules, octets).outs.is_empty());
 }
 
 // One frame is sent at this moment, this one.
-fn assert_sent_at(rt: &impl Abort, link: &mut Link, rules: &LinkRules, now: u64, frame: &[u8])
+fn assert_sent_at(rt: &impl Abort, link: &mut LcpLink, rules: &LinkRules, now: u64, frame: &[u8])
     requires moment { now < 2 ^ 60 }
     requires some { 0 < length rules.now.auth.items }
 {
@@ -143,7 +143,7 @@ const PASSED_OVER: &[&[u8]] = &[
 ];
 
 // The link asks, rejects the compressions, and acks the request without them.
-fn negotiate(rt: &impl Abort, link: &mut Link, rules: &LinkRules)
+fn negotiate(rt: &impl Abort, link: &mut LcpLink, rules: &LinkRules)
     requires { 0 < length rules.now.auth.items }
 {
     assert_octets(rt, only(&start(link, rules)), ASKED);
@@ -153,7 +153,7 @@ fn negotiate(rt: &impl Abort, link: &mut Link, rules: &LinkRules)
 }
 
 // The peer acks what the link asked for.
-fn come_to_opened(rt: &impl Abort, link: &mut Link, rules: &LinkRules)
+fn come_to_opened(rt: &impl Abort, link: &mut LcpLink, rules: &LinkRules)
     requires { 0 < length rules.now.auth.items }
 {
     let up = hear(link, rules, ACKED);
@@ -162,7 +162,7 @@ fn come_to_opened(rt: &impl Abort, link: &mut Link, rules: &LinkRules)
 }
 
 // The peer asks again, and the link asks and acks.
-fn begin_anew(rt: &impl Abort, link: &mut Link, rules: &LinkRules)
+fn begin_anew(rt: &impl Abort, link: &mut LcpLink, rules: &LinkRules)
     requires { 0 < length rules.now.auth.items }
 {
     let again = hear(link, rules, GOOD);
@@ -175,7 +175,7 @@ fn begin_anew(rt: &impl Abort, link: &mut Link, rules: &LinkRules)
 #[test]
 fn a_session_comes_to_opened_and_rejects_ipv6(rt: HostRuntime) {
     let rules = rules(0);
-    let mut link = Link::new(LinkKind::Pppoe, &RANDOM, 0);
+    let mut link = LcpLink::new(LinkKind::Pppoe, &RANDOM, 0);
     negotiate(&rt, &mut link, &rules);
     come_to_opened(&rt, &mut link, &rules);
     assert_answer(&rt, &mut link, &rules, IPV6CP, IPV6CP_REJECT);
@@ -213,7 +213,7 @@ const ECHO: &[u8] = &[0xc0, 0x21, 9, 2, 0, 8, 0xa1, 0xb2, 0xc3, 0xd4];
 const PEERS_REPLY: &[u8] = &[0xc0, 0x21, 0x0a, 2, 0, 8, 0x11, 0x22, 0x33, 0x44];
 
 // The link asks for an echo after 30 s, and gets it.
-fn echo_once(rt: &impl Abort, link: &mut Link, rules: &LinkRules)
+fn echo_once(rt: &impl Abort, link: &mut LcpLink, rules: &LinkRules)
     requires { 0 < length rules.now.auth.items }
 {
     assert_same(rt, &link.deadline(), &Some(30_000));
@@ -223,7 +223,7 @@ fn echo_once(rt: &impl Abort, link: &mut Link, rules: &LinkRules)
 }
 
 // One frame is sent at this moment, and the link goes on.
-fn assert_goes_on_at(rt: &impl Abort, link: &mut Link, rules: &LinkRules, now: u64)
+fn assert_goes_on_at(rt: &impl Abort, link: &mut LcpLink, rules: &LinkRules, now: u64)
     requires moment { now < 2 ^ 60 }
     requires some { 0 < length rules.now.auth.items }
 {
@@ -232,7 +232,7 @@ fn assert_goes_on_at(rt: &impl Abort, link: &mut Link, rules: &LinkRules, now: u
 }
 
 // The link ends after 150 s.
-fn lose(rt: &impl Abort, link: &mut Link, rules: &LinkRules)
+fn lose(rt: &impl Abort, link: &mut LcpLink, rules: &LinkRules)
     requires { 0 < length rules.now.auth.items }
 {
     let lost = at(link, rules, 150_000);
@@ -262,7 +262,7 @@ const TINY_REJECT: &[u8] = &[0xc0, 0x21, 4, 9, 0, 8, 1, 4, 0, 127];
 const SMALLER: &[u8] = &[0xc0, 0x21, 1, 10, 0, 8, 1, 4, 1, 0];
 
 // The peer asks for a unit that is taken, after which the other one is naked again.
-fn nak_again(rt: &impl Abort, link: &mut Link, rules: &LinkRules)
+fn nak_again(rt: &impl Abort, link: &mut LcpLink, rules: &LinkRules)
     requires { 0 < length rules.now.auth.items }
 {
     take(link, rules, SMALLER);
@@ -296,7 +296,7 @@ const TERMINATE: &[u8] = &[0xc0, 0x21, 5, 3, 0, 4];
 const TERMINATE_ACK: &[u8] = &[0xc0, 0x21, 6, 3, 0, 4];
 
 // The link closes, sends its Terminate-Request again after 3 s, and finishes at the ack.
-fn close_unwilling(rt: &impl Abort, link: &mut Link, rules: &LinkRules)
+fn close_unwilling(rt: &impl Abort, link: &mut LcpLink, rules: &LinkRules)
     requires { 0 < length rules.now.auth.items }
 {
     assert_answer(rt, link, rules, UNWILLING, TERMINATE);
@@ -336,10 +336,10 @@ fn end_by_close(rt: &impl Abort, rules: &LinkRules)
     requires { 0 < length rules.now.auth.items }
 {
     let mut closed = opened(rules);
-    let mut steps = Steps::new();
-    closed.step(rules, Input::Close, 0, &RANDOM, &mut steps);
+    let mut steps = LcpOutcome::new();
+    closed.step(rules, LcpInput::Close, 0, &RANDOM, &mut steps);
     assert_octets(rt, only(&steps), CLOSE);
-    closed.step(rules, Input::Lost, 0, &RANDOM, &mut steps);
+    closed.step(rules, LcpInput::Lost, 0, &RANDOM, &mut steps);
     assert_holds(rt, steps.finished && steps.outs.is_empty());
 }
 

@@ -11,8 +11,8 @@ use Rattle.bng_l2tp_wire.specs.declared.message.TheConstants.{SCCRQ}
 use Rattle.bng_l2tp_wire.specs.Judge.{is_type}
 use Rattle.bng_l2tp_tunnel.specs.Steps.{stands, message_step}
 use Rattle.bng_l2tp_wire.specs.Values.{message_type, assigned_tunnel}
-use Rattle.bng_lns.specs.declared.place.Place.{Place}
-use Rattle.bng_lns.specs.declared.taken.Came.{Came}
+use Rattle.bng_lns.specs.declared.place.TunnelPlace.{TunnelPlace}
+use Rattle.bng_lns.specs.declared.outcome.Came.{Came}
 use Rattle.bng_lns.specs.Places.{is_free, is_again, is_numbered, place_of}
 use Rattle.bng_lns.specs.Tunnels.{TunnelsState, free_place, vacant, lac_of, secret_of, IsGiven, Outcome, heard_by, requested_by, hear}
 use Rattle.bng_lns.proofs.Hearing.{given_number, heard_request}
@@ -34,12 +34,12 @@ is_given now t some =
     }
 
 -- a message that is heard makes no place
-heard_length : (t : TunnelsState) (came : Came) (m : ControlMessage) (o : Option Place) → length (heard_by t came m o).after.places ≡ length t.places
+heard_length : (t : TunnelsState) (came : Came) (m : ControlMessage) (o : Option TunnelPlace) → length (heard_by t came m o).after.places ≡ length t.places
 heard_length t came m None = refl
 heard_length t came m (Some p) =
-    length-map t.places (λ (q : Place). cond (is_numbered p.tunnel.number q) (place_of came.moment (message_step p.tunnel m came.random came.moment).after) q)
+    length-map t.places (λ (q : TunnelPlace). cond (is_numbered p.tunnel.number q) (place_of came.moment (message_step p.tunnel m came.random came.moment).after) q)
 
-module _ (name : List ℕ) (lacs : List Lac) (t : TunnelsState) (came : Came) (m : ControlMessage) (p : Place) (zero : m.tunnel ≡ 0) (asks : is_type (message_type m.avps) SCCRQ ≡ true)
+module _ (name : List ℕ) (lacs : List Lac) (t : TunnelsState) (came : Came) (m : ControlMessage) (p : TunnelPlace) (zero : m.tunnel ≡ 0) (asks : is_type (message_type m.avps) SCCRQ ≡ true)
     (again : find (is_again came.from (assigned_tunnel (secret_of (lac_of lacs came.from.ip)) m.avps)) t.places ≡ Some p) where
   pub repeated : hear name lacs t came m ≡ heard_by t came m (Some p)
   repeated = heard_request name lacs t came m zero asks ∙ ap (requested_by name (lac_of lacs came.from.ip) t came m) again

@@ -6,8 +6,8 @@ use Rattle.std.proofs.lemmas.Bool.{ltb-true, and_left, both_ways, eq-eqb}
 use Rattle.bng_base.specs.declared.settings.Lac.{Lac}
 use Rattle.bng_l2tp_wire.specs.Messages.{ControlMessage}
 use Rattle.bng_l2tp_wire.specs.declared.message.TheConstants.{SCCRQ}
-use Rattle.bng_l2tp_tunnel.specs.declared.phase.Phase.{Phase}
-use Rattle.bng_l2tp_tunnel.specs.declared.phase.Phase.TheVariants.{Idle, Replied, Established, Cleared}
+use Rattle.bng_l2tp_tunnel.specs.declared.phase.TunnelPhase.{TunnelPhase}
+use Rattle.bng_l2tp_tunnel.specs.declared.phase.TunnelPhase.TheVariants.{Idle, Replied, Established, Cleared}
 use Rattle.bng_l2tp_tunnel.specs.Messages.{is_of_call}
 use Rattle.bng_l2tp_wire.specs.Judge.{is_type}
 use Rattle.bng_l2tp_tunnel.specs.Sound.{IsTunnel, IsSentTo, IsSpelled, is_delivered, is_for_call}
@@ -15,8 +15,8 @@ use Rattle.bng_l2tp_tunnel.specs.Steps.{Step, stands, is_established, message_st
 use Rattle.bng_l2tp_tunnel.specs.TunnelState.{TunnelState, Lasting, lasting_of}
 use Rattle.bng_l2tp_wire.specs.Values.{message_type, assigned_tunnel}
 use Rattle.bng_l2tp_wire.specs.View.{Said}
-use Rattle.bng_lns.specs.declared.place.Place.{Place}
-use Rattle.bng_lns.specs.declared.taken.Came.{Came}
+use Rattle.bng_lns.specs.declared.place.TunnelPlace.{TunnelPlace}
+use Rattle.bng_lns.specs.declared.outcome.Came.{Came}
 use Rattle.bng_lns.specs.Places.{number_at, is_again, is_named, place_of, put_at, IsPlace, ArePlaces}
 use Rattle.bng_lns.specs.Tunnels.{TunnelsState, tunnel_at, free_place, vacant, lac_of, secret_of, requested, requested_by, Answer, NoTunnel, NoRequest, Steps, outs_of, hands_over, number_of, IsTaken, Outcome, outcome, heard_by, made_by, hear}
 use Rattle.bng_lns.proofs.Finding.{some_there, found_at, found_within, none_found}
@@ -35,19 +35,19 @@ no_request_taken t = record { spelled = tt; few = omega arith; room = λ no. abs
 
 -- A tunnel that was found ------------------------------------------------------------------------------------------------------------------
 
-module _ (t : TunnelsState) (came : Came) (m : ControlMessage) (k : ℕ) (p : Place) (there : slice_get t.places k ≡ Some p) where
+module _ (t : TunnelsState) (came : Came) (m : ControlMessage) (k : ℕ) (p : TunnelPlace) (there : slice_get t.places k ≡ Some p) where
   pub heard_answer : (a : Answer) → a ≡ Steps p.tunnel.number (message_step p.tunnel m came.random came.moment).said → a ≡ (heard_by t came m (slice_get t.places k)).answer
-  heard_answer a e = e ∙ ap (λ (o : Option Place). (heard_by t came m o).answer) (sym there)
+  heard_answer a e = e ∙ ap (λ (o : Option TunnelPlace). (heard_by t came m o).answer) (sym there)
 
-  pub heard_after : (first : ℕ) (q : Place) → ArePlaces first t.places → stands p.tunnel.phase ≡ true → q ≡ place_of came.moment (message_step p.tunnel m came.random came.moment).after
+  pub heard_after : (first : ℕ) (q : TunnelPlace) → ArePlaces first t.places → stands p.tunnel.phase ≡ true → q ≡ place_of came.moment (message_step p.tunnel m came.random came.moment).after
       → record t { places = set t.places k q } ≡ (heard_by t came m (slice_get t.places k)).after
   heard_after first q are e f =
       let after = (message_step p.tunnel m came.random came.moment).after in
-      ap (λ (x : Place). let s : TunnelsState = record t { places = set t.places k x } in s) f
-      ∙ ap (λ (ps : List Place). let s : TunnelsState = record t { places = ps } in s) (set_stepped came.moment p.tunnel.number after first t.places k p are there (numbered_self p e))
-      ∙ ap (λ (o : Option Place). (heard_by t came m o).after) (sym there)
+      ap (λ (x : TunnelPlace). let s : TunnelsState = record t { places = set t.places k x } in s) f
+      ∙ ap (λ (ps : List TunnelPlace). let s : TunnelsState = record t { places = ps } in s) (set_stepped came.moment p.tunnel.number after first t.places k p are there (numbered_self p e))
+      ∙ ap (λ (o : Option TunnelPlace). (heard_by t came m o).after) (sym there)
 
-  pub heard_taken : (a : Answer) (q : Place) → AllByRecursion IsSpelled (outs_of a) → length (outs_of a) ≤ 9 → (hands_over a ≡ true → length (outs_of a) ≤ 8) → (hands_over a ≡ true → stands q.tunnel.phase ≡ true)
+  pub heard_taken : (a : Answer) (q : TunnelPlace) → AllByRecursion IsSpelled (outs_of a) → length (outs_of a) ≤ 9 → (hands_over a ≡ true → length (outs_of a) ≤ 8) → (hands_over a ≡ true → stands q.tunnel.phase ≡ true)
       → number_of a ≡ q.tunnel.number → IsTaken a (record t { places = set t.places k q })
   heard_taken a q spelled few room stands_after e = record {
     spelled = spelled;
@@ -59,7 +59,7 @@ module _ (t : TunnelsState) (came : Came) (m : ControlMessage) (k : ℕ) (p : Pl
 -- An SCCRQ ---------------------------------------------------------------------------------------------------------------------------------
 
 module _ (name : List ℕ) (lac : Option Lac) (t : TunnelsState) (came : Came) (m : ControlMessage) where
-  abbrev test : Place → Bool
+  abbrev test : TunnelPlace → Bool
   test = is_again came.from (assigned_tunnel (secret_of lac) m.avps)
 
   -- it came again: the tunnel at the place takes it
@@ -117,7 +117,7 @@ module _ (t : TunnelsState) (now : ℕ) (step : Step) where
     pub unmade_after : stands after.phase ≡ false → t ≡ (made_by t now step).after
     unmade_after gone = ap (λ (o : Outcome). o.after) (sym (unmade_if (phase_is false gone)))
 
-not_established : (p : Phase) → stands p ≡ false → is_established p ≡ false
+not_established : (p : TunnelPhase) → stands p ≡ false → is_established p ≡ false
 not_established Idle e = refl
 not_established Replied e = absurd cc
 not_established Established e = absurd cc

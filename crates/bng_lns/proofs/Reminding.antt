@@ -15,7 +15,7 @@ use Rattle.bng_l2tp_tunnel.specs.Outs.{after_out, flight_most}
 use Rattle.bng_l2tp_tunnel.specs.Spelling.{hello}
 use Rattle.bng_l2tp_tunnel.specs.Steps.{nothing, stands, reminded as reminded_by, due_step}
 use Rattle.bng_l2tp_tunnel.specs.TunnelState.{TunnelState}
-use Rattle.bng_lns.specs.declared.place.Place.{Place}
+use Rattle.bng_lns.specs.declared.place.TunnelPlace.{TunnelPlace}
 use Rattle.bng_lns.specs.Places.{is_numbered, place_of, is_due}
 use Rattle.bng_lns.specs.Tunnels.{TunnelsState}
 use Rattle.bng_lns.specs.Timed.{untold, told_by, reminded_in, reminded}
@@ -168,16 +168,16 @@ once_due s now GiveUp few due e left = absurd cc
 
 module _ (now : ℕ) (t : TunnelsState) (k : ℕ) where
   -- the place of a tunnel that was due
-  reminded_there : (p : Place) → slice_get t.places k ≡ Some p → is_due now p ≡ true
+  reminded_there : (p : TunnelPlace) → slice_get t.places k ≡ Some p → is_due now p ≡ true
       → slice_get (told_by now t p.tunnel (due_step p.tunnel now)).after.places k ≡ Some (place_of now (by_due p.tunnel now (due_of p.tunnel.channel now)))
   reminded_there p e due =
       let step = due_step p.tunnel now in
       let stood = (and_parts (stands p.tunnel.phase) (nat_le (deadline_of p.tunnel.channel) now) due).0 in
-      let write : Place → Place = λ q. cond (is_numbered p.tunnel.number q) (place_of now step.after) q in
+      let write : TunnelPlace → TunnelPlace = λ q. cond (is_numbered p.tunnel.number q) (place_of now step.after) q in
       slice_get-map write t.places k ∙ ap (option_map write) e ∙ ap (λ (b : Bool). Some (cond b (place_of now step.after) p)) (numbered_self p stood)
       ∙ ap (λ (s : TunnelState). Some (place_of now s)) (by_its_due p.tunnel now stood)
 
-  once_at : (o : Option Place) (q : Place) → now < never → slice_get t.places k ≡ o → slice_get (reminded_in now t o).after.places k ≡ Some q → is_due now q ≡ true
+  once_at : (o : Option TunnelPlace) (q : TunnelPlace) → now < never → slice_get t.places k ≡ o → slice_get (reminded_in now t o).after.places k ≡ Some q → is_due now q ≡ true
       → due_of q.tunnel.channel now ≡ Hello
   once_at None q few e f left = absurd (let no = sym e ∙ f in cc)
   once_at (Some p) q few e f left =
@@ -186,17 +186,17 @@ module _ (now : ℕ) (t : TunnelsState) (k : ℕ) where
       by : (b : Bool) → is_due now p ≡ b → slice_get (cond b (told_by now t p.tunnel (due_step p.tunnel now)) (untold t)).after.places k ≡ Some q → due_of q.tunnel.channel now ≡ Hello
       by true due f =
           let same : place_of now (by_due p.tunnel now (due_of p.tunnel.channel now)) ≡ q = let there = sym (reminded_there p e due) ∙ f in cc in
-          ap (λ (x : Place). due_of x.tunnel.channel now) (sym same)
+          ap (λ (x : TunnelPlace). due_of x.tunnel.channel now) (sym same)
           ∙ once_due p.tunnel now (due_of p.tunnel.channel now) few due refl (ap (is_due now) same ∙ left)
       by false due f =
           let same : p ≡ q = let there = sym e ∙ f in cc in
           absurd (both_ways (is_due now p) due (ap (is_due now) same ∙ left))
 
-  pub reminded_once : (q : Place) → now < never → slice_get (reminded now t k).after.places k ≡ Some q → is_due now q ≡ true → due_of q.tunnel.channel now ≡ Hello
+  pub reminded_once : (q : TunnelPlace) → now < never → slice_get (reminded now t k).after.places k ≡ Some q → is_due now q ≡ true → due_of q.tunnel.channel now ≡ Hello
   reminded_once q few f left = once_at (slice_get t.places k) q few refl f left
 
   -- reminded while a HELLO alone may be due
-  last_at : (o : Option Place) (q : Place) → now < never → slice_get t.places k ≡ o → ((p : Place) → slice_get t.places k ≡ Some p → is_due now p ≡ true → due_of p.tunnel.channel now ≡ Hello)
+  last_at : (o : Option TunnelPlace) (q : TunnelPlace) → now < never → slice_get t.places k ≡ o → ((p : TunnelPlace) → slice_get t.places k ≡ Some p → is_due now p ≡ true → due_of p.tunnel.channel now ≡ Hello)
       → slice_get (reminded_in now t o).after.places k ≡ Some q → is_due now q ≡ false
   last_at None q few e greets f = absurd (let no = sym e ∙ f in cc)
   last_at (Some p) q few e greets f =
@@ -211,7 +211,7 @@ module _ (now : ℕ) (t : TunnelsState) (k : ℕ) where
           let same : p ≡ q = let there = sym e ∙ f in cc in
           ap (is_due now) (sym same) ∙ due
 
-pub reminded_twice : (now : ℕ) (t : TunnelsState) (k : ℕ) (q : Place) → now < never → slice_get (reminded now (reminded now t k).after k).after.places k ≡ Some q → is_due now q ≡ false
+pub reminded_twice : (now : ℕ) (t : TunnelsState) (k : ℕ) (q : TunnelPlace) → now < never → slice_get (reminded now (reminded now t k).after k).after.places k ≡ Some q → is_due now q ≡ false
 reminded_twice now t k q few f =
     let once = (reminded now t k).after in
     last_at now once k (slice_get once.places k) q few refl (λ p e due. reminded_once now t k p few e due) f

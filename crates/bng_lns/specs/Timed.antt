@@ -5,8 +5,8 @@ use Rattle.bng_l2tp_reliable.specs.Timers.{never}
 use Rattle.bng_l2tp_tunnel.specs.Steps.{Step, stands, due_step, stop_step}
 use Rattle.bng_l2tp_tunnel.specs.TunnelState.{TunnelState}
 use Rattle.bng_l2tp_wire.specs.View.{Said, said}
-use Rattle.bng_lns.specs.declared.place.Place.{Place}
-use Rattle.bng_lns.specs.declared.taken.Told.{Told}
+use Rattle.bng_lns.specs.declared.place.TunnelPlace.{TunnelPlace}
+use Rattle.bng_lns.specs.declared.outcome.TunnelOutcome.{TunnelOutcome}
 use Rattle.bng_lns.specs.Places.{earliest, is_due}
 use Rattle.bng_lns.specs.Tunnels.{TunnelsState, with_step}
 
@@ -16,7 +16,7 @@ pub record Telling : Type 0 where
   pub peer : Peer
   pub said : Said
 
-abbrev pub telling_of : Told → Telling
+abbrev pub telling_of : TunnelOutcome → Telling
 telling_of t = record { number = t.number.0; peer = t.peer; said = said t.step }
 
 pub record Timed : Type 0 where
@@ -30,7 +30,7 @@ abbrev pub told_by : ℕ → TunnelsState → TunnelState → Step → Timed
 told_by now t tunnel step =
     record { told = Some (record { number = tunnel.number; peer = tunnel.peer; said = step.said }); after = with_step now t tunnel.number step.after }
 
-abbrev pub reminded_in : ℕ → TunnelsState → Option Place → Timed
+abbrev pub reminded_in : ℕ → TunnelsState → Option TunnelPlace → Timed
 reminded_in now t None = untold t
 reminded_in now t (Some p) = if is_due now p then told_by now t p.tunnel (due_step p.tunnel now) else untold t
 
@@ -38,7 +38,7 @@ reminded_in now t (Some p) = if is_due now p then told_by now t p.tunnel (due_st
 abbrev pub reminded : ℕ → TunnelsState → ℕ → Timed
 reminded now t k = reminded_in now t (slice_get t.places k)
 
-abbrev pub stopped_in : ℕ → TunnelsState → Option Place → Timed
+abbrev pub stopped_in : ℕ → TunnelsState → Option TunnelPlace → Timed
 stopped_in now t None = untold t
 stopped_in now t (Some p) = if stands p.tunnel.phase then told_by now t p.tunnel (stop_step p.tunnel now) else untold t
 

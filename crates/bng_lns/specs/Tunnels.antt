@@ -7,27 +7,27 @@ use Rattle.bng_base.specs.declared.settings.Lac.{Lac}
 use Rattle.bng_l2tp_reliable.specs.ChannelState.{begun}
 use Rattle.bng_l2tp_wire.specs.Messages.{ControlMessage}
 use Rattle.bng_l2tp_wire.specs.declared.message.TheConstants.{SCCRQ}
-use Rattle.bng_l2tp_tunnel.specs.declared.phase.Phase.TheVariants.{Idle}
+use Rattle.bng_l2tp_tunnel.specs.declared.phase.TunnelPhase.TheVariants.{Idle}
 use Rattle.bng_l2tp_wire.specs.Judge.{is_type}
 use Rattle.bng_l2tp_tunnel.specs.Sound.{IsSpelled}
 use Rattle.bng_l2tp_tunnel.specs.Steps.{Step, stands, message_step}
 use Rattle.bng_l2tp_tunnel.specs.TunnelState.{TunnelState}
 use Rattle.bng_l2tp_wire.specs.Values.{default_window, message_type, assigned_tunnel}
 use Rattle.bng_l2tp_wire.specs.View.{Said, octets_of, said}
-use Rattle.bng_lns.specs.declared.place.Place.{Place}
-use Rattle.bng_lns.specs.declared.taken.Came.{Came}
-use Rattle.bng_lns.specs.declared.taken.Taken.{Taken}
-use Rattle.bng_lns.specs.declared.taken.Taken.TheVariants.{Unknown, Passed, Step as TakenStep}
+use Rattle.bng_lns.specs.declared.place.TunnelPlace.{TunnelPlace}
+use Rattle.bng_lns.specs.declared.outcome.Came.{Came}
+use Rattle.bng_lns.specs.declared.outcome.MessageOutcome.{MessageOutcome}
+use Rattle.bng_lns.specs.declared.outcome.MessageOutcome.TheVariants.{Unknown, Ignored, Step as TakenStep}
 use Rattle.bng_lns.specs.Places.{number_at, is_free, is_numbered, is_named, is_again, place_of, stepped, put_at}
 
 pub record TunnelsState : Type 0 where
   -- the shard's number
   pub shard : ℕ
-  pub places : List Place
+  pub places : List TunnelPlace
 
 -- the tunnel with this number, if it stands
 abbrev pub tunnel_at : TunnelsState → ℕ → Option TunnelState
-tunnel_at t number = option_map (λ (p : Place). p.tunnel) (find (is_numbered number) t.places)
+tunnel_at t number = option_map (λ (p : TunnelPlace). p.tunnel) (find (is_numbered number) t.places)
 
 -- the tunnel with this number took a step at this moment
 abbrev pub with_step : ℕ → TunnelsState → ℕ → TunnelState → TunnelsState
@@ -46,8 +46,8 @@ pub record IsGiven (now : ℕ) (t : TunnelsState) (number : ℕ) : Type 0 where
   pub place : ℕ
   pub few : place < 16
   pub number_is : number ≡ number_at t.shard place
-  pub rested : (p : Place) → slice_get t.places place ≡ Some p → (stands p.tunnel.phase ≡ false) × (p.since + 31000 ≤ now)
-  pub lower : (k : ℕ) (p : Place) → k < place → slice_get t.places k ≡ Some p → is_free now p ≡ false
+  pub rested : (p : TunnelPlace) → slice_get t.places place ≡ Some p → (stands p.tunnel.phase ≡ false) × (p.since + 31000 ≤ now)
+  pub lower : (k : ℕ) (p : TunnelPlace) → k < place → slice_get t.places k ≡ Some p → is_free now p ≡ false
 
 -- the configured access concentrator with this address
 abbrev pub lac_of : List Lac → Ip4 → Option Lac
@@ -80,9 +80,9 @@ pub data Answer : Type 0 where
   -- a tunnel of this number took it, or it asked for one; 0 where none was made
   Steps : ℕ → Said → Answer
 
-abbrev pub answer_of : Taken → Answer
+abbrev pub answer_of : MessageOutcome → Answer
 answer_of Unknown = NoTunnel
-answer_of Passed = NoRequest
+answer_of Ignored = NoRequest
 answer_of (TakenStep number step) = Steps number.0 (said step)
 
 abbrev pub outs_of : Answer → List (List ℕ)
@@ -118,7 +118,7 @@ abbrev pub outcome : Answer → TunnelsState → Outcome
 outcome answer after = record { answer = answer; after = after }
 
 -- the tunnel that was found takes the message
-abbrev pub heard_by : TunnelsState → Came → ControlMessage → Option Place → Outcome
+abbrev pub heard_by : TunnelsState → Came → ControlMessage → Option TunnelPlace → Outcome
 heard_by t came m None = outcome NoTunnel t
 heard_by t came m (Some p) =
     let step = message_step p.tunnel m came.random came.moment in
@@ -132,7 +132,7 @@ made_by t now step =
     else outcome (Steps 0 step.said) t
 
 -- An SCCRQ of a peer and an Assigned Tunnel ID that have a tunnel came again over its channel. Another asks for a tunnel.
-abbrev pub requested_by : (name : List ℕ) → Option Lac → TunnelsState → Came → ControlMessage → Option Place → Outcome
+abbrev pub requested_by : (name : List ℕ) → Option Lac → TunnelsState → Came → ControlMessage → Option TunnelPlace → Outcome
 requested_by name lac t came m (Some p) = heard_by t came m (Some p)
 requested_by name lac t came m None =
     made_by t came.moment (message_step (begun_with name lac came.from came.moment (vacant came.moment t)) m came.random came.moment)

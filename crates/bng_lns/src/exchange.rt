@@ -10,7 +10,7 @@ ghost use Rattle.bng_l2tp_tunnel.specs.TunnelState.{lasting_of};
 ghost use Rattle.bng_lns.specs.Places.{place_of, IsPlace};
 ghost use Rattle.bng_lns.specs.Exchange.{joined, answered_by, parted_by, IsCallText};
 
-use crate::place::Place;
+use crate::place::TunnelPlace;
 use bng_base::TunnelStep;
 use bng_l2tp_tunnel::Tunnel;
 use bng_l2tp_wire::step::{Outs, nothing};
@@ -128,7 +128,7 @@ fn part_by(tunnel: &mut Tunnel, step: &mut TunnelStep, told: &TunnelStep, now: u
 /// What a call told goes out over its tunnel, after what the tunnel lets out anyway. Where the call tells nothing, or nothing goes
 /// out, a ZLB does.
 #[inline(never)]
-pub(crate) fn answer_in(place: &mut Place, heard: &mut TunnelStep, told: &TunnelStep, now: u64)
+pub(crate) fn answer_in(place: &mut TunnelPlace, heard: &mut TunnelStep, told: &TunnelStep, now: u64)
     requires tunnel { IsTunnel place.old.tunnel }
     requires few { array_vec_len heard.old.outs ≤ 8 }
     requires texts { AllByRecursion IsCallText (payloads told.now.outs.items) }
@@ -141,7 +141,7 @@ pub(crate) fn answer_in(place: &mut Place, heard: &mut TunnelStep, told: &Tunnel
 }
 
 /// What a call told as it ended goes out over its tunnel.
-pub(crate) fn part_in(place: &mut Place, step: &mut TunnelStep, told: &TunnelStep, now: u64)
+pub(crate) fn part_in(place: &mut TunnelPlace, step: &mut TunnelStep, told: &TunnelStep, now: u64)
     requires tunnel { IsTunnel place.old.tunnel }
     requires texts { AllByRecursion IsCallText (payloads told.now.outs.items) }
     ensures said { said step.new ≡ (parted_by place.old.tunnel (said told.now) now (payloads told.now.outs.items)).said }

@@ -5,7 +5,7 @@ ghost use Rattle.bng_l2tp_wire.specs.Values.{assigned_tunnel as assigned_tunnel_
 ghost use Rattle.bng_l2tp_wire.specs.View.{octets_of, avps_of};
 ghost use Rattle.bng_lns.specs.Tunnels.{lac_of as lac_with, secret_of, begun_with};
 
-use crate::taken::Came;
+use crate::outcome::Came;
 use arrayvec::ArrayVec;
 use bng_base::{Ip4, Lac, TunnelNo};
 use bng_l2tp_tunnel::{Tunnel, TunnelRules};

@@ -17,12 +17,12 @@ mod lac;
 mod laws;
 mod place;
 mod places;
-mod taken;
+mod outcome;
 mod tunnels;
 
 pub use crate::datagram::{TunnelDatagram, carried, datagram_of};
 pub use crate::framed::put_in_call;
 pub use crate::laws::{due_is_done, numbers_rest, one_tunnel_a_request};
 pub use crate::places::TUNNELS_MOST;
-pub use crate::taken::{Came, Taken, Told};
+pub use crate::outcome::{Came, MessageOutcome, TunnelOutcome};
 pub use crate::tunnels::Tunnels;

@@ -7,7 +7,7 @@ ghost use Rattle.bng_lns.specs.Places.{is_free as is_free_at, is_numbered as has
 ghost use Rattle.bng_lns.specs.Tunnels.{Steps, answer_of, outs_of, hands_over};
 ghost use Rattle.bng_lns.specs.Timed.{telling_of};
 
-use crate::taken::{Came, Taken, Told};
+use crate::outcome::{Came, MessageOutcome, TunnelOutcome};
 use bng_base::{Peer, TunnelNo};
 use bng_l2tp_tunnel::Tunnel;
 use bng_l2tp_wire::Control;
@@ -17,20 +17,20 @@ const REST: u64 = 31_000;
 
 /// A place for the tunnel of one number: the tunnel that has it, or had it last, and the moment of its last step in milliseconds.
 #[derive(Drop)]
-pub struct Place {
+pub struct TunnelPlace {
     pub(crate) tunnel: Tunnel,
     pub(crate) since: u64,
 }
 
 /// The number may be given: its tunnel was cleared 31 seconds ago.
-pub(crate) fn is_free(place: &Place, now: u64) -> bool
+pub(crate) fn is_free(place: &TunnelPlace, now: u64) -> bool
     ensures { result ≡ is_free_at now place.now }
 {
     !place.tunnel.is_standing() && REST <= now.saturating_sub(place.since)
 }
 
 /// The place has the tunnel with this number.
-pub(crate) fn is_numbered(place: &Place, number: u16) -> bool
+pub(crate) fn is_numbered(place: &TunnelPlace, number: u16) -> bool
     ensures { result ≡ has_number number place.now }
 {
     place.tunnel.is_standing() && place.tunnel.number().0 == number
@@ -43,7 +43,7 @@ fn same_peer(a: Peer, b: Peer) -> bool
 }
 
 /// The place has the tunnel with this number, and it is this peer's.
-pub(crate) fn is_named(place: &Place, from: Peer, number: u16) -> bool
+pub(crate) fn is_named(place: &TunnelPlace, from: Peer, number: u16) -> bool
     ensures { result ≡ is_named_by from number place.now }
 {
     is_numbered(place, number) && same_peer(place.tunnel.peer(), from)
@@ -59,7 +59,7 @@ fn is_number(found: Option<u16>, number: u16) -> bool
 }
 
 /// The place has the tunnel of this peer with this Assigned Tunnel ID.
-pub(crate) fn is_again(place: &Place, from: Peer, id: Option<u16>) -> bool
+pub(crate) fn is_again(place: &TunnelPlace, from: Peer, id: Option<u16>) -> bool
     ensures { result ≡ comes_again from id place.now }
 {
     match id {
@@ -73,7 +73,7 @@ pub(crate) fn is_again(place: &Place, from: Peer, id: Option<u16>) -> bool
 }
 
 /// The first moment, in milliseconds, at which the timers of the tunnel ask for something; 2^64 - 1 where none stands.
-pub(crate) fn deadline_in(place: &Place) -> u64
+pub(crate) fn deadline_in(place: &TunnelPlace) -> u64
     ensures { result ≡ deadline_of_place place.now }
 {
     if place.tunnel.is_standing() {
@@ -84,7 +84,7 @@ pub(crate) fn deadline_in(place: &Place) -> u64
 }
 
 /// The timers of the tunnel ask for something at that moment.
-pub(crate) fn is_due(place: &Place, now: u64) -> bool
+pub(crate) fn is_due(place: &TunnelPlace, now: u64) -> bool
     ensures { result ≡ is_due_at now place.now }
 {
     place.tunnel.is_standing() && place.tunnel.deadline() <= now
@@ -92,7 +92,7 @@ pub(crate) fn is_due(place: &Place, now: u64) -> bool
 
 /// The tunnel takes a message.
 #[inline(never)]
-pub(crate) fn hear_in(place: &mut Place, came: &Came, message: &Control<'_>) -> Taken
+pub(crate) fn hear_in(place: &mut TunnelPlace, came: &Came, message: &Control<'_>) -> MessageOutcome
     ensures answer { answer_of result ≡ Steps place.old.tunnel.number (message_step place.old.tunnel (control_of message.now) came.now.random came.now.moment).said }
     ensures after { place.new ≡ place_of came.now.moment (message_step place.old.tunnel (control_of message.now) came.now.random came.now.moment).after }
     ensures kept { (number : ℕ) → IsPlace number place.old → IsPlace number place.new }
@@ -104,12 +104,12 @@ pub(crate) fn hear_in(place: &mut Place, came: &Came, message: &Control<'_>) -> 
     let number = place.tunnel.number();
     let step = place.tunnel.on_message(message, &came.random, came.moment);
     place.since = came.moment;
-    Taken::Step { number, step }
+    MessageOutcome::Step { number, step }
 }
 
 /// The tunnel does what its timers ask for.
 #[inline(never)]
-pub(crate) fn remind_in(place: &mut Place, now: u64) -> Told
+pub(crate) fn remind_in(place: &mut TunnelPlace, now: u64) -> TunnelOutcome
     ensures told { telling_of result ≡ record { number = place.old.tunnel.number; peer = place.old.tunnel.peer; said = (due_step place.old.tunnel now).said } }
     ensures after { place.new ≡ place_of now (due_step place.old.tunnel now).after }
     ensures kept { (number : ℕ) → IsPlace number place.old → IsPlace number place.new }
@@ -120,12 +120,12 @@ pub(crate) fn remind_in(place: &mut Place, now: u64) -> Told
     let peer = place.tunnel.peer();
     let step = place.tunnel.due(now);
     place.since = now;
-    Told { number, peer, step }
+    TunnelOutcome { number, peer, step }
 }
 
 /// The tunnel tells its peer that the gateway shuts down.
 #[inline(never)]
-pub(crate) fn stop_in(place: &mut Place, now: u64) -> Told
+pub(crate) fn stop_in(place: &mut TunnelPlace, now: u64) -> TunnelOutcome
     ensures told { telling_of result ≡ record { number = place.old.tunnel.number; peer = place.old.tunnel.peer; said = (stop_step place.old.tunnel now).said } }
     ensures after { place.new ≡ place_of now (stop_step place.old.tunnel now).after }
     ensures kept { (number : ℕ) → IsPlace number place.old → IsPlace number place.new }
@@ -136,5 +136,5 @@ pub(crate) fn stop_in(place: &mut Place, now: u64) -> Told
     let peer = place.tunnel.peer();
     let step = place.tunnel.stop(now);
     place.since = now;
-    Told { number, peer, step }
+    TunnelOutcome { number, peer, step }
 }

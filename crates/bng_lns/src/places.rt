@@ -3,21 +3,21 @@ ghost use Rattle.std.specs.Prelude.{◌≡◌, ◌<◌, length, nat_lt, position
 ghost use Rattle.std.specs.List.{position_or_len};
 ghost use Rattle.bng_lns.specs.Places.{number_at, is_free as is_free_at, is_numbered as has_number, is_named as is_named_by, is_again as comes_again, earliest as earliest_of};
 
-use crate::place::{Place, deadline_in, is_again, is_free, is_named, is_numbered};
+use crate::place::{TunnelPlace, deadline_in, is_again, is_free, is_named, is_numbered};
 use bng_base::{Peer, TunnelNo};
 
 /// How many tunnels a shard has at most.
 pub const TUNNELS_MOST: usize = 16;
 
 // The first place whose number may be given.
-fn first_free(places: &[Place], now: u64) -> Option<usize>
+fn first_free(places: &[TunnelPlace], now: u64) -> Option<usize>
     ensures { result ≡ position (is_free_at now) places.now }
 {
     places.iter().position(|p| is_free(p, now))
 }
 
 /// The first place whose number may be given, or the place after the last.
-pub(crate) fn free_place(places: &[Place], now: u64) -> usize
+pub(crate) fn free_place(places: &[TunnelPlace], now: u64) -> usize
     ensures { result ≡ position_or_len (is_free_at now) places.now }
 {
     match first_free(places, now) {
@@ -39,28 +39,28 @@ pub(crate) fn number_of(shard: u16, at: usize) -> TunnelNo
 }
 
 /// The place of the tunnel with this number.
-pub(crate) fn numbered_place(places: &[Place], number: TunnelNo) -> Option<usize>
+pub(crate) fn numbered_place(places: &[TunnelPlace], number: TunnelNo) -> Option<usize>
     ensures { result ≡ position (has_number number.0) places.now }
 {
     places.iter().position(|p| is_numbered(p, number.0))
 }
 
 /// The place of the tunnel with this number, of this peer.
-pub(crate) fn named_place(places: &[Place], from: Peer, number: u16) -> Option<usize>
+pub(crate) fn named_place(places: &[TunnelPlace], from: Peer, number: u16) -> Option<usize>
     ensures { result ≡ position (is_named_by from number) places.now }
 {
     places.iter().position(|p| is_named(p, from, number))
 }
 
 /// The place of the tunnel of this peer with this Assigned Tunnel ID.
-pub(crate) fn again_place(places: &[Place], from: Peer, id: Option<u16>) -> Option<usize>
+pub(crate) fn again_place(places: &[TunnelPlace], from: Peer, id: Option<u16>) -> Option<usize>
     ensures { result ≡ position (comes_again from id) places.now }
 {
     places.iter().position(|p| is_again(p, from, id))
 }
 
 /// The earliest deadline of the tunnels that stand, in milliseconds; 2^64 - 1 where there is none.
-pub(crate) fn earliest(places: &[Place]) -> u64
+pub(crate) fn earliest(places: &[TunnelPlace]) -> u64
     ensures { result ≡ earliest_of places.now }
 {
     let mut first = u64::MAX;

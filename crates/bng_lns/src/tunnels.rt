@@ -9,7 +9,7 @@ ghost use Rattle.bng_l2tp_tunnel.specs.TunnelState.{TunnelState};
 ghost use Rattle.bng_l2tp_wire.specs.Values.{message_type as type_of};
 ghost use Rattle.bng_l2tp_call.specs.Cases.{message_step as call_step};
 ghost use Rattle.bng_l2tp_call.specs.Steps.{end_step};
-ghost use Rattle.bng_lns.specs.declared.place.Place.{Place as PlaceView};
+ghost use Rattle.bng_lns.specs.declared.place.TunnelPlace.{TunnelPlace as PlaceView};
 ghost use Rattle.bng_lns.specs.Places.{put_at, number_at, is_named, IsPlace};
 ghost use Rattle.bng_lns.specs.Tunnels.{hear as heard_of, heard_by, made_by, requested, requested_by, free_place as free_place_of, vacant, tunnel_at, with_step, answer_of, IsTaken};
 ghost use Rattle.bng_lns.specs.Timed.{reminded, stopped, telling_of, due_of};
@@ -17,11 +17,11 @@ ghost use Rattle.bng_lns.specs.Exchange.{exchanged, parted};
 
 use crate::exchange::{answer_in, part_in};
 use crate::lac::{assigned_by, begun, lac_of};
-use crate::place::{Place, hear_in, is_due, remind_in, stop_in};
+use crate::place::{TunnelPlace, hear_in, is_due, remind_in, stop_in};
 use crate::places::{
     TUNNELS_MOST, again_place, earliest, free_place, named_place, number_of, numbered_place,
 };
-use crate::taken::{Came, Taken, Told};
+use crate::outcome::{Came, MessageOutcome, TunnelOutcome};
 use arrayvec::ArrayVec;
 use bng_base::{Lac, TunnelNo, TunnelStep};
 use bng_l2tp_call::Call;
@@ -41,7 +41,7 @@ use std::marker::Model;
 #[derive(Drop)]
 pub struct Tunnels {
     shard: u16,
-    places: Vec<Place>,
+    places: Vec<TunnelPlace>,
 }
 
 impl Model for Tunnels {
@@ -91,7 +91,7 @@ impl Tunnels {
         lacs: &[Lac],
         came: &Came,
         message: &Control<'_>,
-    ) -> Taken
+    ) -> MessageOutcome
         ensures answer { answer_of result ≡ (heard_of name.now.items lacs.now self.old came.now (control_of message.now)).answer }
         ensures after { self.new ≡ (heard_of name.now.items lacs.now self.old came.now (control_of message.now)).after }
         ensures taken { IsTaken (answer_of result) self.new }
@@ -100,7 +100,7 @@ impl Tunnels {
             return self.hear_named(came, message);
         }
         if !is_request(message) {
-            return Taken::Passed;
+            return MessageOutcome::Ignored;
         }
         self.hear_request(name, lac_of(lacs, came.from.ip), came, message)
     }
@@ -156,7 +156,7 @@ impl Tunnels {
     /// The tunnel at this place, from 0, does what its timers ask for at that moment, in milliseconds (RFC 2661 sections 5.5 and 5.8).
     /// None comes exactly where no tunnel stands there, or its timers ask for nothing.
     #[inline(never)]
-    pub fn remind(&mut self, at: usize, now: u64) -> Option<Told>
+    pub fn remind(&mut self, at: usize, now: u64) -> Option<TunnelOutcome>
         ensures told { option_map telling_of result ≡ (reminded now self.old at).told }
         ensures after { self.new ≡ (reminded now self.old at).after }
         ensures few { IfSome result (λ t. length (payloads t.step.outs.items) ≤ 8) }
@@ -174,7 +174,7 @@ impl Tunnels {
     /// The tunnel at this place, from 0, tells its peer that the gateway shuts down (RFC 2661 section 6.4), which clears it. None
     /// comes exactly where no tunnel stands there.
     #[inline(never)]
-    pub fn stop(&mut self, at: usize, now: u64) -> Option<Told>
+    pub fn stop(&mut self, at: usize, now: u64) -> Option<TunnelOutcome>
         ensures told { option_map telling_of result ≡ (stopped now self.old at).told }
         ensures after { self.new ≡ (stopped now self.old at).after }
         ensures one { IfSome result (λ t. length (payloads t.step.outs.items) ≤ 1) }
@@ -253,7 +253,7 @@ impl Tunnels {
 
     // The tunnel at a place takes a message.
     #[inline(never)]
-    fn hear_at(&mut self, at: usize, came: &Came, message: &Control<'_>) -> Taken
+    fn hear_at(&mut self, at: usize, came: &Came, message: &Control<'_>) -> MessageOutcome
         requires within { at < length self.old.places }
         requires stands { (p : PlaceView) → slice_get self.old.places at ≡ Some p → stands p.tunnel.phase ≡ true }
         ensures answer { answer_of result ≡ (heard_by self.old came.now (control_of message.now) (slice_get self.old.places at)).answer }
@@ -265,14 +265,14 @@ impl Tunnels {
 
     // A message for the tunnel with its Tunnel ID.
     #[inline(never)]
-    fn hear_named(&mut self, came: &Came, message: &Control<'_>) -> Taken
+    fn hear_named(&mut self, came: &Came, message: &Control<'_>) -> MessageOutcome
         ensures answer { answer_of result ≡ (heard_by self.old came.now (control_of message.now) (find (is_named came.now.from message.now.tunnel) self.old.places)).answer }
         ensures after { self.new ≡ (heard_by self.old came.now (control_of message.now) (find (is_named came.now.from message.now.tunnel) self.old.places)).after }
         ensures taken { IsTaken (answer_of result) self.new }
     {
         match named_place(self.places.as_slice(), came.from, message.tunnel) {
             Some(at) => self.hear_at(at, came, message),
-            None => Taken::Unknown,
+            None => MessageOutcome::Unknown,
         }
     }
 
@@ -284,7 +284,7 @@ impl Tunnels {
         lac: Option<&Lac>,
         came: &Came,
         message: &Control<'_>,
-    ) -> Taken
+    ) -> MessageOutcome
         ensures answer { answer_of result ≡ (requested name.now.items (option_copied lac.entry) self.old came.now (control_of message.now)).answer }
         ensures after { self.new ≡ (requested name.now.items (option_copied lac.entry) self.old came.now (control_of message.now)).after }
         ensures taken { IsTaken (answer_of result) self.new }
@@ -304,7 +304,7 @@ impl Tunnels {
         lac: Option<&Lac>,
         came: &Came,
         message: &Control<'_>,
-    ) -> Taken
+    ) -> MessageOutcome
         ensures answer { answer_of result ≡ (requested_by name.now.items (option_copied lac.entry) self.old came.now (control_of message.now) None).answer }
         ensures after { self.new ≡ (requested_by name.now.items (option_copied lac.entry) self.old came.now (control_of message.now) None).after }
         ensures taken { IsTaken (answer_of result) self.new }
@@ -316,7 +316,7 @@ impl Tunnels {
 
     // A tunnel that has taken no message takes an SCCRQ, and where it is made by that, the place of its number.
     #[inline(never)]
-    fn make(&mut self, at: usize, mut tunnel: Tunnel, came: &Came, message: &Control<'_>) -> Taken
+    fn make(&mut self, at: usize, mut tunnel: Tunnel, came: &Came, message: &Control<'_>) -> MessageOutcome
         requires at { at ≡ free_place_of came.now.moment self.old }
         requires number { tunnel.number ≡ vacant came.now.moment self.old }
         requires sound { IsTunnel tunnel }
@@ -327,19 +327,19 @@ impl Tunnels {
     {
         let step = tunnel.on_message(message, &came.random, came.moment);
         if !tunnel.is_standing() {
-            return Taken::Step {
+            return MessageOutcome::Step {
                 number: TunnelNo(0),
                 step,
             };
         }
         let number = tunnel.number();
         let since = came.moment;
-        self.put(at, Place { tunnel, since });
-        Taken::Step { number, step }
+        self.put(at, TunnelPlace { tunnel, since });
+        MessageOutcome::Step { number, step }
     }
 
     // A tunnel takes the place of its number: one of those that there are, or else the next.
-    fn put(&mut self, at: usize, place: Place)
+    fn put(&mut self, at: usize, place: TunnelPlace)
         requires within { at < 16 }
         requires next { at ≤ length self.old.places }
         requires place { IsPlace (number_at self.old.shard at) place }

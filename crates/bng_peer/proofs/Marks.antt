@@ -1,12 +1,12 @@
 -- Marks of who stands in a queue, one of which is set.
 use Rattle.std.proofs.Common.{◌≡◌, ℕ, zero, suc, ◌≤◌, Bool, List, [], ◌∷◌, length, set, map, refl, sym, ap, ◌∙◌, arith}
 use Rattle.std.proofs.lemmas.List.{map-set}
-use Rattle.bng_peer.specs.declared.queue.Link.{Link}
+use Rattle.bng_peer.specs.declared.queue.QueueLink.{QueueLink}
 use Rattle.bng_peer.specs.Queue.{stands_at}
 
 -- of links one of which is another
-pub of_links : (links : List Link) (number : ℕ) (link : Link) → map (λ (l : Link). l.is_in) (set links number link) ≡ set (map (λ (l : Link). l.is_in) links) number link.is_in
-of_links links number link = map-set (λ (l : Link). l.is_in) links number link
+pub of_links : (links : List QueueLink) (number : ℕ) (link : QueueLink) → map (λ (l : QueueLink). l.is_in) (set links number link) ≡ set (map (λ (l : QueueLink). l.is_in) links) number link.is_in
+of_links links number link = map-set (λ (l : QueueLink). l.is_in) links number link
 
 -- a mark that is set to what it is
 pub as_it_is : (list : List Bool) (number : ℕ) → set list number (stands_at list number) ≡ list
@@ -23,6 +23,6 @@ past_end [] number b past = refl
 past_end (a ∷ list) zero b past = absurd (omega arith)
 past_end (a ∷ list) (suc number) b past = ap (λ (rest : List Bool). a ∷ rest) (past_end list number b (omega arith))
 
-pub as_many : (links : List Link) → length (map (λ (l : Link). l.is_in) links) ≡ length links
+pub as_many : (links : List QueueLink) → length (map (λ (l : QueueLink). l.is_in) links) ≡ length links
 as_many [] = refl
 as_many (l ∷ links) = omega (arith, as_many links)

@@ -4,7 +4,7 @@ ghost use Rattle.std.specs.Prelude.{◌≤◌, length};
 use crate::asking::Asking;
 use crate::packet::{Body, body_of, control_frame, put_all};
 use crate::script::{is_pap, name};
-use crate::subscriber::{Stage, Subscriber};
+use crate::subscriber::{SubscriberStage, Subscriber};
 use bng_base::Frame;
 use bng_digest::chap_value;
 use bng_ppp_wire::code::{AUTHENTICATE_ACK, AUTHENTICATE_REQUEST, CHALLENGE, RESPONSE, SUCCESS};
@@ -69,7 +69,7 @@ impl Subscriber {
             return;
         };
         let size = usize::from(*size);
-        if self.stage != Stage::Authenticating {
+        if self.stage != SubscriberStage::Authenticating {
             return;
         }
         if rest.len() < size {
@@ -83,8 +83,8 @@ impl Subscriber {
 
     // It was let in, and asks for its address.
     fn try_to_address(&mut self) {
-        if self.stage == Stage::Authenticating {
-            self.enter(Stage::Addressing, Asking::ToSend);
+        if self.stage == SubscriberStage::Authenticating {
+            self.enter(SubscriberStage::Addressing, Asking::ToSend);
         }
     }
 }

@@ -4,7 +4,7 @@ ghost use Rattle.bng_pppoe_wire.specs.View.{frame_of as view_of};
 
 use crate::asking::Asking;
 use crate::script::mac_of;
-use crate::subscriber::{Stage, Subscriber};
+use crate::subscriber::{SubscriberStage, Subscriber};
 use bng_base::{Frame, Mac, Written};
 use bng_ppp_wire::Ppp;
 use bng_pppoe_wire::code::{PADI, PADO, PADR, PADS, PADT, SESSION_DATA};
@@ -110,11 +110,11 @@ impl Subscriber {
             return None;
         }
         match self.stage {
-            Stage::Initiating => {
+            SubscriberStage::Initiating => {
                 self.asking = Asking::Sent;
                 Some(self.padi())
             }
-            Stage::Requesting => {
+            SubscriberStage::Requesting => {
                 self.asking = Asking::Sent;
                 Some(self.padr())
             }
@@ -150,7 +150,7 @@ impl Subscriber {
     fn hear_offer(&mut self, frame: &Pppoe<'_>)
         requires { HasFewTags (view_of frame.now) }
     {
-        if self.stage != Stage::Initiating {
+        if self.stage != SubscriberStage::Initiating {
             return;
         }
         if !frame.discovery {
@@ -162,7 +162,7 @@ impl Subscriber {
         };
         if let Some(cookie) = sixteen(value) {
             self.cookie = cookie;
-            self.enter(Stage::Requesting, Asking::ToSend);
+            self.enter(SubscriberStage::Requesting, Asking::ToSend);
         }
     }
 
@@ -173,9 +173,9 @@ impl Subscriber {
     }
 
     fn hear_confirmation(&mut self, frame: &Pppoe<'_>) {
-        if self.stage == Stage::Requesting && frame.session != 0 {
+        if self.stage == SubscriberStage::Requesting && frame.session != 0 {
             self.session = frame.session;
-            self.enter(Stage::Configuring, Asking::ToSend);
+            self.enter(SubscriberStage::Configuring, Asking::ToSend);
         }
     }
 }

@@ -7,7 +7,7 @@ ghost use Rattle.bng_peer.specs.Script.{packet_up, packet_down};
 use crate::asking::Asking;
 use crate::packet::{ipv4_packet, number_in, ppp_frame};
 use crate::script::{HOST, octets_down, octets_up, packets_down, packets_up};
-use crate::subscriber::{Stage, Subscriber};
+use crate::subscriber::{SubscriberStage, Subscriber};
 use bng_base::Frame;
 use bng_ppp_wire::protocol;
 
@@ -32,7 +32,7 @@ impl Subscriber {
 
     /// A packet of it reached the core. After the first one the core sends it packets too.
     pub(crate) fn reach_core(&mut self, packet: &[u8]) {
-        if self.stage != Stage::Exchanging || number_in(packet) != Some(self.sent) {
+        if self.stage != SubscriberStage::Exchanging || number_in(packet) != Some(self.sent) {
             return;
         }
         if self.sent == 0 && packets_down(self.number) > 0 {
@@ -49,7 +49,7 @@ impl Subscriber {
 
     /// Takes a packet of the core.
     pub(crate) fn hear_packet(&mut self, packet: &[u8]) {
-        if self.stage != Stage::Exchanging || number_in(packet) != Some(self.received) {
+        if self.stage != SubscriberStage::Exchanging || number_in(packet) != Some(self.received) {
             return;
         }
         self.received = self.received.saturating_add(1);
@@ -63,7 +63,7 @@ impl Subscriber {
 
     fn try_to_rest(&mut self) {
         if self.sent == packets_up(self.number) && self.received == packets_down(self.number) {
-            self.enter(Stage::Resting, Asking::Nothing);
+            self.enter(SubscriberStage::Resting, Asking::Nothing);
         }
     }
 }

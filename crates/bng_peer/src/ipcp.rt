@@ -1,10 +1,10 @@
 //! The subscriber's side of IPCP (RFC 1332 section 3).
 use crate::asking::Asking;
 use crate::packet::control_frame;
-use crate::subscriber::{Stage, Subscriber};
+use crate::subscriber::{SubscriberStage, Subscriber};
 use bng_base::{Frame, Ip4};
 use bng_ppp_wire::code::{CONFIGURE_ACK, CONFIGURE_REQUEST};
-use bng_ppp_wire::{MadeOpt, Opt, Packet, Reply, made, protocol, put_made, read_reply};
+use bng_ppp_wire::{MadeOpt, Opt, Packet, ConfigureReply, made, protocol, put_made, read_reply};
 
 const IP_ADDRESS: u8 = 3;
 
@@ -32,7 +32,7 @@ impl Subscriber {
 
     /// Takes a packet of IPCP.
     pub(crate) fn hear_ipcp(&mut self, packet: &Packet<'_>) {
-        if self.stage != Stage::Addressing {
+        if self.stage != SubscriberStage::Addressing {
             return;
         }
         if packet.code == CONFIGURE_REQUEST {
@@ -42,13 +42,13 @@ impl Subscriber {
             return;
         }
         match read_reply(self.id, &self.ipcp_options(), packet) {
-            Reply::Ack => {
+            ConfigureReply::Ack => {
                 self.is_acked = true;
                 self.asking = Asking::Nothing;
                 self.try_to_exchange();
             }
-            Reply::Nak(options) => self.take_address(options.as_slice()),
-            Reply::Reject(_) | Reply::Other => {}
+            ConfigureReply::Nak(options) => self.take_address(options.as_slice()),
+            ConfigureReply::Reject(_) | ConfigureReply::Other => {}
         }
     }
 
@@ -64,7 +64,7 @@ impl Subscriber {
     // Where IPCP is open, it sends its first packet.
     fn try_to_exchange(&mut self) {
         if self.is_acked && self.has_acked {
-            self.enter(Stage::Exchanging, Asking::ToSend);
+            self.enter(SubscriberStage::Exchanging, Asking::ToSend);
         }
     }
 }

@@ -38,7 +38,7 @@ pub(crate) enum News {
 
 /// An access concentrator.
 #[derive(Drop)]
-pub(crate) struct Lac {
+pub(crate) struct PeerLac {
     /// The number that it gives its tunnel.
     pub(crate) number: u16,
     /// The number that the gateway gave it, 0 where none is known.
@@ -81,12 +81,12 @@ fn response(challenge: &[u8]) -> [u8; 16] {
     md5_of(&[&[SCCCN as u8], LAC_SECRET, challenge])
 }
 
-impl Lac {
+impl PeerLac {
     /// The access concentrator at this place, from 0. It asks for a tunnel.
     #[inline(never)]
-    pub(crate) fn new(place: u16, subscribers: u32) -> Lac {
+    pub(crate) fn new(place: u16, subscribers: u32) -> PeerLac {
         let number = if place == 0 { 1 } else { 2 };
-        let mut lac = Lac {
+        let mut lac = PeerLac {
             number,
             tunnel: 0,
             channel: Channel::new(WINDOW, 0),

@@ -4,13 +4,13 @@ ghost use Rattle.std.specs.Prelude.{◌≤◌, length};
 use crate::asking::Asking;
 use crate::packet::{body_of, control_frame, put_all};
 use crate::script::is_pap;
-use crate::subscriber::{Stage, Subscriber};
+use crate::subscriber::{SubscriberStage, Subscriber};
 use bng_base::{Frame, Written};
 use bng_ppp_wire::code::{
     CONFIGURE_ACK, CONFIGURE_NAK, CONFIGURE_REQUEST, ECHO_REPLY, ECHO_REQUEST, TERMINATE_ACK,
     TERMINATE_REQUEST,
 };
-use bng_ppp_wire::{MadeOpt, Opt, Packet, Reply, made, options, protocol, put_made, read_reply};
+use bng_ppp_wire::{MadeOpt, Opt, Packet, ConfigureReply, made, options, protocol, put_made, read_reply};
 
 const MRU: u8 = 1;
 
@@ -77,7 +77,7 @@ impl Subscriber {
             CONFIGURE_ACK => self.hear_lcp_ack(packet),
             TERMINATE_REQUEST => self.owe(protocol::LCP, TERMINATE_ACK, packet.id, &[]),
             TERMINATE_ACK => {
-                if self.stage == Stage::Terminating {
+                if self.stage == SubscriberStage::Terminating {
                     self.asking = Asking::Nothing;
                 }
             }
@@ -104,10 +104,10 @@ impl Subscriber {
     }
 
     fn hear_lcp_ack(&mut self, packet: &Packet<'_>) {
-        if self.stage != Stage::Configuring {
+        if self.stage != SubscriberStage::Configuring {
             return;
         }
-        if let Reply::Ack = read_reply(self.id, &self.lcp_options(), packet) {
+        if let ConfigureReply::Ack = read_reply(self.id, &self.lcp_options(), packet) {
             self.is_acked = true;
             self.asking = Asking::Nothing;
             self.try_to_authenticate();
@@ -116,7 +116,7 @@ impl Subscriber {
 
     // Where LCP is open: a subscriber of PAP sends its request, one of CHAP waits for the Challenge.
     fn try_to_authenticate(&mut self) {
-        if self.stage != Stage::Configuring || !self.is_acked || !self.has_acked {
+        if self.stage != SubscriberStage::Configuring || !self.is_acked || !self.has_acked {
             return;
         }
         let asking = if is_pap(self.number) {
@@ -124,7 +124,7 @@ impl Subscriber {
         } else {
             Asking::Nothing
         };
-        self.enter(Stage::Authenticating, asking);
+        self.enter(SubscriberStage::Authenticating, asking);
     }
 
     // An Echo-Reply has its sender's Magic-Number and the request's Data (RFC 1661 section 5.8).

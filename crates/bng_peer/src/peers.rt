@@ -2,12 +2,12 @@
 ghost use Rattle.std.specs.Prelude.{◌≤◌};
 
 use crate::asking::Asking;
-use crate::lac::{Lac, News};
+use crate::lac::{PeerLac, News};
 use crate::operator::Operator;
 use crate::queue::Queue;
 use crate::script::{LACS, ends, is_called, lac_of, subscriber_at};
-use crate::server::{Acknowledged, Server, Status};
-use crate::subscriber::{Stage, Subscriber};
+use crate::server::{Acknowledged, PeerServer, Status};
+use crate::subscriber::{SubscriberStage, Subscriber};
 use crate::timers::Timers;
 use bng_base::{Frame, Ip4, Peer};
 use bng_l2tp_wire::{Control, Data};
@@ -27,9 +27,9 @@ const TRIES: usize = 3;
 pub(crate) struct Peers {
     subscribers: Vec<Subscriber>,
     count: u32,
-    lacs: Vec<Lac>,
-    auth: Server,
-    acct: Server,
+    lacs: Vec<PeerLac>,
+    auth: PeerServer,
+    acct: PeerServer,
     operator: Operator,
     access: Queue,
     core: Queue,
@@ -42,9 +42,9 @@ pub(crate) struct Peers {
 /// A subscriber before it says anything: one over PPPoE is ready at once.
 fn newcomer(number: u16) -> Subscriber {
     if is_called(number) {
-        Subscriber::new(number, Stage::Calling, Asking::Nothing)
+        Subscriber::new(number, SubscriberStage::Calling, Asking::Nothing)
     } else {
-        Subscriber::new(number, Stage::Initiating, Asking::ToSend)
+        Subscriber::new(number, SubscriberStage::Initiating, Asking::ToSend)
     }
 }
 
@@ -58,10 +58,10 @@ fn newcomers(alloc: Global, count: u32) -> Result<Vec<Subscriber>, AllocError> {
 
 // The two access concentrators, each with its channel's queue of some 37 KB.
 #[inline(never)]
-fn both_lacs(alloc: Global, count: u32) -> Result<Vec<Lac>, AllocError> {
+fn both_lacs(alloc: Global, count: u32) -> Result<Vec<PeerLac>, AllocError> {
     let mut lacs = Vec::new(alloc);
     for place in 0..2 {
-        lacs.push(Lac::new(place, count))?;
+        lacs.push(PeerLac::new(place, count))?;
     }
     Ok(lacs)
 }
@@ -85,8 +85,8 @@ impl Peers {
             subscribers: newcomers(alloc, count)?,
             count,
             lacs: both_lacs(alloc, count)?,
-            auth: Server::new(alloc)?,
-            acct: Server::new(alloc)?,
+            auth: PeerServer::new(alloc)?,
+            acct: PeerServer::new(alloc)?,
             operator: Operator::new(count),
             access: Queue::new(alloc, bound)?,
             core: Queue::new(alloc, bound)?,
@@ -289,15 +289,15 @@ impl Peers {
     }
 
     // A subscriber heard something, or a packet of it reached the core.
-    fn follow(&mut self, number: u32, was: Stage) {
+    fn follow(&mut self, number: u32, was: SubscriberStage) {
         let Some(subscriber) = self.subscribers.get(number as usize) else {
             return;
         };
         let place = (subscriber.address.0 % ADDRESSES) as usize;
-        if was == Stage::Exchanging && subscriber.stage == Stage::Resting {
+        if was == SubscriberStage::Exchanging && subscriber.stage == SubscriberStage::Resting {
             self.operator.note_rest();
         }
-        if was == Stage::Addressing && subscriber.stage == Stage::Exchanging {
+        if was == SubscriberStage::Addressing && subscriber.stage == SubscriberStage::Exchanging {
             if let Some(addressed) = self.addressed.get_mut(place) {
                 *addressed = subscriber.number.saturating_add(1);
             }

@@ -9,14 +9,14 @@ const NONE: u32 = u32::MAX;
 
 /// Who stands before and behind a place of the queue.
 #[derive(Clone, Copy)]
-struct Link {
+struct QueueLink {
     is_in: bool,
     before: u32,
     behind: u32,
 }
 
 /// The link of who is not in the queue.
-const OUT: Link = Link {
+const OUT: QueueLink = QueueLink {
     is_in: false,
     before: NONE,
     behind: NONE,
@@ -26,7 +26,7 @@ const OUT: Link = Link {
 /// same time, however many stand in it.
 #[derive(Drop)]
 pub(crate) struct Queue {
-    links: Vec<Link>,
+    links: Vec<QueueLink>,
     first: u32,
     last: u32,
 }
@@ -46,7 +46,7 @@ impl Queue {
         })
     }
 
-    fn link(&self, number: u32) -> Link
+    fn link(&self, number: u32) -> QueueLink
         ensures { result.is_in ≡ stands_at (marks self.now) number }
     {
         match self.links.get(number as usize) {
@@ -55,7 +55,7 @@ impl Queue {
         }
     }
 
-    fn put(&mut self, number: u32, link: Link)
+    fn put(&mut self, number: u32, link: QueueLink)
         ensures { marks self.new ≡ slice_set (marks self.old) number link.is_in }
     {
         if let Some(place) = self.links.get_mut(number as usize) {
@@ -72,7 +72,7 @@ impl Queue {
             return;
         }
         let link = self.link(before);
-        self.put(before, Link { behind, ..link });
+        self.put(before, QueueLink { behind, ..link });
     }
 
     // Puts a number before a place, or last.
@@ -84,7 +84,7 @@ impl Queue {
             return;
         }
         let link = self.link(behind);
-        self.put(behind, Link { before, ..link });
+        self.put(behind, QueueLink { before, ..link });
     }
 
     fn join(&mut self, before: u32, behind: u32)
@@ -111,7 +111,7 @@ impl Queue {
         let last = self.last;
         self.put(
             number,
-            Link {
+            QueueLink {
                 is_in: true,
                 before: last,
                 behind: NONE,

@@ -39,7 +39,7 @@ pub(crate) enum Status {
 
 /// A request that is to be answered.
 #[derive(Clone, Copy)]
-struct Asked {
+struct OpenRequest {
     authenticator: [u8; 16],
     status: Status,
     subscriber: Option<u16>,
@@ -54,8 +54,8 @@ pub(crate) struct Acknowledged {
 
 /// One of the server's two ends: its requests by their Identifiers, of which each that is open is another.
 #[derive(Drop)]
-pub(crate) struct Server {
-    asked: Vec<Asked>,
+pub(crate) struct PeerServer {
+    asked: Vec<OpenRequest>,
     ready: Queue,
 }
 
@@ -71,8 +71,8 @@ fn status_of(value: &[u8]) -> Status {
 }
 
 // What is kept of a request.
-fn asked_by(request: &Radius<'_>) -> Asked {
-    let mut asked = Asked {
+fn asked_by(request: &Radius<'_>) -> OpenRequest {
+    let mut asked = OpenRequest {
         authenticator: request.authenticator,
         status: Status::Other,
         subscriber: None,
@@ -141,18 +141,18 @@ pub(crate) fn acknowledge(id: u8, authenticator: &[u8; 16]) -> Frame
     signed(&reply, authenticator)
 }
 
-impl Server {
+impl PeerServer {
     /// An end that has no request.
-    pub(crate) fn new(alloc: Global) -> Result<Server, AllocError> {
+    pub(crate) fn new(alloc: Global) -> Result<PeerServer, AllocError> {
         let mut asked = Vec::new(alloc);
         for _ in 0..IDENTIFIERS {
-            asked.push(Asked {
+            asked.push(OpenRequest {
                 authenticator: [0; 16],
                 status: Status::Other,
                 subscriber: None,
             })?;
         }
-        Ok(Server {
+        Ok(PeerServer {
             asked,
             ready: Queue::new(alloc, IDENTIFIERS)?,
         })
@@ -172,7 +172,7 @@ impl Server {
         self.ready.push(u32::from(request.id));
     }
 
-    fn next(&mut self) -> Option<(u8, Asked)> {
+    fn next(&mut self) -> Option<(u8, OpenRequest)> {
         let id = self.ready.pop()?;
         let asked = self.asked.get(id as usize)?;
         Some(((id % 256) as u8, *asked))

@@ -7,7 +7,7 @@ use bng_ppp_wire::{Packet, Ppp, protocol};
 
 /// What a subscriber is about.
 #[derive(Clone, Copy, Default)]
-pub(crate) enum Stage {
+pub(crate) enum SubscriberStage {
     /// Over PPPoE: it looks for access concentrators (RFC 2516 section 5.1).
     #[default]
     Initiating,
@@ -33,7 +33,7 @@ pub(crate) enum Stage {
 
 /// A reply that is to be sent.
 #[derive(Default, Drop)]
-pub(crate) struct Reply {
+pub(crate) struct PeerReply {
     pub(crate) protocol: u16,
     pub(crate) code: u8,
     pub(crate) id: u8,
@@ -44,11 +44,11 @@ pub(crate) struct Reply {
 #[derive(Drop)]
 pub(crate) struct Subscriber {
     pub(crate) number: u16,
-    pub(crate) stage: Stage,
+    pub(crate) stage: SubscriberStage,
     /// What became of what the stage sends.
     pub(crate) asking: Asking,
     /// The replies that it owes, oldest first.
-    pub(crate) owed: ArrayVec<Reply, 4>,
+    pub(crate) owed: ArrayVec<PeerReply, 4>,
     /// The number of its session: its SESSION_ID, or the gateway's Session ID.
     pub(crate) session: u16,
     /// The AC-Cookie of the PADO.
@@ -79,7 +79,7 @@ pub(crate) struct Subscriber {
 
 impl Subscriber {
     /// The subscriber with this number, before it says anything.
-    pub(crate) fn new(number: u16, stage: Stage, asking: Asking) -> Subscriber {
+    pub(crate) fn new(number: u16, stage: SubscriberStage, asking: Asking) -> Subscriber {
         Subscriber {
             number,
             stage,
@@ -107,7 +107,7 @@ impl Subscriber {
     }
 
     /// Goes on to a stage that sends something at once, or that first waits.
-    pub(crate) fn enter(&mut self, stage: Stage, asking: Asking) {
+    pub(crate) fn enter(&mut self, stage: SubscriberStage, asking: Asking) {
         self.stage = stage;
         self.asking = asking;
         self.id = 1;
@@ -117,15 +117,15 @@ impl Subscriber {
 
     /// Ends its link, unless its session has ended.
     pub(crate) fn end_link(&mut self) {
-        if self.stage == Stage::Resting {
-            self.enter(Stage::Terminating, Asking::ToSend);
+        if self.stage == SubscriberStage::Resting {
+            self.enter(SubscriberStage::Terminating, Asking::ToSend);
         }
     }
 
     /// Owes a reply. Where it owes as many as there is room for it is left out, and the gateway will ask again.
     pub(crate) fn owe(&mut self, protocol: u16, code: u8, id: u8, body: &[u8]) {
         if !self.owed.is_full() {
-            self.owed.push(Reply {
+            self.owed.push(PeerReply {
                 protocol,
                 code,
                 id,
@@ -144,20 +144,20 @@ impl Subscriber {
     pub(crate) fn request(&mut self) -> Option<Frame> {
         self.asking = Asking::Sent;
         match self.stage {
-            Stage::Configuring => Some(self.lcp_request()),
-            Stage::Authenticating => Some(self.credentials()),
-            Stage::Addressing => Some(self.ipcp_request()),
-            Stage::Exchanging => Some(self.packet()),
-            Stage::Terminating => Some(self.terminate_request()),
-            Stage::Initiating | Stage::Requesting | Stage::Calling | Stage::Resting | Stage::Over =>
+            SubscriberStage::Configuring => Some(self.lcp_request()),
+            SubscriberStage::Authenticating => Some(self.credentials()),
+            SubscriberStage::Addressing => Some(self.ipcp_request()),
+            SubscriberStage::Exchanging => Some(self.packet()),
+            SubscriberStage::Terminating => Some(self.terminate_request()),
+            SubscriberStage::Initiating | SubscriberStage::Requesting | SubscriberStage::Calling | SubscriberStage::Resting | SubscriberStage::Over =>
                 None,
         }
     }
 
     /// Takes a PPP frame.
     pub(crate) fn hear(&mut self, frame: &Ppp<'_>) {
-        if self.stage == Stage::Calling {
-            self.enter(Stage::Configuring, Asking::ToSend);
+        if self.stage == SubscriberStage::Calling {
+            self.enter(SubscriberStage::Configuring, Asking::ToSend);
         }
         if frame.protocol == protocol::IPV4 {
             self.hear_packet(frame.info);
@@ -177,7 +177,7 @@ impl Subscriber {
 
     /// Its session has ended.
     pub(crate) fn end(&mut self) {
-        self.stage = Stage::Over;
+        self.stage = SubscriberStage::Over;
         self.asking = Asking::Nothing;
         self.core_asking = Asking::Nothing;
         self.owed.clear();

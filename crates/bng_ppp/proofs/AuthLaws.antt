@@ -11,7 +11,7 @@ use Rattle.bng_ppp.specs.declared.authentication.Authentication.{Authentication}
 use Rattle.bng_ppp.specs.declared.authentication.Authentication.TheVariants as auth
 use Rattle.bng_ppp.specs.Authentication.{AuthTakes, AuthSettles}
 use Rattle.bng_ppp.specs.Phases.{is_begun}
-use Rattle.bng_ppp.specs.PppState.{is_open, is_accepted}
+use Rattle.bng_ppp.specs.LinkState.{is_open, is_accepted}
 
 -- Verdicts --------------------------------------------------------------------------------------------------------------
 

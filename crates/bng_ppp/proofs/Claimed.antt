@@ -15,14 +15,14 @@ use Rattle.bng_ppp_wire.specs.View.{packet_of}
 use Rattle.bng_ppp.specs.declared.authentication.Authentication.{Authentication}
 use Rattle.bng_ppp.specs.declared.authentication.Authentication.TheVariants as auth
 use Rattle.bng_ppp.specs.declared.rules.LinkRules.{LinkRules}
-use Rattle.bng_ppp.specs.declared.whole_frame.Way.{Way}
-use Rattle.bng_ppp.specs.declared.whole_frame.Way.TheVariants as way
+use Rattle.bng_ppp.specs.declared.link_frame.FrameOwner.{FrameOwner}
+use Rattle.bng_ppp.specs.declared.link_frame.FrameOwner.TheVariants as way
 use Rattle.bng_ppp.specs.Authentication.{AuthTakes}
 use Rattle.bng_ppp.specs.Claims.{Claim, claim_of, password, response, shown_of}
 use Rattle.bng_ppp.specs.Layers.{Turn, Above, LcpStep, LcpSteps, authenticates, begun, lcp_hears}
-use Rattle.bng_ppp.specs.LinkState.{is_opened}
-use Rattle.bng_ppp.specs.PppState.{PppState, takes_protocol}
-use Rattle.bng_ppp.specs.WholeFrame.{AuthDoes, HearsOctets, HearsWay, IsWay}
+use Rattle.bng_ppp.specs.LcpState.{is_opened}
+use Rattle.bng_ppp.specs.LinkState.{LinkState, takes_protocol}
+use Rattle.bng_ppp.specs.LinkFrame.{AuthDoes, HearsOctets, HearsWay, IsWay}
 use Rattle.bng_ppp.specs.Saying.{Says}
 
 same_some : (a b : Claim) → Some a ≡ Some b → a ≡ b
@@ -83,10 +83,10 @@ module _ (r : LinkRules) (now : ℕ) (random : List ℕ) where
   above_silent false true t after m = ap (λ (u : Turn). u.asked) m.done
   above_silent false false t after e = ap (λ (u : Turn). u.asked) e
 
-  lcp_silent : (Step : LcpStep) (old : PppState) (after : Turn) → LcpSteps r Step now random old after → after.asked ≡ None
+  lcp_silent : (Step : LcpStep) (old : LinkState) (after : Turn) → LcpSteps r Step now random old after → after.asked ≡ None
   lcp_silent Step old after x = above_silent x.says.opened _ _ after x.above
 
-  does_says : (s : AuthStep) (a : Authentication) (p : ControlPacket) (f : PppFrame) (octets : List ℕ) (old : PppState) (after : Turn) (claim : Claim)
+  does_says : (s : AuthStep) (a : Authentication) (p : ControlPacket) (f : PppFrame) (octets : List ℕ) (old : LinkState) (after : Turn) (claim : Claim)
       → AuthTakes old.auth p s a → AuthDoes s r now random a (begun old) after → takes_protocol old.auth f.protocol ≡ true → IsPpp f octets → IsControlPacket p f.info
       → after.asked ≡ Some claim → Says old.auth octets claim
   does_says (Ask c) a p f octets old after claim takes e protocol is packet asks =
@@ -96,7 +96,7 @@ module _ (r : LinkRules) (now : ℕ) (random : List ℕ) where
   does_says Refuse a p f octets old after claim takes x protocol is packet asks = both_ways after.asked claim (above_silent x.closes.doing.said.opened _ _ after x.closes.above) asks
   does_says Ignore a p f octets old after claim takes e protocol is packet asks = both_ways after.asked claim (ap (λ (t : Turn). t.asked) e) asks
 
-  way_says : (w : Way) (octets : List ℕ) (old : PppState) (after : Turn) (claim : Claim) → IsWay old octets w → HearsWay w r octets now random old after → after.asked ≡ Some claim → Says old.auth octets claim
+  way_says : (w : FrameOwner) (octets : List ℕ) (old : LinkState) (after : Turn) (claim : Claim) → IsWay old octets w → HearsWay w r octets now random old after → after.asked ≡ Some claim → Says old.auth octets claim
   way_says (way.Auth p) octets old after claim (short, (f, is, for_auth, packet)) x asks =
       let protocol = (and_parts (is_opened old.lcp.lcp.state) (takes_protocol old.auth f.protocol) for_auth).1 in
       does_says x.step x.auth (packet_of p) f octets old after claim x.takes x.does protocol is packet asks
@@ -107,5 +107,5 @@ module _ (r : LinkRules) (now : ℕ) (random : List ℕ) where
   way_says way.Lcp octets old after claim is (inr (differs, steps)) asks = both_ways after.asked claim (lcp_silent (lcp_hears r octets now random) old after steps) asks
 
   -- what is asked by a frame stands in it
-  pub octets_say : (octets : List ℕ) (old : PppState) (after : Turn) (claim : Claim) → HearsOctets r octets now random old after → after.asked ≡ Some claim → Says old.auth octets claim
+  pub octets_say : (octets : List ℕ) (old : LinkState) (after : Turn) (claim : Claim) → HearsOctets r octets now random old after → after.asked ≡ Some claim → Says old.auth octets claim
   octets_say octets old after claim h asks = way_says h.way octets old after claim h.is h.hears asks

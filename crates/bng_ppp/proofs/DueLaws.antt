@@ -2,7 +2,7 @@
 use Rattle.std.proofs.Common.{◌↔◌, ◌+◌, ◌≤◌, ◌⊎◌, inl, inr, ℕ, Option, Some, None, option_map, arith}
 use Rattle.std.specs.Prelude.{IsSomeAnd}
 use Rattle.std.proofs.lemmas.Bool.Decides.{leb_tells}
-use Rattle.bng_ppp.specs.LinkRelation.{earliest}
+use Rattle.bng_ppp.specs.LcpRelation.{earliest}
 
 -- the moment is there, and has come
 abbrev pub IsDue : Option ℕ → ℕ → Type 0

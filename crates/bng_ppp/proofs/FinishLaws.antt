@@ -24,31 +24,31 @@ use Rattle.bng_ppp.specs.declared.authentication.Authentication.{Authentication}
 use Rattle.bng_ppp.specs.declared.authentication.Authentication.TheVariants as auth
 use Rattle.bng_ppp.specs.declared.codes.Kind.{Kind}
 use Rattle.bng_ppp.specs.declared.codes.Kind.TheVariants.{Request, Reply, Plain, Echo, Mute, EchoReply, Unknown}
-use Rattle.bng_ppp.specs.declared.frame.Heard.{Heard}
-use Rattle.bng_ppp.specs.declared.frame.Heard.TheVariants.{NoFrame, NoPacket, Long, Lcp, Other}
-use Rattle.bng_ppp.specs.declared.rules.Input.{Input}
-use Rattle.bng_ppp.specs.declared.rules.Input.TheVariants as input
+use Rattle.bng_ppp.specs.declared.frame.FrameKind.{FrameKind}
+use Rattle.bng_ppp.specs.declared.frame.FrameKind.TheVariants.{NoFrame, NoPacket, Long, Lcp, Other}
+use Rattle.bng_ppp.specs.declared.rules.LcpInput.{LcpInput}
+use Rattle.bng_ppp.specs.declared.rules.LcpInput.TheVariants as input
 use Rattle.bng_ppp.specs.declared.rules.LinkRules.{LinkRules}
-use Rattle.bng_ppp.specs.declared.whole_frame.Way.{Way}
-use Rattle.bng_ppp.specs.declared.whole_frame.Way.TheVariants as way
-use Rattle.bng_ppp.specs.declared.whole_input.WholeInput.{WholeInput}
-use Rattle.bng_ppp.specs.declared.whole_input.WholeInput.TheVariants as told
+use Rattle.bng_ppp.specs.declared.link_frame.FrameOwner.{FrameOwner}
+use Rattle.bng_ppp.specs.declared.link_frame.FrameOwner.TheVariants as way
+use Rattle.bng_ppp.specs.declared.input.Input.{Input}
+use Rattle.bng_ppp.specs.declared.input.Input.TheVariants as told
 use Rattle.bng_ppp.specs.Automaton.{Doing, Why, Follows, Moves, Rests, acted, all_acted}
 use Rattle.bng_ppp.specs.Codes.{kind_of}
 use Rattle.bng_ppp.specs.ConfigureReply.{AfterReply}
 use Rattle.bng_ppp.specs.ConfigureRequest.{Judges}
 use Rattle.bng_ppp.specs.Layers.{Turn, begun, leaves, Above, authenticates, LcpStep, LcpSteps, LcpCloses, lcp_told, lcp_hears, with_auth_until}
-use Rattle.bng_ppp.specs.LinkRelation.{HearsKind, Hears, HearsFrame, LinkSteps}
-use Rattle.bng_ppp.specs.LinkState.{is_opened, LinkState}
+use Rattle.bng_ppp.specs.LcpRelation.{HearsKind, Hears, HearsFrame, LcpLinkSteps}
+use Rattle.bng_ppp.specs.LcpState.{is_opened, LcpState}
 use Rattle.bng_ppp.specs.LowerLayer.{Starts, Loses}
-use Rattle.bng_ppp.specs.PppRelation.{PppGoes, PppSaid, PppSteps, after_turn}
-use Rattle.bng_ppp.specs.PppState.{PppState, is_open}
+use Rattle.bng_ppp.specs.LinkRelation.{LinkGoes, LinkSaid, LinkSteps, after_turn}
+use Rattle.bng_ppp.specs.LinkState.{LinkState, is_open}
 use Rattle.bng_ppp.specs.ProtocolReject.{hears_other, is_rejected}
 use Rattle.bng_ppp.specs.Said.{Said, quiet}
 use Rattle.bng_ppp.specs.Timers.{Reminds}
 use Rattle.bng_ppp.specs.Verdict.{BeginsFor, Settles}
-use Rattle.bng_ppp.specs.WholeFrame.{AuthDoes, HearsWay, HearsOctets}
-use Rattle.bng_ppp.specs.WholeTimers.{AuthReminds, AboveReminds}
+use Rattle.bng_ppp.specs.LinkFrame.{AuthDoes, HearsWay, HearsOctets}
+use Rattle.bng_ppp.specs.LinkTimers.{AuthReminds, AboveReminds}
 use Rattle.bng_ppp.proofs.PhaseLaws.{follows_calm, or_assoc, or_false, or_true}
 use Rattle.bng_ppp.proofs.TermLaws.{is_tlf}
 
@@ -164,14 +164,14 @@ module _ (event : Event) (c : Why) (echo now : ℕ) (before after : Doing) (f : 
   follows_shut e = state_after (row_shut before.link.lcp event now f.actions f.machine f.steps (ap (λ (b : Bool). b || list_any is_tlf f.actions) e))
 
 -- what is told of its end, where it is told, is told of LCP that is not Opened
-abbrev ToldShut : Said → LinkState → Type 0
+abbrev ToldShut : Said → LcpState → Type 0
 ToldShut says new = says.finished ≡ true → is_opened new.lcp.state ≡ false
 
-silent_shut : (says : Said) (new : LinkState) → says.finished ≡ false → ToldShut says new
+silent_shut : (says : Said) (new : LcpState) → says.finished ≡ false → ToldShut says new
 silent_shut says new e f = not_so says.finished e f
 
-module _ (echo now : ℕ) (old : LinkState) (says : Said) (new : LinkState) where
-  moves_shut : (event : Event) (c : Why) (from : LinkState) → Moves event c echo now from says new → ToldShut says new
+module _ (echo now : ℕ) (old : LcpState) (says : Said) (new : LcpState) where
+  moves_shut : (event : Event) (c : Why) (from : LcpState) → Moves event c echo now from says new → ToldShut says new
   moves_shut event c from m e = ⊎_elim
       (λ (was : false ≡ true). not_so false refl was)
       (λ (shut : is_opened new.lcp.state ≡ false). shut)
@@ -206,7 +206,7 @@ module _ (echo now : ℕ) (old : LinkState) (says : Said) (new : LinkState) wher
   other_shut false octets e = silent_shut says new (ap (λ (s : Said). s.finished) e)
   other_shut true octets e = silent_shut says new (ap (λ (s : Said). s.finished) e)
 
-  heard_shut : (heard : Heard) (octets random : List ℕ) → Hears heard octets echo now random old says new → ToldShut says new
+  heard_shut : (heard : FrameKind) (octets random : List ℕ) → Hears heard octets echo now random old says new → ToldShut says new
   heard_shut NoFrame octets random h = rests_shut h
   heard_shut NoPacket octets random h = rests_shut h
   heard_shut Long octets random h = rests_shut h
@@ -236,7 +236,7 @@ module _ (echo now : ℕ) (old : LinkState) (says : Said) (new : LinkState) wher
       (λ (shut : is_opened new.lcp.state ≡ false). shut)
       (follows_finished Up _ echo now h.opened last h.on_up e)
 
-steps_shut : (r : LinkRules) (what : Input) (now : ℕ) (random : List ℕ) (old : LinkState) (says : Said) (new : LinkState) → LinkSteps r what now random old says new → ToldShut says new
+steps_shut : (r : LinkRules) (what : LcpInput) (now : ℕ) (random : List ℕ) (old : LcpState) (says : Said) (new : LcpState) → LcpLinkSteps r what now random old says new → ToldShut says new
 steps_shut r input.Start now random old says new h = starts_shut r.echo now old says new r.auth.items random h
 steps_shut r (input.Frame octets) now random old says new h = hears_shut r.echo now old says new octets.now random h
 steps_shut r input.Timer now random old says new h = reminds_shut r.echo now old says new h
@@ -253,7 +253,7 @@ equal_shut : (t u : Turn) → t ≡ u → Shut u → Shut t
 equal_shut t u e h = subst Shut (sym e) h
 
 -- nothing has finished yet
-begun_shut : (old : PppState) → Shut (begun old)
+begun_shut : (old : LinkState) → Shut (begun old)
 begun_shut old e = not_so false refl e
 
 module _ (r : LinkRules) (now : ℕ) (random : List ℕ) where
@@ -266,7 +266,7 @@ module _ (r : LinkRules) (now : ℕ) (random : List ℕ) where
   above_shut false true t after h m = equal_shut after _ m.done h
   above_shut false false t after h e = equal_shut after t e h
 
-  lcp_shut : (Step : LcpStep) (old : PppState) (after : Turn) → ((says : Said) (new : LinkState) → Step old.lcp says new → ToldShut says new) → LcpSteps r Step now random old after → Shut after
+  lcp_shut : (Step : LcpStep) (old : LinkState) (after : Turn) → ((says : Said) (new : LcpState) → Step old.lcp says new → ToldShut says new) → LcpSteps r Step now random old after → Shut after
   lcp_shut Step old after tells x = above_shut x.says.opened (leaves old.lcp x.lcp) _ after (tells x.says x.lcp x.steps) x.above
 
   -- LCP that does Close is not Opened then, whether it finished before or not
@@ -281,13 +281,13 @@ module _ (r : LinkRules) (now : ℕ) (random : List ℕ) where
   does_shut Refuse a t after h x = closes_shut _ after x.closes
   does_shut Ignore a t after h e = equal_shut after _ e h
 
-  told_shut : (what : Input) (old : PppState) (after : Turn) → LcpSteps r (lcp_told r what now random) now random old after → Shut after
+  told_shut : (what : LcpInput) (old : LinkState) (after : Turn) → LcpSteps r (lcp_told r what now random) now random old after → Shut after
   told_shut what old after x = lcp_shut (lcp_told r what now random) old after (λ says new s. steps_shut r what now random old.lcp says new s) x
 
-  frame_shut : (octets : List ℕ) (old : PppState) (after : Turn) → LcpSteps r (lcp_hears r octets now random) now random old after → Shut after
+  frame_shut : (octets : List ℕ) (old : LinkState) (after : Turn) → LcpSteps r (lcp_hears r octets now random) now random old after → Shut after
   frame_shut octets old after x = lcp_shut (lcp_hears r octets now random) old after (λ says new s. hears_shut r.echo now old.lcp says new octets random s) x
 
-  way_shut : (w : Way) (octets : List ℕ) (old : PppState) (after : Turn) → HearsWay w r octets now random old after → Shut after
+  way_shut : (w : FrameOwner) (octets : List ℕ) (old : LinkState) (after : Turn) → HearsWay w r octets now random old after → Shut after
   way_shut (way.Auth p) octets old after x = does_shut x.step x.auth (begun old) after (begun_shut old) x.does
   way_shut (way.Ipcp p) octets old after x = equal_shut after _ x.done (begun_shut old)
   way_shut way.NoPacket octets old after e = equal_shut after (begun old) e (begun_shut old)
@@ -310,12 +310,12 @@ module _ (r : LinkRules) (now : ℕ) (random : List ℕ) where
   begins_shut None t after h e = equal_shut after t e h
   begins_shut (Some lease) t after h x = equal_shut after _ x.on_up.done (equal_shut x.opened _ x.on_open.done h)
 
-  settles_shut : (still found : Bool) (lease : Option Ip4) (text : List ℕ) (old : PppState) (after : Turn) → Settles still found r lease text now random old after → Shut after
+  settles_shut : (still found : Bool) (lease : Option Ip4) (text : List ℕ) (old : LinkState) (after : Turn) → Settles still found r lease text now random old after → Shut after
   settles_shut true true lease text old after x = begins_shut lease _ after (begun_shut old) x.begins
   settles_shut true false lease text old after x = closes_shut _ after x.closes
   settles_shut false found lease text old after e = equal_shut after (begun old) e (begun_shut old)
 
-  goes_shut : (what : WholeInput) (old : PppState) (t : Turn) (cause : Option ℕ) → PppGoes r what now random old t cause → Shut t
+  goes_shut : (what : Input) (old : LinkState) (t : Turn) (cause : Option ℕ) → LinkGoes r what now random old t cause → Shut t
   goes_shut told.Start old t cause x = told_shut input.Start old t x.0
   goes_shut (told.Frame octets) old t cause x = way_shut x.0.way octets.now old t x.0.hears
   goes_shut told.Timer old t cause x = above_reminds_shut x.0.lcp t (told_shut input.Timer old x.0.lcp x.0.steps) x.0.above
@@ -325,15 +325,15 @@ module _ (r : LinkRules) (now : ℕ) (random : List ℕ) where
 
 -- What follows ----------------------------------------------------------------------------------------------------------
 
-pub finished_down : (r : LinkRules) (now : ℕ) (random : List ℕ) (what : WholeInput) (old : PppState) (says : PppSaid) (new : PppState)
-    → PppSteps r what now random old says new → says.finished ≡ true → is_opened new.lcp.lcp.state ≡ false
+pub finished_down : (r : LinkRules) (now : ℕ) (random : List ℕ) (what : Input) (old : LinkState) (says : LinkSaid) (new : LinkState)
+    → LinkSteps r what now random old says new → says.finished ≡ true → is_opened new.lcp.lcp.state ≡ false
 finished_down r now random what old says new x e =
-    ap (λ (s : PppState). is_opened s.lcp.lcp.state) x.state ∙ goes_shut r now random what old x.turn x.cause x.goes (sym (ap (λ (s : PppSaid). s.finished) x.said) ∙ e)
+    ap (λ (s : LinkState). is_opened s.lcp.lcp.state) x.state ∙ goes_shut r now random what old x.turn x.cause x.goes (sym (ap (λ (s : LinkSaid). s.finished) x.said) ∙ e)
 
-pub heard_down : (r : LinkRules) (octets : List ℕ) (now : ℕ) (random : List ℕ) (old : PppState) (turn : Turn)
+pub heard_down : (r : LinkRules) (octets : List ℕ) (now : ℕ) (random : List ℕ) (old : LinkState) (turn : Turn)
     → HearsOctets r octets now random old turn → turn.finished ≡ true → is_opened (after_turn turn).lcp.lcp.state ≡ false
 heard_down r octets now random old turn x = way_shut r now random x.way octets old turn x.hears
 
-pub settled_down : (r : LinkRules) (still found : Bool) (lease : Option Ip4) (text : List ℕ) (now : ℕ) (random : List ℕ) (old : PppState) (turn : Turn)
+pub settled_down : (r : LinkRules) (still found : Bool) (lease : Option Ip4) (text : List ℕ) (now : ℕ) (random : List ℕ) (old : LinkState) (turn : Turn)
     → Settles still found r lease text now random old turn → turn.finished ≡ true → is_opened (after_turn turn).lcp.lcp.state ≡ false
 settled_down r still found lease text now random old turn x = settles_shut r now random still found lease text old turn x

@@ -18,12 +18,12 @@ use Rattle.bng_ppp_wire.specs.declared.protocol.TheConstants as protocol
 use Rattle.bng_ppp.specs.declared.counters.Kept.{Kept}
 use Rattle.bng_ppp.specs.declared.codes.Kind.{Kind}
 use Rattle.bng_ppp.specs.declared.codes.Kind.TheVariants.{Request, Reply, Plain, Echo, Mute, EchoReply, Unknown}
-use Rattle.bng_ppp.specs.declared.frame.Heard.{Heard}
-use Rattle.bng_ppp.specs.declared.frame.Heard.TheVariants.{NoFrame, NoPacket, Long, Lcp, Other}
-use Rattle.bng_ppp.specs.declared.rules.Input.{Input}
-use Rattle.bng_ppp.specs.declared.rules.Input.TheVariants as input
+use Rattle.bng_ppp.specs.declared.frame.FrameKind.{FrameKind}
+use Rattle.bng_ppp.specs.declared.frame.FrameKind.TheVariants.{NoFrame, NoPacket, Long, Lcp, Other}
+use Rattle.bng_ppp.specs.declared.rules.LcpInput.{LcpInput}
+use Rattle.bng_ppp.specs.declared.rules.LcpInput.TheVariants as input
 use Rattle.bng_ppp.specs.declared.rules.LinkRules.{LinkRules}
-use Rattle.bng_ppp.specs.LinkState.{LinkState}
+use Rattle.bng_ppp.specs.LcpState.{LcpState}
 use Rattle.bng_ppp.specs.Said.{Said, quiet}
 use Rattle.bng_ppp.specs.Encapsulation.{sent, sent_some}
 use Rattle.bng_ppp.specs.Automaton.{Why, Doing, acted, all_acted, Follows, Moves, Rests}
@@ -35,7 +35,7 @@ use Rattle.bng_ppp.specs.Echo.{own_magic}
 use Rattle.bng_ppp.specs.ProtocolReject.{protocol_reject, hears_other, is_rejected}
 use Rattle.bng_ppp.specs.ConfigureRequest.{answer_of, Judges}
 use Rattle.bng_ppp.specs.ConfigureReply.{AfterReply}
-use Rattle.bng_ppp.specs.LinkRelation.{HearsKind, Hears, HearsFrame, LinkSteps}
+use Rattle.bng_ppp.specs.LcpRelation.{HearsKind, Hears, HearsFrame, LcpLinkSteps}
 use Rattle.bng_ppp.specs.Timers.{Reminds}
 
 -- a frame of LCP, and the packet that it is the text of
@@ -113,8 +113,8 @@ one_packet p code = packet_sent IsLcp (λ octets x. x) p [] code tt
 
 -- Steps -----------------------------------------------------------------------------------------------------------------
 
-module _ (echo now : ℕ) (old : LinkState) (says : Said) (new : LinkState) where
-  moves_lcp : (event : Event) (c : Why) (from : LinkState) → IsLcpAnswer c.answer → Moves event c echo now from says new → AreLcp says.outs
+module _ (echo now : ℕ) (old : LcpState) (says : Said) (new : LcpState) where
+  moves_lcp : (event : Event) (c : Why) (from : LcpState) → IsLcpAnswer c.answer → Moves event c echo now from says new → AreLcp says.outs
   moves_lcp event c from is m = follows_lcp event c echo now (record { link = from; said = quiet }) (record { link = new; said = says }) is tt m
 
   rests_lcp : Rests old says new → AreLcp says.outs
@@ -148,7 +148,7 @@ module _ (echo now : ℕ) (old : LinkState) (says : Said) (new : LinkState) wher
   rejects_lcp false octets e = subst (λ (s : Said). AreLcp s.outs) (sym e) tt
   rejects_lcp true octets e = subst (λ (s : Said). AreLcp s.outs) (sym e) (one_packet (protocol_reject old octets) refl)
 
-  heard_lcp : (heard : Heard) (octets random : List ℕ) → Hears heard octets echo now random old says new → AreLcp says.outs
+  heard_lcp : (heard : FrameKind) (octets random : List ℕ) → Hears heard octets echo now random old says new → AreLcp says.outs
   heard_lcp NoFrame octets random h = rests_lcp h
   heard_lcp NoPacket octets random h = rests_lcp h
   heard_lcp Long octets random h = rests_lcp h
@@ -167,7 +167,7 @@ module _ (echo now : ℕ) (old : LinkState) (says : Said) (new : LinkState) wher
   reminds_lcp (inr (inr (inr (inr (runs, early, h))))) = rests_lcp h
 
 -- a step of a link, whatever it is told
-pub steps_lcp : (r : LinkRules) (told : Input) (now : ℕ) (random : List ℕ) (old : LinkState) (says : Said) (new : LinkState) → LinkSteps r told now random old says new → AreLcp says.outs
+pub steps_lcp : (r : LinkRules) (told : LcpInput) (now : ℕ) (random : List ℕ) (old : LcpState) (says : Said) (new : LcpState) → LcpLinkSteps r told now random old says new → AreLcp says.outs
 steps_lcp r input.Start now random old says new h =
     follows_lcp _ _ r.echo now h.opened (record { link = new; said = says }) tt (follows_lcp _ _ r.echo now (record { link = record old { ask = h.ask }; said = quiet }) h.opened tt tt h.on_open) h.on_up
 steps_lcp r (input.Frame octets) now random old says new h = hears_lcp r.echo now old says new octets.now random h

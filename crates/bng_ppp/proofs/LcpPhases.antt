@@ -11,16 +11,16 @@ use Rattle.bng_lcp.specs.Ask.{Ask}
 use Rattle.bng_ppp_wire.specs.View.{packet_of}
 use Rattle.bng_ppp.specs.declared.codes.Kind.{Kind}
 use Rattle.bng_ppp.specs.declared.codes.Kind.TheVariants.{Request, Reply, Plain, Echo, Mute, EchoReply, Unknown}
-use Rattle.bng_ppp.specs.declared.frame.Heard.{Heard}
-use Rattle.bng_ppp.specs.declared.frame.Heard.TheVariants.{NoFrame, NoPacket, Long, Lcp, Other}
-use Rattle.bng_ppp.specs.declared.rules.Input.{Input}
-use Rattle.bng_ppp.specs.declared.rules.Input.TheVariants as input
+use Rattle.bng_ppp.specs.declared.frame.FrameKind.{FrameKind}
+use Rattle.bng_ppp.specs.declared.frame.FrameKind.TheVariants.{NoFrame, NoPacket, Long, Lcp, Other}
+use Rattle.bng_ppp.specs.declared.rules.LcpInput.{LcpInput}
+use Rattle.bng_ppp.specs.declared.rules.LcpInput.TheVariants as input
 use Rattle.bng_ppp.specs.declared.rules.LinkRules.{LinkRules}
 use Rattle.bng_ppp.specs.Automaton.{Doing, Why, Moves, Rests}
-use Rattle.bng_ppp.specs.LinkState.{is_opened, LinkState}
+use Rattle.bng_ppp.specs.LcpState.{is_opened, LcpState}
 use Rattle.bng_ppp.specs.ConfigureRequest.{Judges}
 use Rattle.bng_ppp.specs.ConfigureReply.{AfterReply}
-use Rattle.bng_ppp.specs.LinkRelation.{HearsKind, Hears, HearsFrame, LinkSteps}
+use Rattle.bng_ppp.specs.LcpRelation.{HearsKind, Hears, HearsFrame, LcpLinkSteps}
 use Rattle.bng_ppp.specs.ProtocolReject.{hears_other, is_rejected}
 use Rattle.bng_ppp.specs.LowerLayer.{Starts, Loses}
 use Rattle.bng_ppp.specs.Timers.{Reminds}
@@ -29,10 +29,10 @@ use Rattle.bng_ppp.specs.Said.{Said, quiet}
 use Rattle.bng_ppp.proofs.PhaseLaws.{never, comes, follows_open, follows_calm}
 
 -- what is told is that LCP came to Opened
-abbrev pub TellsOpened : LinkState → Said → LinkState → Type 0
+abbrev pub TellsOpened : LcpState → Said → LcpState → Type 0
 TellsOpened old says new = says.opened ≡ comes (is_opened old.lcp.state) (is_opened new.lcp.state)
 
-at_rest : (old new : LinkState) (says : Said) → says.opened ≡ false → new.lcp ≡ old.lcp → TellsOpened old says new
+at_rest : (old new : LcpState) (says : Said) → says.opened ≡ false → new.lcp ≡ old.lcp → TellsOpened old says new
 at_rest old new says silent same =
     silent ∙ sym (never (is_opened old.lcp.state)) ∙ ap (λ (m : Machine). comes (is_opened old.lcp.state) (is_opened m.state)) (sym same)
 
@@ -42,14 +42,14 @@ calmly was is e = ap (λ (b : Bool). comes was b) e ∙ never was
 neither : (a b c : Bool) → a ≡ (false || b) → b ≡ false → c ≡ false → (a || c) ≡ false
 neither a b c e f g = ap (λ (x : Bool). x || c) (e ∙ f) ∙ g
 
-module _ (echo now : ℕ) (old : LinkState) (says : Said) (new : LinkState) where
-  moves_open : (event : Event) (c : Why) (from : LinkState) → from.lcp ≡ old.lcp → Moves event c echo now from says new → TellsOpened old says new
+module _ (echo now : ℕ) (old : LcpState) (says : Said) (new : LcpState) where
+  moves_open : (event : Event) (c : Why) (from : LcpState) → from.lcp ≡ old.lcp → Moves event c echo now from says new → TellsOpened old says new
   moves_open event c from same m =
       follows_open event c echo now (record { link = from; said = quiet }) (record { link = new; said = says }) m
       ∙ ap (λ (m : Machine). comes (is_opened m.state) (is_opened new.lcp.state)) same
 
   rests_open : Rests old says new → TellsOpened old says new
-  rests_open h = at_rest old new says (ap (λ (s : Said). s.opened) h.0) (ap (λ (l : LinkState). l.lcp) h.1)
+  rests_open h = at_rest old new says (ap (λ (s : Said). s.opened) h.0) (ap (λ (l : LcpState). l.lcp) h.1)
 
   loses_open : Loses echo now old says new → TellsOpened old says new
   loses_open h =
@@ -78,10 +78,10 @@ module _ (echo now : ℕ) (old : LinkState) (says : Said) (new : LinkState) wher
   kind_open Unknown p random m = moves_open _ _ old refl m
 
   other_open : (b : Bool) (octets : List ℕ) → says ≡ (hears_other b octets old).said → new ≡ (hears_other b octets old).link → TellsOpened old says new
-  other_open false octets e f = at_rest old new says (ap (λ (s : Said). s.opened) e) (ap (λ (l : LinkState). l.lcp) f)
-  other_open true octets e f = at_rest old new says (ap (λ (s : Said). s.opened) e) (ap (λ (l : LinkState). l.lcp) f)
+  other_open false octets e f = at_rest old new says (ap (λ (s : Said). s.opened) e) (ap (λ (l : LcpState). l.lcp) f)
+  other_open true octets e f = at_rest old new says (ap (λ (s : Said). s.opened) e) (ap (λ (l : LcpState). l.lcp) f)
 
-  heard_open : (heard : Heard) (octets random : List ℕ) → Hears heard octets echo now random old says new → TellsOpened old says new
+  heard_open : (heard : FrameKind) (octets random : List ℕ) → Hears heard octets echo now random old says new → TellsOpened old says new
   heard_open NoFrame octets random h = rests_open h
   heard_open NoPacket octets random h = rests_open h
   heard_open Long octets random h = rests_open h
@@ -95,7 +95,7 @@ module _ (echo now : ℕ) (old : LinkState) (says : Said) (new : LinkState) wher
   reminds_open (inl (out, some, m)) = moves_open _ _ old refl m
   reminds_open (inr (inl (out, none, m))) = moves_open _ _ old refl m
   reminds_open (inr (inr (inl (runs, due, many, h)))) = loses_open h
-  reminds_open (inr (inr (inr (inl (runs, due, few, said, link))))) = at_rest old new says (ap (λ (s : Said). s.opened) said) (ap (λ (l : LinkState). l.lcp) link)
+  reminds_open (inr (inr (inr (inl (runs, due, few, said, link))))) = at_rest old new says (ap (λ (s : Said). s.opened) said) (ap (λ (l : LcpState). l.lcp) link)
   reminds_open (inr (inr (inr (inr (runs, early, h))))) = rests_open h
 
   starts_open : (auth : List AuthKind) (random : List ℕ) → Starts auth random echo now old says new → TellsOpened old says new
@@ -112,12 +112,12 @@ module _ (echo now : ℕ) (old : LinkState) (says : Said) (new : LinkState) wher
       on_up ∙ neither h.opened.said.opened (comes was mid) (comes mid is) on_open (calmly was mid same) (calmly mid is still) ∙ sym (calmly was is (still ∙ same))
 
 -- Open and Up neither bring LCP to Opened nor away from it
-pub starts_calm : (echo now : ℕ) (old : LinkState) (says : Said) (new : LinkState) (auth : List AuthKind) (random : List ℕ) → Starts auth random echo now old says new → is_opened new.lcp.state ≡ is_opened old.lcp.state
+pub starts_calm : (echo now : ℕ) (old : LcpState) (says : Said) (new : LcpState) (auth : List AuthKind) (random : List ℕ) → Starts auth random echo now old says new → is_opened new.lcp.state ≡ is_opened old.lcp.state
 starts_calm echo now old says new auth random h =
     follows_calm Up _ echo now h.opened (record { link = new; said = says }) h.on_up refl
     ∙ follows_calm Open _ echo now (record { link = record old { ask = h.ask }; said = quiet }) h.opened h.on_open refl
 
-pub steps_open : (r : LinkRules) (told : Input) (now : ℕ) (random : List ℕ) (old : LinkState) (says : Said) (new : LinkState) → LinkSteps r told now random old says new → TellsOpened old says new
+pub steps_open : (r : LinkRules) (told : LcpInput) (now : ℕ) (random : List ℕ) (old : LcpState) (says : Said) (new : LcpState) → LcpLinkSteps r told now random old says new → TellsOpened old says new
 steps_open r input.Start now random old says new h = starts_open r.echo now old says new r.auth.items random h
 steps_open r (input.Frame octets) now random old says new h = hears_open r.echo now old says new octets.now random h
 steps_open r input.Timer now random old says new h = reminds_open r.echo now old says new h

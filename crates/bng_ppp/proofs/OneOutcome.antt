@@ -14,7 +14,7 @@ use Rattle.bng_ppp_wire.specs.View.{packet_of, options_of}
 use Rattle.bng_lcp.specs.declared.judgement.LcpRules.{LcpRules}
 use Rattle.bng_ppp_wire.specs.declared.judgement.Judged.{Judged}
 use Rattle.bng_ppp_wire.specs.declared.judgement.Judged.TheVariants as judged
-use Rattle.bng_lcp.specs.declared.configure_request.SentRequest.{SentRequest}
+use Rattle.bng_lcp.specs.declared.configure_request.SentLcpRequest.{SentLcpRequest}
 use Rattle.bng_lcp.specs.declared.configure_reply.Taken.{Taken}
 use Rattle.bng_lcp.specs.declared.configure_reply.Taken.TheVariants.{Accepted, Changed, Ignored, Unwilling}
 use Rattle.bng_lcp.specs.Judgement.{IsJudgement}
@@ -24,12 +24,12 @@ use Rattle.bng_lcp.specs.ConfigureReply.{Acks, Naks, Rejects, Takes}
 use Rattle.bng_ppp.specs.declared.counters.Kept.{Kept}
 use Rattle.bng_ppp.specs.declared.codes.Kind.{Kind}
 use Rattle.bng_ppp.specs.declared.codes.Kind.TheVariants.{Request, Reply, Plain, Echo, Mute, EchoReply, Unknown}
-use Rattle.bng_ppp.specs.declared.frame.Heard.{Heard}
-use Rattle.bng_ppp.specs.declared.frame.Heard.TheVariants.{NoFrame, NoPacket, Long, Lcp, Other}
-use Rattle.bng_ppp.specs.declared.rules.Input.{Input}
-use Rattle.bng_ppp.specs.declared.rules.Input.TheVariants as input
+use Rattle.bng_ppp.specs.declared.frame.FrameKind.{FrameKind}
+use Rattle.bng_ppp.specs.declared.frame.FrameKind.TheVariants.{NoFrame, NoPacket, Long, Lcp, Other}
+use Rattle.bng_ppp.specs.declared.rules.LcpInput.{LcpInput}
+use Rattle.bng_ppp.specs.declared.rules.LcpInput.TheVariants as input
 use Rattle.bng_ppp.specs.declared.rules.LinkRules.{LinkRules}
-use Rattle.bng_ppp.specs.LinkState.{LinkState, IsFirstAsk, is_down}
+use Rattle.bng_ppp.specs.LcpState.{LcpState, IsFirstAsk, is_down}
 use Rattle.bng_ppp.specs.Said.{Said, quiet}
 use Rattle.bng_ppp.specs.Automaton.{Why, plain, Doing, all_acted, Follows, Moves, Rests}
 use Rattle.bng_ppp.specs.LowerLayer.{Loses, finishes, Asks, Starts}
@@ -38,7 +38,7 @@ use Rattle.bng_ppp.specs.Codes.{kind_of}
 use Rattle.bng_ppp.specs.ConfigureRequest.{rules_of, answer_of, Judges}
 use Rattle.bng_ppp.specs.Judgement.{event_of}
 use Rattle.bng_ppp.specs.ConfigureReply.{AfterReply, Replies}
-use Rattle.bng_ppp.specs.LinkRelation.{HearsKind, Hears, HearsFrame, LinkSteps}
+use Rattle.bng_ppp.specs.LcpRelation.{HearsKind, Hears, HearsFrame, LcpLinkSteps}
 use Rattle.bng_ppp.specs.Timers.{Reminds}
 
 -- Events ----------------------------------------------------------------------------------------------------------------
@@ -148,10 +148,10 @@ module _ (old : Ask) (reply : ControlPacket) (random : List ℕ) where
 
 -- Start -----------------------------------------------------------------------------------------------------------------
 
-ask_made : ℕ → List AuthKind → Option ℕ → AuthKind → Option ℕ → Option SentRequest → Ask
+ask_made : ℕ → List AuthKind → Option ℕ → AuthKind → Option ℕ → Option SentLcpRequest → Ask
 ask_made limit allowed mru auth magic sent = record { limit = limit; allowed = allowed; wanted = record { mru = mru; auth = auth; magic = magic }; sent = sent }
 
-asks_equal : (l m : ℕ) (xs ys : List AuthKind) (u v : Option ℕ) (a b : AuthKind) (g h : Option ℕ) (s t : Option SentRequest) → l ≡ m → xs ≡ ys → u ≡ v → a ≡ b → g ≡ h → s ≡ t → ask_made l xs u a g s ≡ ask_made m ys v b h t
+asks_equal : (l m : ℕ) (xs ys : List AuthKind) (u v : Option ℕ) (a b : AuthKind) (g h : Option ℕ) (s t : Option SentLcpRequest) → l ≡ m → xs ≡ ys → u ≡ v → a ≡ b → g ≡ h → s ≡ t → ask_made l xs u a g s ≡ ask_made m ys v b h t
 asks_equal l m xs ys u v a b g h s t p q r w x y = cc
 
 same_auth_of : (o : Option AuthKind) (a b : AuthKind) → o ≡ Some a → o ≡ Some b → a ≡ b
@@ -163,24 +163,24 @@ first_ask_one limit auth random a b x y =
     asks_equal a.limit b.limit a.allowed b.allowed a.wanted.mru b.wanted.mru a.wanted.auth b.wanted.auth a.wanted.magic b.wanted.magic a.sent b.sent
     (x.limited ∙ sym y.limited) (x.allowed ∙ sym y.allowed) (x.mru ∙ sym y.mru) (same_auth_of (slice_get auth 0) a.wanted.auth b.wanted.auth x.first y.first) (x.magic ∙ sym y.magic) (x.unsent ∙ sym y.unsent)
 
-asks_one : (down : Bool) (auth : List AuthKind) (random : List ℕ) (old : LinkState) (a b : Ask) → Asks down auth random old a → Asks down auth random old b → a ≡ b
+asks_one : (down : Bool) (auth : List AuthKind) (random : List ℕ) (old : LcpState) (a b : Ask) → Asks down auth random old a → Asks down auth random old b → a ≡ b
 asks_one true auth random old a b x y = first_ask_one old.kept.limit auth random a b x y
 asks_one false auth random old a b x y = x ∙ sym y
 
 -- Steps -----------------------------------------------------------------------------------------------------------------
 
-doing : LinkState → Said → Doing
+doing : LcpState → Said → Doing
 doing link says = record { link = link; said = says }
 
-parts : (a b : LinkState) (s t : Said) → doing a s ≡ doing b t → (s ≡ t) × (a ≡ b)
+parts : (a b : LcpState) (s t : Said) → doing a s ≡ doing b t → (s ≡ t) × (a ≡ b)
 unfolding doing
 parts a b s t e = (ap (λ (d : Doing). d.said) e, ap (λ (d : Doing). d.link) e)
 
-module _ (echo now : ℕ) (old : LinkState) (says other : Said) (new next : LinkState) where
+module _ (echo now : ℕ) (old : LcpState) (says other : Said) (new next : LcpState) where
   abbrev Same : Type 0
   Same = (says ≡ other) × (new ≡ next)
 
-  moves_one : (event : Event) (c : Why) (from : LinkState) → Moves event c echo now from says new → Moves event c echo now from other next → Same
+  moves_one : (event : Event) (c : Why) (from : LcpState) → Moves event c echo now from says new → Moves event c echo now from other next → Same
   unfolding doing
   moves_one event c from f g = parts new next says other (follows_one event c echo now (record { link = from; said = quiet }) (record { link = new; said = says }) (record { link = next; said = other }) f g)
 
@@ -228,7 +228,7 @@ module _ (echo now : ℕ) (old : LinkState) (says other : Said) (new next : Link
   kind_one EchoReply p random x y = moves_one _ _ _ x y
   kind_one Unknown p random x y = moves_one _ _ _ x y
 
-  heard_one : (octets random : List ℕ) (h k : Heard) → IsHeard octets h → IsHeard octets k → Hears h octets echo now random old says new → Hears k octets echo now random old other next → Same
+  heard_one : (octets random : List ℕ) (h k : FrameKind) → IsHeard octets h → IsHeard octets k → Hears h octets echo now random old says new → Hears k octets echo now random old other next → Same
   heard_one octets random Long Long a b x y = rests_one x y
   heard_one octets random Long NoFrame a b x y = absurd (omega (arith, a, b.0))
   heard_one octets random Long NoPacket a b x y = absurd (omega (arith, a, b.0))
@@ -316,7 +316,7 @@ module _ (echo now : ℕ) (old : LinkState) (says other : Said) (new next : Link
       parts new next says other (follows_one Up (plain x.opened.link.kept 0) echo now x.opened (record { link = new; said = says }) (record { link = next; said = other }) x.on_up up)
 
 -- a step of LCP, whatever it is told
-pub steps_one : (r : LinkRules) (told : Input) (now : ℕ) (random : List ℕ) (old : LinkState) (says other : Said) (new next : LinkState) → LinkSteps r told now random old says new → LinkSteps r told now random old other next → (says ≡ other) × (new ≡ next)
+pub steps_one : (r : LinkRules) (told : LcpInput) (now : ℕ) (random : List ℕ) (old : LcpState) (says other : Said) (new next : LcpState) → LcpLinkSteps r told now random old says new → LcpLinkSteps r told now random old other next → (says ≡ other) × (new ≡ next)
 steps_one r input.Start now random old says other new next x y = starts_one r.echo now old says other new next r.auth.items random x y
 steps_one r (input.Frame octets) now random old says other new next x y = hears_one r.echo now old says other new next octets.now random x y
 steps_one r input.Timer now random old says other new next x y = reminds_one r.echo now old says other new next x y

@@ -13,7 +13,7 @@ use Rattle.bng_automaton.specs.Steps.{Steps}
 use Rattle.bng_automaton.proofs.TableLaws.{passes}
 use Rattle.bng_ppp.specs.Automaton.{Doing, acted, all_acted, Why, Follows}
 use Rattle.bng_ppp.specs.IpcpAutomaton.{IpcpWhy, IpcpDoing, IpcpFollows, ipcp_acted, all_ipcp_acted}
-use Rattle.bng_ppp.specs.LinkState.{is_down, is_opened}
+use Rattle.bng_ppp.specs.LcpState.{is_down, is_opened}
 
 -- Tests -----------------------------------------------------------------------------------------------------------------
 

@@ -4,7 +4,7 @@ use Rattle.std.specs.List.{All, AllByRecursion}
 use Rattle.bng_base.specs.PppGrammar.{PppOption, OptionFits, AreOptions, option_text, options_text}
 use Rattle.bng_ppp_wire.specs.declared.view.Opt.{Opt}
 use Rattle.bng_ppp_wire.specs.View.{option_of, options_of}
-use Rattle.bng_ppp_wire.specs.declared.option_table.Row.{Row}
+use Rattle.bng_ppp_wire.specs.declared.option_table.OptionRow.{OptionRow}
 use Rattle.bng_ppp_wire.specs.declared.judgement.Judged.{Judged}
 use Rattle.bng_ppp_wire.specs.declared.judgement.Judged.TheVariants as judged
 use Rattle.bng_ppp_wire.specs.Judgement.{IsJudgement, rejected, is_reject, class_of}
@@ -34,7 +34,7 @@ each_fits (o ∷ os) h = at_place (each_fits os h.1)
     at_place rest zero d lt = h.0
     at_place rest (suc k) d lt = rest k d (omega (arith, lt))
 
-pub spellable : (rows : List Row) (no_more_naks : Bool) (request : List PppOption) (body : List ℕ) (j : Judged) → AreOptions request body → length body ≤ 4090 → IsJudgement rows no_more_naks request j → IsSpellable j
+pub spellable : (rows : List OptionRow) (no_more_naks : Bool) (request : List PppOption) (body : List ℕ) (j : Judged) → AreOptions request body → length body ≤ 4090 → IsJudgement rows no_more_naks request j → IsSpellable j
 spellable rows no_more_naks request body judged.Ack lists long is = tt
 spellable rows no_more_naks request body (judged.Nak made) lists long is = tt
 spellable rows no_more_naks request body (judged.Reject options) lists long is =

@@ -17,24 +17,24 @@ use Rattle.bng_base.specs.declared.settings.AuthKind.{AuthKind}
 use Rattle.bng_base.specs.declared.settings.AuthKind.TheVariants as kind
 use Rattle.bng_ppp.specs.declared.authentication.Authentication.{Authentication}
 use Rattle.bng_ppp.specs.declared.authentication.Authentication.TheVariants as auth
-use Rattle.bng_ppp.specs.declared.rules.Input.TheVariants as input
+use Rattle.bng_ppp.specs.declared.rules.LcpInput.TheVariants as input
 use Rattle.bng_ppp.specs.declared.rules.LinkRules.{LinkRules}
-use Rattle.bng_ppp.specs.declared.whole_frame.Way.{Way}
-use Rattle.bng_ppp.specs.declared.whole_frame.Way.TheVariants as way
-use Rattle.bng_ppp.specs.declared.whole_input.WholeInput.{WholeInput}
-use Rattle.bng_ppp.specs.declared.whole_input.WholeInput.TheVariants as told
+use Rattle.bng_ppp.specs.declared.link_frame.FrameOwner.{FrameOwner}
+use Rattle.bng_ppp.specs.declared.link_frame.FrameOwner.TheVariants as way
+use Rattle.bng_ppp.specs.declared.input.Input.{Input}
+use Rattle.bng_ppp.specs.declared.input.Input.TheVariants as told
 use Rattle.bng_ppp.specs.Granting.{gives_address, goes_by_itself}
 use Rattle.bng_ppp.specs.IpcpAutomaton.{IpcpWhy, IpcpDoing, ipcp_acted, all_ipcp_acted}
-use Rattle.bng_ppp.specs.LinkState.{is_opened}
+use Rattle.bng_ppp.specs.LcpState.{is_opened}
 use Rattle.bng_ppp.specs.Layers.{Turn, begun, leaves, ipcp_of, IpcpMoves, Above, authenticates, LcpStep, LcpSteps, LcpCloses, lcp_told, lcp_hears, with_auth, with_auth_until}
-use Rattle.bng_ppp.specs.PppRelation.{PppGoes, PppSaid, PppSteps, after_turn, ended_by}
-use Rattle.bng_ppp.specs.PppState.{PppState, is_open}
+use Rattle.bng_ppp.specs.LinkRelation.{LinkGoes, LinkSaid, LinkSteps, after_turn, ended_by}
+use Rattle.bng_ppp.specs.LinkState.{LinkState, is_open}
 use Rattle.bng_ppp.specs.Verdict.{Refuses, Begins, Settles}
-use Rattle.bng_ppp.specs.WholeFrame.{AuthDoes, HearsWay, HearsOctets}
-use Rattle.bng_ppp.specs.WholeTimers.{AuthReminds, AboveReminds}
+use Rattle.bng_ppp.specs.LinkFrame.{AuthDoes, HearsWay, HearsOctets}
+use Rattle.bng_ppp.specs.LinkTimers.{AuthReminds, AboveReminds}
 use Rattle.bng_ppp.proofs.LcpPhases.{starts_calm}
 use Rattle.bng_ppp.proofs.PhaseLaws.{never, or_assoc, or_false, or_true, is_calm}
-use Rattle.bng_ppp.proofs.WholePhases.{not_both, second_true}
+use Rattle.bng_ppp.proofs.LinkPhases.{not_both, second_true}
 
 -- Open and Up finish nothing ----------------------------------------------------------------------------------------------
 
@@ -109,7 +109,7 @@ abbrev Lives : Turn → Turn → Type 0
 Lives t u = u.link.live ≡ t.link.live
 
 -- a verdict by which a term begins
-abbrev IsBeginning : WholeInput → PppState → Type 0
+abbrev IsBeginning : Input → LinkState → Type 0
 IsBeginning what old = (gives_address what && is_open old.auth) ≡ true
 
 equal_lives : (t u v : Turn) → v ≡ u → Lives t u → Lives t v
@@ -125,7 +125,7 @@ module _ (r : LinkRules) (now : ℕ) (random : List ℕ) where
   above_lives false true t after m = equal_lives t _ after m.done refl
   above_lives false false t after e = equal_lives t t after e refl
 
-  lcp_lives : (Step : LcpStep) (old : PppState) (after : Turn) → LcpSteps r Step now random old after → Lives (begun old) after
+  lcp_lives : (Step : LcpStep) (old : LinkState) (after : Turn) → LcpSteps r Step now random old after → Lives (begun old) after
   lcp_lives Step old after x = above_lives x.says.opened _ _ after x.above
 
   closes_lives : (t after : Turn) → LcpCloses r now random t after → Lives t after
@@ -140,7 +140,7 @@ module _ (r : LinkRules) (now : ℕ) (random : List ℕ) where
   does_lives Refuse a t after x = refuses_lives _ (with_auth t a) after x
   does_lives Ignore a t after e = equal_lives t _ after e refl
 
-  way_lives : (w : Way) (octets : List ℕ) (old : PppState) (after : Turn) → HearsWay w r octets now random old after → Lives (begun old) after
+  way_lives : (w : FrameOwner) (octets : List ℕ) (old : LinkState) (after : Turn) → HearsWay w r octets now random old after → Lives (begun old) after
   way_lives (way.Auth p) octets old after x = does_lives x.step x.auth (begun old) after x.does
   way_lives (way.Ipcp p) octets old after x = equal_lives (begun old) _ after x.done refl
   way_lives way.NoPacket octets old after e = equal_lives (begun old) (begun old) after e refl
@@ -159,14 +159,14 @@ module _ (r : LinkRules) (now : ℕ) (random : List ℕ) where
   above_reminds_lives t after (inr (inr (inl (early, out, spent, m)))) = equal_lives t _ after m.done refl
   above_reminds_lives t after (inr (inr (inr (early, runs, e)))) = equal_lives t t after e refl
 
-  settles_lives : (still found : Bool) (lease : Option Ip4) (text : List ℕ) (old : PppState) (after : Turn) → Settles still found r lease text now random old after → Lives (begun old) after ⊎ (((found && is_some lease) && still) ≡ true)
+  settles_lives : (still found : Bool) (lease : Option Ip4) (text : List ℕ) (old : LinkState) (after : Turn) → Settles still found r lease text now random old after → Lives (begun old) after ⊎ (((found && is_some lease) && still) ≡ true)
   settles_lives true true None text old after x = inl (equal_lives (begun old) _ after x.begins refl)
   settles_lives true true (Some lease) text old after x = inr refl
   settles_lives true false lease text old after x = inl (refuses_lives text (begun old) after x)
   settles_lives false found lease text old after e = inl (equal_lives (begun old) (begun old) after e refl)
 
   -- a step keeps the term, or begins one
-  goes_lives : (what : WholeInput) (old : PppState) (t : Turn) (cause : Option ℕ) → PppGoes r what now random old t cause → Lives (begun old) t ⊎ IsBeginning what old
+  goes_lives : (what : Input) (old : LinkState) (t : Turn) (cause : Option ℕ) → LinkGoes r what now random old t cause → Lives (begun old) t ⊎ IsBeginning what old
   goes_lives told.Start old t cause x = inl (lcp_lives (lcp_told r input.Start now random) old t x.0)
   goes_lives (told.Frame octets) old t cause x = inl (way_lives x.0.way octets.now old t x.0.hears)
   goes_lives told.Timer old t cause x = inl (above_reminds_lives x.0.lcp t x.0.above ∙ lcp_lives (lcp_told r input.Timer now random) old x.0.lcp x.0.steps)
@@ -209,7 +209,7 @@ module _ (r : LinkRules) (now : ℕ) (random : List ℕ) where
   above_stays false true t after e x = absurd cc
   above_stays false false t after e x = (ap (λ (u : Turn). u.left) x, ap (λ (u : Turn). u.ended) x)
 
-  start_stays : (old : PppState) (after : Turn) → LcpSteps r (lcp_told r input.Start now random) now random old after → (after.left ≡ false) × (after.ended ≡ false)
+  start_stays : (old : LinkState) (after : Turn) → LcpSteps r (lcp_told r input.Start now random) now random old after → (after.left ≡ false) × (after.ended ≡ false)
   start_stays old after x =
       let calm = starts_calm r.echo now old.lcp x.says x.lcp r.auth.items random x.steps in
       let stays : leaves old.lcp x.lcp ≡ false = ap (λ (b : Bool). is_opened old.lcp.lcp.state && not b) calm ∙ never (is_opened old.lcp.lcp.state) in
@@ -217,7 +217,7 @@ module _ (r : LinkRules) (now : ℕ) (random : List ℕ) where
       (same.0 ∙ stays, same.1)
 
   -- what a link does by itself ends a live term with a cause alone
-  goes_lasts : (what : WholeInput) (old : PppState) (t : Turn) (cause : Option ℕ) → PppGoes r what now random old t cause → t.link.live ≡ true → goes_by_itself what ≡ true → cause ≡ None → (t.link.live && not t.left && not t.ended) ≡ true
+  goes_lasts : (what : Input) (old : LinkState) (t : Turn) (cause : Option ℕ) → LinkGoes r what now random old t cause → t.link.live ≡ true → goes_by_itself what ≡ true → cause ≡ None → (t.link.live && not t.left && not t.ended) ≡ true
   goes_lasts told.Start old t cause x live itself e = let stays = start_stays old t x.0 in both_stay t.link.live t.left t.ended live stays.0 stays.1
   goes_lasts (told.Frame octets) old t cause x live itself e = unended t.link.live t.left t.ended 1 live (sym x.1 ∙ e)
   goes_lasts told.Timer old t cause x live itself e = unended t.link.live t.left t.ended x.1.0 live (sym x.1.2 ∙ e)
@@ -233,7 +233,7 @@ module _ (r : LinkRules) (now : ℕ) (random : List ℕ) where
     calm_unfinished Up _ now x.opened after refl x.on_up ∙ calm_unfinished Open _ now _ x.opened refl x.on_open,
   )
 
-  settles_begins : (still found : Bool) (lease : Option Ip4) (text : List ℕ) (old : PppState) (t : Turn) → Settles still found r lease text now random old t → ((found && is_some lease) && still) ≡ true → (t.link.live && not t.left && not t.ended) ≡ true
+  settles_begins : (still found : Bool) (lease : Option Ip4) (text : List ℕ) (old : LinkState) (t : Turn) → Settles still found r lease text now random old t → ((found && is_some lease) && still) ≡ true → (t.link.live && not t.left && not t.ended) ≡ true
   settles_begins true true (Some lease) text old t x e =
       let live = begins_for_live lease _ t x.begins in
       both_stay t.link.live t.left t.ended live.0 live.1 live.2
@@ -241,7 +241,7 @@ module _ (r : LinkRules) (now : ℕ) (random : List ℕ) where
   settles_begins true false lease text old t x e = absurd cc
   settles_begins false found lease text old t x e = not_both false (second_true (found && is_some lease) false e) refl
 
-  goes_begins : (what : WholeInput) (old : PppState) (t : Turn) (cause : Option ℕ) → PppGoes r what now random old t cause → IsBeginning what old → (t.link.live && not t.left && not t.ended) ≡ true
+  goes_begins : (what : Input) (old : LinkState) (t : Turn) (cause : Option ℕ) → LinkGoes r what now random old t cause → IsBeginning what old → (t.link.live && not t.left && not t.ended) ≡ true
   goes_begins told.Start old t cause x e = absurd cc
   goes_begins (told.Frame octets) old t cause x e = absurd cc
   goes_begins told.Timer old t cause x e = absurd cc
@@ -250,7 +250,7 @@ module _ (r : LinkRules) (now : ℕ) (random : List ℕ) where
   goes_begins told.Lost old t cause x e = absurd cc
 
 -- what goes by itself begins no term
-itself_begins_none : (what : WholeInput) (old : PppState) → goes_by_itself what ≡ true → IsBeginning what old → ⊥
+itself_begins_none : (what : Input) (old : LinkState) → goes_by_itself what ≡ true → IsBeginning what old → ⊥
 itself_begins_none told.Start old e b = cc
 itself_begins_none (told.Frame octets) old e b = cc
 itself_begins_none told.Timer old e b = cc
@@ -260,13 +260,13 @@ itself_begins_none told.Lost old e b = cc
 
 -- What follows ------------------------------------------------------------------------------------------------------------
 
-module _ (r : LinkRules) (now : ℕ) (random : List ℕ) (what : WholeInput) (old : PppState) (says : PppSaid) (new : PppState) (x : PppSteps r what now random old says new) where
+module _ (r : LinkRules) (now : ℕ) (random : List ℕ) (what : Input) (old : LinkState) (says : LinkSaid) (new : LinkState) (x : LinkSteps r what now random old says new) where
   live_after : new.live ≡ (x.turn.link.live && not x.turn.left && not x.turn.ended)
-  live_after = ap (λ (s : PppState). s.live) x.state
+  live_after = ap (λ (s : LinkState). s.live) x.state
 
   pub lasts : goes_by_itself what ≡ true → old.live ≡ true → says.term_ended ≡ None → new.live ≡ true
   lasts itself live none = elim (goes_lives r now random what old x.turn x.cause x.goes) [
-    | inl same ↦ live_after ∙ goes_lasts r now random what old x.turn x.cause x.goes (same ∙ live) itself (sym (ap (λ (s : PppSaid). s.term_ended) x.said) ∙ none)
+    | inl same ↦ live_after ∙ goes_lasts r now random what old x.turn x.cause x.goes (same ∙ live) itself (sym (ap (λ (s : LinkSaid). s.term_ended) x.said) ∙ none)
     | inr begins ↦ absurd (itself_begins_none what old itself begins)
   ]
 
@@ -279,8 +279,8 @@ module _ (r : LinkRules) (now : ℕ) (random : List ℕ) (what : WholeInput) (ol
     | inr begins ↦ not_both (gives_address what && is_open old.auth) begins e
   ]
 
-pub heard_lasts : (r : LinkRules) (octets : List ℕ) (now : ℕ) (random : List ℕ) (old : PppState) (turn : Turn) → HearsOctets r octets now random old turn → old.live ≡ true → ended_by turn.link.live turn.left turn.ended 1 ≡ None → (after_turn turn).live ≡ true
+pub heard_lasts : (r : LinkRules) (octets : List ℕ) (now : ℕ) (random : List ℕ) (old : LinkState) (turn : Turn) → HearsOctets r octets now random old turn → old.live ≡ true → ended_by turn.link.live turn.left turn.ended 1 ≡ None → (after_turn turn).live ≡ true
 heard_lasts r octets now random old t x live e = unended t.link.live t.left t.ended 1 (way_lives r now random x.way octets old t x.hears ∙ live) e
 
-pub settled_live : (r : LinkRules) (a : Ip4) (text : List ℕ) (now : ℕ) (random : List ℕ) (old : PppState) (turn : Turn) → Settles true true r (Some a) text now random old turn → (after_turn turn).live ≡ true
+pub settled_live : (r : LinkRules) (a : Ip4) (text : List ℕ) (now : ℕ) (random : List ℕ) (old : LinkState) (turn : Turn) → Settles true true r (Some a) text now random old turn → (after_turn turn).live ≡ true
 settled_live r a text now random old t x = settles_begins r now random true true (Some a) text old t x refl

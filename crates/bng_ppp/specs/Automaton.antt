@@ -14,7 +14,7 @@ use Rattle.bng_lcp.specs.ConfigureRequest.{asked}
 use Rattle.bng_ppp.specs.Counters.{echo_after}
 use Rattle.bng_ppp.specs.Encapsulation.{sent, sent_some}
 use Rattle.bng_ppp.specs.Identifiers.{requested, ending, next_of}
-use Rattle.bng_ppp.specs.LinkState.{LinkState}
+use Rattle.bng_ppp.specs.LcpState.{LcpState}
 use Rattle.bng_ppp.specs.Said.{Said, quiet}
 use Rattle.bng_ppp.specs.declared.automaton.Cause.{Cause}
 use Rattle.bng_ppp.specs.declared.counters.Kept.{Kept}
@@ -51,7 +51,7 @@ AnswerFits None = Unit {0}
 AnswerFits (Some p) = length p.body.now ≤ 4090
 
 pub record Doing : Type 0 where
-  pub link : LinkState
+  pub link : LcpState
   pub said : Said
 
 -- This-Layer-Up: LCP is Opened, and the Echo-Requests begin
@@ -115,9 +115,9 @@ pub record Follows (event : Event) (cause : Why) (echo now : ℕ) (before : Doin
   pub done : after ≡ all_acted cause echo now (record before { link = record before.link { lcp = machine } }) actions
 
 -- a step that is this event alone
-abbrev pub Moves : Event → Why → ℕ → ℕ → LinkState → Said → LinkState → Type 0
+abbrev pub Moves : Event → Why → ℕ → ℕ → LcpState → Said → LcpState → Type 0
 Moves event cause echo now old says new = Follows event cause echo now (record { link = old; said = quiet }) (record { link = new; said = says })
 
 -- nothing happens
-abbrev pub Rests : LinkState → Said → LinkState → Type 0
+abbrev pub Rests : LcpState → Said → LcpState → Type 0
 Rests old says new = (says ≡ quiet) × (new ≡ old)

@@ -9,14 +9,14 @@ use Rattle.bng_lcp.specs.declared.judgement.LcpRules.{LcpRules}
 use Rattle.bng_ppp.specs.Automaton.{Why, Moves, Rests}
 use Rattle.bng_ppp.specs.Echo.{own_magic}
 use Rattle.bng_ppp.specs.Judgement.{event_of, answer_to, naks_after}
-use Rattle.bng_ppp.specs.LinkState.{LinkState}
+use Rattle.bng_ppp.specs.LcpState.{LcpState}
 use Rattle.bng_ppp.specs.MaximumReceiveUnit.{mru_of}
 use Rattle.bng_ppp.specs.Said.{Said}
 use Rattle.bng_ppp.specs.declared.counters.Kept.{Kept}
 
 -- By what a Configure-Request is judged. After five Configure-Naks without a Configure-Ack between there are no more
 -- (Max-Failure, RFC 1661 section 4.6).
-abbrev pub rules_of : LinkState → List ℕ → LcpRules
+abbrev pub rules_of : LcpState → List ℕ → LcpRules
 rules_of s random = record {
   limit = s.kept.limit;
   own_magic = own_magic s;
@@ -35,7 +35,7 @@ abbrev pub answer_of : Kept → ControlPacket → List PppOption → Judged → 
 answer_of k p options j = record { timed = false; id = p.id; answer = Some (answer_to p j); mru = mru_after k options j; naks = naks_after k.naks j }
 
 -- A Configure-Request is judged. One whose options are malformed, or more than 64, is ignored.
-abbrev pub Judges : ControlPacket → ℕ → ℕ → List ℕ → LinkState → Said → LinkState → Type 0
+abbrev pub Judges : ControlPacket → ℕ → ℕ → List ℕ → LcpState → Said → LcpState → Type 0
 Judges p echo now random old says new =
     ((options : List PppOption) × (judged : Judged) × AreOptions options p.body × (length options ≤ 64) × IsJudgement (rules_of old random) options judged
     × Moves (event_of judged) (answer_of old.kept p options judged) echo now old says new)

@@ -3,11 +3,11 @@ use Rattle.std.specs.Prelude.{◌≡◌, ◌≢◌, ℕ, ◌≤◌, ◌<◌, Lis
 use Rattle.bng_base.specs.PppGrammar.{PppFrame, ControlPacket, IsPpp, IsControlPacket}
 use Rattle.bng_ppp_wire.specs.View.{packet_of}
 use Rattle.bng_ppp_wire.specs.declared.protocol.TheConstants as protocol
-use Rattle.bng_ppp.specs.declared.frame.Heard.{Heard}
-use Rattle.bng_ppp.specs.declared.frame.Heard.TheVariants.{NoFrame, NoPacket, Long, Lcp, Other}
+use Rattle.bng_ppp.specs.declared.frame.FrameKind.{FrameKind}
+use Rattle.bng_ppp.specs.declared.frame.FrameKind.TheVariants.{NoFrame, NoPacket, Long, Lcp, Other}
 
 -- What octets are to the link. No datagram has more than 4,096; octets beyond that are passed over.
-abbrev pub IsHeard : List ℕ → Heard → Type 0
+abbrev pub IsHeard : List ℕ → FrameKind → Type 0
 IsHeard octets Long = 4096 < length octets
 IsHeard octets NoFrame = (length octets ≤ 4096) × ((f : PppFrame) → ¬ (IsPpp f octets))
 IsHeard octets NoPacket = (length octets ≤ 4096) × ((f : PppFrame) × IsPpp f octets × (f.protocol ≡ protocol.LCP) × ((p : ControlPacket) → ¬ (IsControlPacket p f.info)))
@@ -15,7 +15,7 @@ IsHeard octets (Lcp p) = (length octets ≤ 4096) × ((f : PppFrame) × IsPpp f 
 IsHeard octets (Other n) = (length octets ≤ 4096) × ((f : PppFrame) × IsPpp f octets × (f.protocol ≡ n) × (n ≢ protocol.LCP))
 
 -- the body of a packet of a frame of at most 4,096 octets: the protocol has two, and the header four
-abbrev pub IsShort : Heard → Type 0
+abbrev pub IsShort : FrameKind → Type 0
 IsShort Long = ⊤
 IsShort NoFrame = ⊤
 IsShort NoPacket = ⊤

@@ -3,10 +3,10 @@ use Rattle.std.specs.Prelude.{◌≡◌, ◌⊎◌, ◌&&◌, ℕ, Bool, true, f
 use Rattle.bng_base.specs.PppGrammar.{PppFrame, ControlPacket, IsPpp, IsControlPacket}
 use Rattle.bng_ppp_wire.specs.Codes as code
 use Rattle.bng_ppp_wire.specs.Protocols as protocol
-use Rattle.bng_ppp.specs.PppState.{is_open, is_accepted}
+use Rattle.bng_ppp.specs.LinkState.{is_open, is_accepted}
 use Rattle.bng_ppp.specs.declared.authentication.Authentication.{Authentication}
-use Rattle.bng_ppp.specs.declared.whole_input.WholeInput.{WholeInput}
-use Rattle.bng_ppp.specs.declared.whole_input.WholeInput.TheVariants as told
+use Rattle.bng_ppp.specs.declared.input.Input.{Input}
+use Rattle.bng_ppp.specs.declared.input.Input.TheVariants as told
 
 -- Success of CHAP (RFC 1994 section 4.2), or Authenticate-Ack of PAP (RFC 1334 section 2.2.2)
 abbrev pub IsYesCode : ℕ → ℕ → Type 0
@@ -21,7 +21,7 @@ pub record IsYes (octets : List ℕ) : Type 0 where
   pub yes : IsYesCode frame.protocol packet.code
 
 -- a verdict by which a peer is accepted
-abbrev pub is_yes_verdict : WholeInput → Bool
+abbrev pub is_yes_verdict : Input → Bool
 is_yes_verdict told.Start = false
 is_yes_verdict (told.Frame octets) = false
 is_yes_verdict told.Timer = false
@@ -30,7 +30,7 @@ is_yes_verdict told.Close = false
 is_yes_verdict told.Lost = false
 
 -- a frame of the peer
-abbrev pub is_frame : WholeInput → Bool
+abbrev pub is_frame : Input → Bool
 is_frame told.Start = false
 is_frame (told.Frame octets) = true
 is_frame told.Timer = false
@@ -39,7 +39,7 @@ is_frame told.Close = false
 is_frame told.Lost = false
 
 -- a verdict by which a peer is accepted and is given an address
-abbrev pub gives_address : WholeInput → Bool
+abbrev pub gives_address : Input → Bool
 gives_address told.Start = false
 gives_address (told.Frame octets) = false
 gives_address told.Timer = false
@@ -49,7 +49,7 @@ gives_address told.Lost = false
 
 -- what comes of the link and its peer alone: they begin, a frame, the time. The rest is what the gateway decides, or learns of the
 -- layer below.
-abbrev pub goes_by_itself : WholeInput → Bool
+abbrev pub goes_by_itself : Input → Bool
 goes_by_itself told.Start = true
 goes_by_itself (told.Frame octets) = true
 goes_by_itself told.Timer = true
@@ -58,5 +58,5 @@ goes_by_itself told.Close = false
 goes_by_itself told.Lost = false
 
 -- the peer was accepted before, or this is the verdict yes on the question that is open
-abbrev pub MayAccept : WholeInput → Authentication → Type 0
+abbrev pub MayAccept : Input → Authentication → Type 0
 MayAccept what old = (is_accepted old ≡ true) ⊎ ((is_yes_verdict what ≡ true) × (is_open old ≡ true))

@@ -4,7 +4,7 @@ use Rattle.bng_automaton.specs.Machine.{Machine}
 use Rattle.bng_base.specs.declared.address.Ip4.{Ip4}
 use Rattle.bng_ipcp.specs.Ask.{Ask}
 use Rattle.bng_ppp.specs.Identifiers.{first_ids}
-use Rattle.bng_ppp.specs.LinkState.{unused}
+use Rattle.bng_ppp.specs.LcpState.{unused}
 use Rattle.bng_ppp.specs.declared.ipcp_counters.IpcpKept.{IpcpKept}
 
 pub record IpcpState : Type 0 where

@@ -10,18 +10,18 @@ use Rattle.bng_ppp.specs.Automaton.{Doing, plain, Follows}
 use Rattle.bng_ppp.specs.Claims.{Claim}
 use Rattle.bng_ppp.specs.Identifiers.{next_of}
 use Rattle.bng_ppp.specs.IpcpAutomaton.{IpcpDoing, IpcpWhy, IpcpFollows, ipcp_plain}
-use Rattle.bng_ppp.specs.LinkRelation.{LinkSteps, HearsFrame}
-use Rattle.bng_ppp.specs.LinkState.{is_opened, LinkState}
-use Rattle.bng_ppp.specs.PppState.{PppState}
+use Rattle.bng_ppp.specs.LcpRelation.{LcpLinkSteps, HearsFrame}
+use Rattle.bng_ppp.specs.LcpState.{is_opened, LcpState}
+use Rattle.bng_ppp.specs.LinkState.{LinkState}
 use Rattle.bng_ppp.specs.Said.{quiet, Said}
 use Rattle.bng_ppp.specs.declared.authentication.Authentication.{Authentication}
 use Rattle.bng_ppp.specs.declared.authentication.Authentication.TheVariants as auth
-use Rattle.bng_ppp.specs.declared.rules.Input.{Input}
+use Rattle.bng_ppp.specs.declared.rules.LcpInput.{LcpInput}
 use Rattle.bng_ppp.specs.declared.rules.LinkRules.{LinkRules}
 
 -- A link in the middle of a step, with what the step did so far.
 pub record Turn : Type 0 where
-  pub link : PppState
+  pub link : LinkState
   -- the octets of the frames that are sent, in this order
   pub outs : List (List ℕ)
   -- a question that was opened
@@ -33,10 +33,10 @@ pub record Turn : Type 0 where
   pub left : Bool
   pub finished : Bool
 
-abbrev pub begun : PppState → Turn
+abbrev pub begun : LinkState → Turn
 begun s = record { link = s; outs = []; asked = None; opened = false; ended = false; left = false; finished = false }
 
-abbrev pub leaves : LinkState → LinkState → Bool
+abbrev pub leaves : LcpState → LcpState → Bool
 leaves old new = is_opened old.lcp.state && not (is_opened new.lcp.state)
 
 -- LCP went on, and said this
@@ -91,20 +91,20 @@ Above false false r now random t after = after ≡ t
 
 -- a step of LCP, by the state before, what it says and the state after
 abbrev pub LcpStep : Type 1
-LcpStep = LinkState → Said → LinkState → Type 0
+LcpStep = LcpState → Said → LcpState → Type 0
 
 -- LCP is told this
-abbrev pub lcp_told : LinkRules → Input → ℕ → List ℕ → LcpStep
-lcp_told r what now random old says new = LinkSteps r what now random old says new
+abbrev pub lcp_told : LinkRules → LcpInput → ℕ → List ℕ → LcpStep
+lcp_told r what now random old says new = LcpLinkSteps r what now random old says new
 
 -- LCP hears a frame
 abbrev pub lcp_hears : LinkRules → List ℕ → ℕ → List ℕ → LcpStep
 lcp_hears r octets now random old says new = HearsFrame octets r.echo now random old says new
 
 -- a step of LCP alone, with which the step of the link begins, and what it is to the layers above
-pub record LcpSteps (r : LinkRules) (Step : LcpStep) (now : ℕ) (random : List ℕ) (old : PppState) (after : Turn) : Type 0 where
+pub record LcpSteps (r : LinkRules) (Step : LcpStep) (now : ℕ) (random : List ℕ) (old : LinkState) (after : Turn) : Type 0 where
   pub says : Said
-  pub lcp : LinkState
+  pub lcp : LcpState
   pub steps : Step old.lcp says lcp
   pub above : Above says.opened (leaves old.lcp lcp) r now random (with_lcp (begun old) (record { link = lcp; said = says })) after
 

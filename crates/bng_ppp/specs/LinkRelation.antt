@@ -1,60 +1,55 @@
--- What a step of a link is, by RFC 1661 sections 4 to 6: a case for each input, and for a frame one for each packet.
-use Rattle.std.specs.Prelude.{ℕ, Option, Some, None, min, List, ◌≡◌}
-use Rattle.bng_automaton.specs.declared.event.Event.TheVariants.{Ruc, Rxr, Close}
-use Rattle.bng_base.specs.PppGrammar.{ControlPacket}
-use Rattle.bng_ppp_wire.specs.View.{packet_of}
-use Rattle.bng_ppp.specs.Automaton.{plain, answering, Moves, Rests}
-use Rattle.bng_ppp.specs.CodeReject.{code_reject}
-use Rattle.bng_ppp.specs.Codes.{kind_of}
-use Rattle.bng_ppp.specs.ConfigureReply.{Replies}
-use Rattle.bng_ppp.specs.ConfigureRequest.{Judges}
-use Rattle.bng_ppp.specs.Echo.{echo_reply}
-use Rattle.bng_ppp.specs.Frame.{IsHeard}
-use Rattle.bng_ppp.specs.LinkState.{LinkState}
-use Rattle.bng_ppp.specs.LowerLayer.{Loses, Starts}
-use Rattle.bng_ppp.specs.ProtocolReject.{is_rejected, hears_other}
-use Rattle.bng_ppp.specs.Said.{Said}
-use Rattle.bng_ppp.specs.Timers.{Reminds}
-use Rattle.bng_ppp.specs.declared.codes.Kind.{Kind}
-use Rattle.bng_ppp.specs.declared.codes.Kind.TheVariants.{Request, Reply, Plain, Echo, Mute, EchoReply, Unknown}
-use Rattle.bng_ppp.specs.declared.frame.Heard.{Heard}
-use Rattle.bng_ppp.specs.declared.frame.Heard.TheVariants.{NoFrame, NoPacket, Long, Lcp, Other}
-use Rattle.bng_ppp.specs.declared.rules.Input.{Input}
-use Rattle.bng_ppp.specs.declared.rules.Input.TheVariants as input
+-- What a step of a whole link is: LCP's own relation, and what comes of it for authentication and IPCP, by RFC 1661 section 3.
+use Rattle.std.specs.Prelude.{ℕ, Bool, List, Option, false, [], None, Some, if◌then◌else◌, ◌&&◌, not, ◌≡◌}
+use Rattle.bng_ppp.specs.Claims.{Claim}
+use Rattle.bng_ppp.specs.Layers.{Turn, lcp_told, LcpSteps}
+use Rattle.bng_ppp.specs.LinkState.{LinkState, is_open}
+use Rattle.bng_ppp.specs.Verdict.{Settles}
+use Rattle.bng_ppp.specs.LinkFrame.{HearsOctets}
+use Rattle.bng_ppp.specs.LinkTimers.{LinkReminds, IsLossCause}
+use Rattle.bng_ppp.specs.declared.rules.LcpInput.TheVariants as input
 use Rattle.bng_ppp.specs.declared.rules.LinkRules.{LinkRules}
+use Rattle.bng_ppp.specs.declared.input.Input.{Input}
+use Rattle.bng_ppp.specs.declared.input.Input.TheVariants as told
 
--- the earliest of two moments that may be there
-abbrev pub earliest : Option ℕ → Option ℕ → Option ℕ
-earliest None b = b
-earliest (Some a) None = Some a
-earliest (Some a) (Some b) = Some (min a b)
+-- what a step says
+pub record LinkSaid : Type 0 where
+  pub outs : List (List ℕ)
+  pub asked : Option Claim
+  -- IPCP came to Opened
+  pub opened : Bool
+  -- the cause with which the step ended a live term: 1 User Request, 2 Lost Carrier (RFC 2866 section 5.10)
+  pub term_ended : Option ℕ
+  -- LCP finished
+  pub finished : Bool
 
--- a packet of LCP
-abbrev pub HearsKind : Kind → ControlPacket → ℕ → ℕ → List ℕ → LinkState → Said → LinkState → Type 0
-HearsKind Request p echo now random old says new = Judges p echo now random old says new
-HearsKind Reply p echo now random old says new = Replies p echo now random old says new
-HearsKind (Plain event) p echo now random old says new = Moves event (plain old.kept p.id) echo now old says new
-HearsKind Echo p echo now random old says new = Moves Rxr (answering old.kept p.id (echo_reply old p)) echo now old says new
-HearsKind Mute p echo now random old says new = Rests old says new
-HearsKind EchoReply p echo now random old says new = Moves Rxr (plain old.kept p.id) echo now (record old { kept = record old.kept { unanswered = 0 } }) says new
-HearsKind Unknown p echo now random old says new = Moves Ruc (answering old.kept p.id (code_reject old p)) echo now old says new
+-- nothing is sent, and nothing came of it
+abbrev pub says_nothing : LinkSaid
+says_nothing = record { outs = []; asked = None; opened = false; term_ended = None; finished = false }
 
-abbrev pub Hears : Heard → List ℕ → ℕ → ℕ → List ℕ → LinkState → Said → LinkState → Type 0
-Hears NoFrame octets echo now random old says new = Rests old says new
-Hears NoPacket octets echo now random old says new = Rests old says new
-Hears Long octets echo now random old says new = Rests old says new
-Hears (Lcp p) octets echo now random old says new = HearsKind (kind_of (packet_of p)) (packet_of p) echo now random old says new
-Hears (Other n) octets echo now random old says new =
-    (says ≡ (hears_other (is_rejected old n) octets old).said) × (new ≡ (hears_other (is_rejected old n) octets old).link)
+-- The cause of a live term's end: this one where LCP left Opened, and User Request where IPCP finished.
+abbrev pub ended_by : Bool → Bool → Bool → ℕ → Option ℕ
+ended_by live left ended cause = if live then (if left then Some cause else (if ended then Some 1 else None)) else None
 
-pub record HearsFrame (octets : List ℕ) (echo now : ℕ) (random : List ℕ) (old : LinkState) (says : Said) (new : LinkState) : Type 0 where
-  pub heard : Heard
-  pub is : IsHeard octets heard
-  pub hears : Hears heard octets echo now random old says new
+-- a live term goes on while LCP stays Opened and IPCP does not finish
+abbrev pub after_turn : Turn → LinkState
+after_turn t = record t.link { live = t.link.live && not t.left && not t.ended }
 
-abbrev pub LinkSteps : LinkRules → Input → ℕ → List ℕ → LinkState → Said → LinkState → Type 0
-LinkSteps r input.Start now random old says new = Starts r.auth.items random r.echo now old says new
-LinkSteps r (input.Frame octets) now random old says new = HearsFrame octets.now r.echo now random old says new
-LinkSteps r input.Timer now random old says new = Reminds r.echo now old says new
-LinkSteps r input.Close now random old says new = Moves Close (plain old.kept 0) r.echo now old says new
-LinkSteps r input.Lost now random old says new = Loses r.echo now old says new
+abbrev pub said_of : Turn → Option ℕ → LinkSaid
+said_of t cause = record { outs = t.outs; asked = t.asked; opened = t.opened; term_ended = cause; finished = t.finished }
+
+-- how a step goes, and the cause with which it ends a live term
+abbrev pub LinkGoes : LinkRules → Input → ℕ → List ℕ → LinkState → Turn → Option ℕ → Type 0
+LinkGoes r told.Start now random old t cause = LcpSteps r (lcp_told r input.Start now random) now random old t × (cause ≡ None)
+LinkGoes r (told.Frame octets) now random old t cause = HearsOctets r octets.now now random old t × (cause ≡ ended_by t.link.live t.left t.ended 1)
+LinkGoes r told.Timer now random old t cause =
+    LinkReminds r now random old t × ((n : ℕ) × IsLossCause old now n × (cause ≡ ended_by t.link.live t.left t.ended n))
+LinkGoes r (told.Verdict found lease text) now random old t cause = Settles (is_open old.auth) found r lease text.items now random old t × (cause ≡ None)
+LinkGoes r told.Close now random old t cause = LcpSteps r (lcp_told r input.Close now random) now random old t × (cause ≡ None)
+LinkGoes r told.Lost now random old t cause = LcpSteps r (lcp_told r input.Lost now random) now random old t × (cause ≡ None)
+
+pub record LinkSteps (r : LinkRules) (what : Input) (now : ℕ) (random : List ℕ) (old : LinkState) (says : LinkSaid) (new : LinkState) : Type 0 where
+  pub turn : Turn
+  pub cause : Option ℕ
+  pub goes : LinkGoes r what now random old turn cause
+  pub said : says ≡ said_of turn cause
+  pub state : new ≡ after_turn turn

@@ -1,82 +1,58 @@
--- What a contract sees of a link, and of one that was told nothing.
-use Rattle.std.specs.Prelude.{ℕ, None, true, false, List, [], ◌∷◌, ◌≡◌, Some, slice_get, Bool}
-use Rattle.byteorder.specs.Endian.{big_number}
-use Rattle.bng_automaton.specs.Machine.{Machine}
-use Rattle.bng_automaton.specs.declared.state.State.{State}
-use Rattle.bng_automaton.specs.declared.state.State.TheVariants.{Initial, Starting, Closed, Stopped, Closing, Stopping, ReqSent, AckRcvd, AckSent, Opened}
-use Rattle.bng_base.specs.declared.settings.AuthKind.{AuthKind}
-use Rattle.bng_lcp.specs.Ask.{Ask}
-use Rattle.bng_lcp.specs.Judgement.{magic_from}
-use Rattle.bng_ppp.specs.Identifiers.{first_ids}
-use Rattle.bng_ppp.specs.declared.counters.Kept.{Kept}
-use Rattle.bng_ppp.specs.declared.rules.LinkKind.{LinkKind}
-use Rattle.bng_ppp.specs.declared.rules.LinkKind.TheVariants.{Pppoe, L2tp}
+-- What a contract sees of a whole link, from LCP to IPCP.
+use Rattle.std.specs.Prelude.{◌≡◌, ℕ, Bool, false, ◌&&◌, ◌==◌, Option, None, ⊤}
+use Rattle.bng_auth.specs.Questions.{pap_is_open, chap_is_open, is_yes}
+use Rattle.bng_ppp_wire.specs.declared.protocol.TheConstants as protocol
+use Rattle.bng_ppp.specs.declared.authentication.Authentication.{Authentication}
+use Rattle.bng_ppp.specs.declared.authentication.Authentication.TheVariants as auth
+use Rattle.bng_ppp.specs.LcpState.{LcpState, is_opened}
+use Rattle.bng_ppp.specs.IpcpState.{IpcpState}
 
 pub record LinkState : Type 0 where
-  -- the automaton of LCP, by RFC 1661 section 4
-  pub lcp : Machine
-  -- the gateway's own side of LCP, by RFC 1661 section 5
-  pub ask : Ask
-  pub kept : Kept
+  -- LCP, by RFC 1661
+  pub lcp : LcpState
+  -- how far the peer's authentication has come, by RFC 1334 and RFC 1994
+  pub auth : Authentication
+  -- when the Challenge goes out again, or the wait for the peer ends, in milliseconds, where that timer runs
+  pub auth_due : Option ℕ
+  -- IPCP, by RFC 1332
+  pub ipcp : IpcpState
+  -- the identifier of CHAP's next Challenge
+  pub next_challenge : ℕ
+  -- a term is live: the peer was accepted with an address, and neither LCP left Opened nor IPCP finished since
+  pub live : Bool
 
--- The largest Maximum-Receive-Unit that a link asks for and takes: RFC 2516 section 7 and RFC 1661 section 6.1.
-abbrev pub limit_of : LinkKind → ℕ
-limit_of Pppoe = 1492
-limit_of L2tp = 1500
+-- authentication's timer runs only once authentication has begun
+abbrev pub IsTimed : Authentication → Option ℕ → Type 0
+IsTimed auth.Idle due = due ≡ None
+IsTimed (auth.Pap q) due = ⊤
+IsTimed (auth.Chap q sent) due = ⊤
 
--- the automaton of a link that was told nothing: Max-Configure 10, Max-Terminate 2 and Max-Failure 5
-abbrev pub unused : Machine
-unused = record { state = Initial; counter = 0; started = None; max_configure = 10; max_terminate = 2; max_failure = 5 }
+-- a question is open: it was asked, and the verdict is not there yet
+abbrev pub is_open : Authentication → Bool
+is_open auth.Idle = false
+is_open (auth.Pap q) = pap_is_open q
+is_open (auth.Chap q sent) = chap_is_open q
 
--- what such a link keeps
-abbrev pub kept_first : ℕ → Kept
-kept_first limit = record {
-  limit = limit;
-  ids = first_ids;
-  mru = limit;
-  naks = 0;
-  was_opened = false;
-  unanswered = 0;
-  next_echo = None;
-}
+-- the verdict is there, and is yes
+abbrev pub is_accepted : Authentication → Bool
+is_accepted auth.Idle = false
+is_accepted (auth.Pap q) = is_yes q.verdict
+is_accepted (auth.Chap q sent) = is_yes q.verdict
 
--- the ways to authenticate, of which one alone is kept twice
-abbrev pub ways : List AuthKind → List AuthKind
-ways [] = []
-ways (a ∷ []) = a ∷ a ∷ []
-ways (a ∷ b ∷ rest) = a ∷ b ∷ []
+-- whether authentication takes frames of this protocol
+abbrev pub takes_protocol : Authentication → ℕ → Bool
+takes_protocol auth.Idle n = false
+takes_protocol (auth.Pap q) n = n == protocol.PAP
+takes_protocol (auth.Chap q sent) n = n == protocol.CHAP
 
--- The gateway's side of LCP that has asked for nothing yet. It asks for the limit, for the first of the ways to authenticate
--- and for a magic number made of the first four random octets.
-pub record IsFirstAsk (limit : ℕ) (auth : List AuthKind) (random : List ℕ) (ask : Ask) : Type 0 where
-  pub limited : ask.limit ≡ limit
-  pub allowed : ask.allowed ≡ ways auth
-  pub mru : ask.wanted.mru ≡ Some limit
-  pub first : slice_get auth 0 ≡ Some ask.wanted.auth
-  pub magic : ask.wanted.magic ≡ Some (magic_from (big_number 4 random))
-  pub unsent : ask.sent ≡ None
+-- Whose a frame of a protocol is, while LCP is Opened: authentication's, where that protocol was agreed; IPCP's, once the
+-- peer was accepted. Every other frame is LCP's, which passes over or rejects what is not its own.
+abbrev pub is_for_auth : LinkState → ℕ → Bool
+is_for_auth s n = is_opened s.lcp.lcp.state && takes_protocol s.auth n
 
--- the states in which the lower layer is down
-abbrev pub is_down : State → Bool
-is_down Initial = true
-is_down Starting = true
-is_down Closed = false
-is_down Stopped = false
-is_down Closing = false
-is_down Stopping = false
-is_down ReqSent = false
-is_down AckRcvd = false
-is_down AckSent = false
-is_down Opened = false
+abbrev pub is_for_ipcp : LinkState → ℕ → Bool
+is_for_ipcp s n = is_opened s.lcp.lcp.state && is_accepted s.auth && n == protocol.IPCP
 
-abbrev pub is_opened : State → Bool
-is_opened Initial = false
-is_opened Starting = false
-is_opened Closed = false
-is_opened Stopped = false
-is_opened Closing = false
-is_opened Stopping = false
-is_opened ReqSent = false
-is_opened AckRcvd = false
-is_opened AckSent = false
-is_opened Opened = true
+-- data passes: LCP and IPCP are Opened
+abbrev pub passes : LinkState → Bool
+passes s = is_opened s.lcp.lcp.state && is_opened s.ipcp.machine.state

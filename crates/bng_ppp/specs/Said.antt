@@ -1,7 +1,7 @@
 -- What a step says, without where it lies in memory.
 use Rattle.std.specs.Prelude.{ℕ, Bool, false, List, [], map}
 use Rattle.bng_base.specs.Packet.{Packet}
-use Rattle.bng_ppp.specs.declared.step.Steps.{Steps}
+use Rattle.bng_ppp.specs.declared.lcp_outcome.LcpOutcome.{LcpOutcome}
 
 abbrev pub payloads : List Packet → List (List ℕ)
 payloads frames = map (λ (f : Packet). f.payload) frames
@@ -14,7 +14,7 @@ pub record Said : Type 0 where
   -- LCP finished
   pub finished : Bool
 
-abbrev pub said : Steps → Said
+abbrev pub said : LcpOutcome → Said
 said s = record { outs = payloads s.outs.items; opened = s.opened; finished = s.finished }
 
 -- nothing happens

@@ -7,7 +7,7 @@ use Rattle.bng_ppp.specs.Authentication.{AuthSettles, reply_sent}
 use Rattle.bng_ppp.specs.IpcpAutomaton.{ipcp_plain}
 use Rattle.bng_ppp.specs.IpcpState.{first_ask}
 use Rattle.bng_ppp.specs.Layers.{Turn, LcpCloses, with_auth_until, begun, IpcpMoves}
-use Rattle.bng_ppp.specs.PppState.{PppState}
+use Rattle.bng_ppp.specs.LinkState.{LinkState}
 use Rattle.bng_ppp.specs.declared.authentication.Authentication.{Authentication}
 use Rattle.bng_ppp.specs.declared.rules.LinkRules.{LinkRules}
 
@@ -35,14 +35,14 @@ BeginsFor None r now t after = after ≡ t
 BeginsFor (Some lease) r now t after = Begins r lease now t after
 
 -- the peer is accepted: the reply goes out, and a term begins where there is a lease
-pub record Accepts (r : LinkRules) (lease : Option Ip4) (text : List ℕ) (now : ℕ) (old : PppState) (after : Turn) : Type 0 where
+pub record Accepts (r : LinkRules) (lease : Option Ip4) (text : List ℕ) (now : ℕ) (old : LinkState) (after : Turn) : Type 0 where
   pub reply : Option Reply
   pub settled : Authentication
   pub settles : AuthSettles old.auth true text reply settled
   pub begins : BeginsFor lease r now (record (with_auth_until (begun old) settled None) { outs = reply_sent reply [] }) after
 
 -- A verdict counts while a question is open. Another one changes nothing.
-abbrev pub Settles : Bool → Bool → LinkRules → Option Ip4 → List ℕ → ℕ → List ℕ → PppState → Turn → Type 0
+abbrev pub Settles : Bool → Bool → LinkRules → Option Ip4 → List ℕ → ℕ → List ℕ → LinkState → Turn → Type 0
 Settles true true r lease text now random old after = Accepts r lease text now old after
 Settles true false r lease text now random old after = Refuses r now random text (begun old) after
 Settles false found r lease text now random old after = after ≡ begun old

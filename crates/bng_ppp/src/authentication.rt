@@ -1,6 +1,6 @@
 //! The peer's authentication: by PAP (RFC 1334) or CHAP (RFC 1994), as LCP agreed.
 ghost use Rattle.std.specs.Prelude.{◌≡◌, ◌≤◌, length, option_map, ◌+◌, ◌<◌};
-ghost use Rattle.bng_ppp.specs.PppState.{is_open as open_in, is_accepted as accepted_in, takes_protocol as protocol_in};
+ghost use Rattle.bng_ppp.specs.LinkState.{is_open as open_in, is_accepted as accepted_in, takes_protocol as protocol_in};
 ghost use Rattle.bng_ppp.specs.Phases.{is_begun as begun_in};
 ghost use Rattle.bng_ppp_wire.specs.View.{packet_of};
 ghost use Rattle.bng_ppp.specs.Authentication.{AuthTakes, AuthSettles, challenge_sent, reply_sent};
@@ -9,7 +9,7 @@ ghost use Rattle.bng_ppp.specs.Said.{said};
 
 use crate::encapsulation::put_protocol;
 use crate::protocol_reject::protocol_of;
-use crate::step::Steps;
+use crate::lcp_outcome::LcpOutcome;
 use bng_auth::{AuthStep, Chap, Pap, Reply};
 use bng_base::Frame;
 use bng_ppp_wire::{Packet, protocol};
@@ -95,7 +95,7 @@ impl Authentication {
 }
 
 /// Sends a Challenge with the gateway's name.
-pub(crate) fn send_challenge(peer: &Chap, name: &[u8], steps: &mut Steps)
+pub(crate) fn send_challenge(peer: &Chap, name: &[u8], steps: &mut LcpOutcome)
     requires name { length name.now ≤ 64 }
     requires room { length steps.old.outs.items < 4 }
     ensures said { said steps.new ≡ record (said steps.old) { outs = challenge_sent name.now peer.now (said steps.old).outs } }
@@ -108,7 +108,7 @@ pub(crate) fn send_challenge(peer: &Chap, name: &[u8], steps: &mut Steps)
 }
 
 // Sends the reply to a peer that authenticates itself, where there is one.
-pub(crate) fn send_reply(reply: &Option<Reply>, steps: &mut Steps)
+pub(crate) fn send_reply(reply: &Option<Reply>, steps: &mut LcpOutcome)
     requires room { length steps.old.outs.items < 4 }
     ensures said { said steps.new ≡ record (said steps.old) { outs = reply_sent (option_map reply_of reply.now) (said steps.old).outs } }
     ensures few { length steps.new.outs.items ≤ length steps.old.outs.items + 1 }

@@ -10,8 +10,8 @@ use crate::counters::Kept;
 use crate::echo::echo_at;
 use crate::encapsulation::{send_bare, send_some};
 use crate::identifiers::next_id;
-use crate::link::Link;
-use crate::step::Steps;
+use crate::lcp_link::LcpLink;
+use crate::lcp_outcome::LcpOutcome;
 use bng_automaton::{Action, Event};
 use bng_ppp_wire::code::TERMINATE_ACK;
 use bng_ppp_wire::{Packet, protocol};
@@ -44,7 +44,7 @@ fn up(kept: Kept, echo: u16, now: u64) -> Kept
     }
 }
 
-impl Link {
+impl LcpLink {
     // What an event without an answer causes.
     pub(crate) fn plain_cause(&self, id: u8) -> Cause<'static>
         ensures why { why result ≡ plain self.now.kept id }
@@ -61,7 +61,7 @@ impl Link {
     }
 
     // An event whose actions answer a packet at most by a Terminate-Ack.
-    pub(crate) fn plainly(&mut self, event: Event, id: u8, echo: u16, now: u64, steps: &mut Steps)
+    pub(crate) fn plainly(&mut self, event: Event, id: u8, echo: u16, now: u64, steps: &mut LcpOutcome)
         requires moment { now < 2 ^ 60 }
         requires quiet { said steps.old ≡ says_nothing }
         ensures moves { Moves event (plain self.old.kept id) echo now self.old (said steps.new) self.new }
@@ -79,7 +79,7 @@ impl Link {
         answer: &Packet<'_>,
         echo: u16,
         now: u64,
-        steps: &mut Steps,
+        steps: &mut LcpOutcome,
     )
         requires moment { now < 2 ^ 60 }
         requires fits { length answer.now.body.now ≤ 4090 }
@@ -104,7 +104,7 @@ impl Link {
         cause: &Cause<'_>,
         echo: u16,
         now: u64,
-        steps: &mut Steps,
+        steps: &mut LcpOutcome,
     )
         requires moment { now < 2 ^ 60 }
         requires answer { AnswerFits cause.now.answer }
@@ -123,7 +123,7 @@ impl Link {
         cause: &Cause<'_>,
         echo: u16,
         now: u64,
-        steps: &mut Steps,
+        steps: &mut LcpOutcome,
     )
         requires moment { now < 2 ^ 60 }
         requires answer { AnswerFits cause.now.answer }
@@ -143,7 +143,7 @@ impl Link {
         cause: &Cause<'_>,
         echo: u16,
         now: u64,
-        steps: &mut Steps,
+        steps: &mut LcpOutcome,
     )
         requires moment { now < 2 ^ 60 }
         requires answer { AnswerFits cause.now.answer }
@@ -159,7 +159,7 @@ impl Link {
     }
 
     // Does one action.
-    fn act(&mut self, action: Action, cause: &Cause<'_>, echo: u16, now: u64, steps: &mut Steps)
+    fn act(&mut self, action: Action, cause: &Cause<'_>, echo: u16, now: u64, steps: &mut LcpOutcome)
         requires moment { now < 2 ^ 60 }
         requires answer { AnswerFits cause.now.answer }
         requires mru { cause.now.mru ≤ 1500 }

@@ -5,22 +5,22 @@ ghost use Rattle.bng_ppp.specs.Said.{said, quiet as says_nothing};
 ghost use Rattle.bng_ppp.specs.Automaton.{answering, Moves};
 ghost use Rattle.bng_ppp.specs.CodeReject.{code_reject};
 
-use crate::link::Link;
+use crate::lcp_link::LcpLink;
 use crate::maximum_receive_unit::{body_most, cut};
-use crate::step::Steps;
+use crate::lcp_outcome::LcpOutcome;
 use bng_automaton::Event;
 use bng_base::Frame;
 use bng_ppp_wire::Packet;
 use bng_ppp_wire::code::CODE_REJECT;
 
-impl Link {
+impl LcpLink {
     // Rejects a packet of an unknown code.
     pub(crate) fn reject_code(
         &mut self,
         packet: &Packet<'_>,
         echo: u16,
         now: u64,
-        steps: &mut Steps,
+        steps: &mut LcpOutcome,
     )
         requires moment { now < 2 ^ 60 }
         requires body { length packet.now.body.now ≤ 4090 }

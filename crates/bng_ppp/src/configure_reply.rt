@@ -6,13 +6,13 @@ ghost use Rattle.bng_ppp.specs.ConfigureReply.{Replies, taken};
 ghost use Rattle.bng_ppp.specs.Room.{most_of};
 ghost use Rattle.bng_ppp.specs.Automaton.{plain, Moves};
 
-use crate::link::Link;
-use crate::step::Steps;
+use crate::lcp_link::LcpLink;
+use crate::lcp_outcome::LcpOutcome;
 use bng_automaton::Event;
 use bng_lcp::Taken;
 use bng_ppp_wire::Packet;
 
-impl Link {
+impl LcpLink {
     // A Configure-Ack, -Nak or -Reject.
     pub(crate) fn reply(
         &mut self,
@@ -20,7 +20,7 @@ impl Link {
         echo: u16,
         now: u64,
         random: &[u8; 16],
-        steps: &mut Steps,
+        steps: &mut LcpOutcome,
     )
         requires moment { now < 2 ^ 60 }
         requires quiet { said steps.old ≡ says_nothing }
@@ -36,7 +36,7 @@ impl Link {
     }
 
     // The event of a reply that is not ignored.
-    fn took(&mut self, event: Event, id: u8, echo: u16, now: u64, steps: &mut Steps)
+    fn took(&mut self, event: Event, id: u8, echo: u16, now: u64, steps: &mut LcpOutcome)
         requires moment { now < 2 ^ 60 }
         requires quiet { said steps.old ≡ says_nothing }
         ensures moves { Moves event (plain self.old.kept id) echo now (taken self.old self.old.ask) (said steps.new) self.new }

@@ -12,14 +12,14 @@ use crate::counters::NAKS_MOST;
 use crate::encapsulation::put_protocol;
 use crate::identifiers::requested;
 use crate::judgement::{code_of, event_of, naks_after, put_body};
-use crate::link::Link;
+use crate::lcp_link::LcpLink;
 use crate::maximum_receive_unit::mru_of;
-use crate::step::Steps;
+use crate::lcp_outcome::LcpOutcome;
 use bng_base::Frame;
 use bng_lcp::{Judged, LcpRules, judge};
 use bng_ppp_wire::{Opt, Packet, options, protocol};
 
-impl Link {
+impl LcpLink {
     // By what a Configure-Request is judged.
     fn rules(&self, random: &[u8; 16]) -> LcpRules
         ensures rules { result ≡ rules_of self.now random.now }
@@ -40,7 +40,7 @@ impl Link {
         echo: u16,
         now: u64,
         random: &[u8; 16],
-        steps: &mut Steps,
+        steps: &mut LcpOutcome,
     )
         requires moment { now < 2 ^ 60 }
         requires body { length packet.now.body.now ≤ 4090 }
@@ -64,7 +64,7 @@ impl Link {
         judged: &Judged<'_>,
         echo: u16,
         now: u64,
-        steps: &mut Steps,
+        steps: &mut LcpOutcome,
     )
         requires moment { now < 2 ^ 60 }
         requires body { length packet.now.body.now ≤ 4090 }
@@ -104,7 +104,7 @@ impl Link {
     }
 
     // Sends a Configure-Request.
-    pub(crate) fn configure(&mut self, cause: &Cause<'_>, steps: &mut Steps)
+    pub(crate) fn configure(&mut self, cause: &Cause<'_>, steps: &mut LcpOutcome)
         requires room { length steps.old.outs.items < 4 }
         ensures few { length steps.new.outs.items ≤ length steps.old.outs.items + 1 }
         ensures after { self.new ≡ (configured (why cause.now) (record { link = self.old; said = said steps.old })).link }

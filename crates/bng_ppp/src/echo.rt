@@ -8,9 +8,9 @@ ghost use Rattle.bng_ppp.specs.Automaton.{answering, Moves};
 
 use crate::encapsulation::send;
 use crate::identifiers::next_id;
-use crate::link::Link;
+use crate::lcp_link::LcpLink;
 use crate::maximum_receive_unit::{body_most, cut};
-use crate::step::Steps;
+use crate::lcp_outcome::LcpOutcome;
 use bng_automaton::Event;
 use bng_base::Frame;
 use bng_ppp_wire::code::{ECHO_REPLY, ECHO_REQUEST};
@@ -28,7 +28,7 @@ pub(crate) fn echo_at(echo: u16, now: u64) -> Option<u64>
     }
 }
 
-impl Link {
+impl LcpLink {
     // The gateway's magic number, 0 where the peer rejected it.
     pub(crate) fn own_magic(&self) -> u32
         ensures { result ≡ own_magic_of self.now }
@@ -37,7 +37,7 @@ impl Link {
     }
 
     // Answers an Echo-Request.
-    pub(crate) fn echo(&mut self, packet: &Packet<'_>, echo: u16, now: u64, steps: &mut Steps)
+    pub(crate) fn echo(&mut self, packet: &Packet<'_>, echo: u16, now: u64, steps: &mut LcpOutcome)
         requires moment { now < 2 ^ 60 }
         requires magic { 4 ≤ length packet.now.body.now }
         requires body { length packet.now.body.now ≤ 4090 }
@@ -67,7 +67,7 @@ impl Link {
     }
 
     // Sends an Echo-Request.
-    pub(crate) fn ask_for_echo(&mut self, echo: u16, now: u64, steps: &mut Steps)
+    pub(crate) fn ask_for_echo(&mut self, echo: u16, now: u64, steps: &mut LcpOutcome)
         requires moment { now < 2 ^ 60 }
         requires unanswered { self.old.kept.unanswered < 3 }
         requires quiet { said steps.old ≡ says_nothing }

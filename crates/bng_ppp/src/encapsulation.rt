@@ -6,7 +6,7 @@ ghost use Rattle.bng_ppp.specs.Automaton.{AnswerFits};
 ghost use Rattle.bng_ppp.specs.Encapsulation.{sent, sent_some};
 ghost use Rattle.bng_ppp.specs.Said.{said};
 
-use crate::step::Steps;
+use crate::lcp_outcome::LcpOutcome;
 use bng_base::{Frame, HEADROOM, ROOM};
 use bng_ppp_wire::Packet;
 
@@ -22,7 +22,7 @@ pub(crate) fn put_protocol(number: u16, frame: &mut Frame)
 }
 
 /// Sends a packet of a protocol.
-pub(crate) fn send(number: u16, packet: &Packet<'_>, steps: &mut Steps)
+pub(crate) fn send(number: u16, packet: &Packet<'_>, steps: &mut LcpOutcome)
     requires fits { length packet.now.body.now ≤ 4090 }
     requires room { length steps.old.outs.items < 4 }
     ensures said { said steps.new ≡ record (said steps.old) { outs = sent number (packet_of packet.now) (said steps.old).outs } }
@@ -35,7 +35,7 @@ pub(crate) fn send(number: u16, packet: &Packet<'_>, steps: &mut Steps)
 }
 
 /// Sends a packet of a protocol, where there is one.
-pub(crate) fn send_some(number: u16, packet: &Option<Packet<'_>>, steps: &mut Steps)
+pub(crate) fn send_some(number: u16, packet: &Option<Packet<'_>>, steps: &mut LcpOutcome)
     requires fits { AnswerFits packet.now }
     requires room { length steps.old.outs.items < 4 }
     ensures said { said steps.new ≡ record (said steps.old) { outs = sent_some number (option_map packet_of packet.now) (said steps.old).outs } }
@@ -47,7 +47,7 @@ pub(crate) fn send_some(number: u16, packet: &Option<Packet<'_>>, steps: &mut St
 }
 
 /// Sends a packet of a protocol without a body.
-pub(crate) fn send_bare(number: u16, code: u8, id: u8, steps: &mut Steps)
+pub(crate) fn send_bare(number: u16, code: u8, id: u8, steps: &mut LcpOutcome)
     requires room { length steps.old.outs.items < 4 }
     ensures said { said steps.new ≡ record (said steps.old) { outs = sent number (record { code = code; id = id; body = [] }) (said steps.old).outs } }
     ensures few { length steps.new.outs.items ≤ length steps.old.outs.items + 1 }

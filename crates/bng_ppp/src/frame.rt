@@ -3,19 +3,19 @@ ghost use Rattle.bng_ppp.specs.Frame.{IsHeard, IsShort};
 ghost use Rattle.bng_ppp.specs.Codes.{kind_of};
 ghost use Rattle.std.specs.Prelude.{◌≡◌, ◌≤◌, ◌<◌, ◌^◌, length};
 ghost use Rattle.bng_ppp.specs.Said.{said, quiet as says_nothing};
-ghost use Rattle.bng_ppp.specs.LinkRelation.{HearsFrame, HearsKind};
+ghost use Rattle.bng_ppp.specs.LcpRelation.{HearsFrame, HearsKind};
 ghost use Rattle.bng_ppp_wire.specs.View.{packet_of};
 
 use crate::codes::{Kind, kind_at};
-use crate::link::Link;
-use crate::step::Steps;
+use crate::lcp_link::LcpLink;
+use crate::lcp_outcome::LcpOutcome;
 use bng_automaton::Event;
 use bng_base::LONGEST;
 use bng_ppp_wire::{Packet, Ppp, protocol};
 
 /// What the octets of a frame are to the link.
 #[derive(Clone, Copy, Debug)]
-pub(crate) enum Heard<'a> {
+pub(crate) enum FrameKind<'a> {
     /// They are more than the 4,096 of the longest datagram.
     Long,
     /// They are no frame.
@@ -29,26 +29,26 @@ pub(crate) enum Heard<'a> {
 }
 
 /// What the octets of a frame are to the link.
-pub(crate) fn frame_at(octets: &[u8]) -> Heard<'_>
+pub(crate) fn frame_at(octets: &[u8]) -> FrameKind<'_>
     ensures heard { IsHeard octets.now result }
     ensures short { IsShort result }
 {
     if octets.len() > LONGEST {
-        return Heard::Long;
+        return FrameKind::Long;
     }
     let Ok(frame) = Ppp::read(octets) else {
-        return Heard::NoFrame;
+        return FrameKind::NoFrame;
     };
     if frame.protocol != protocol::LCP {
-        return Heard::Other(frame.protocol);
+        return FrameKind::Other(frame.protocol);
     }
     let Ok(packet) = Packet::read(frame.info) else {
-        return Heard::NoPacket;
+        return FrameKind::NoPacket;
     };
-    Heard::Lcp(packet)
+    FrameKind::Lcp(packet)
 }
 
-impl Link {
+impl LcpLink {
     /// Takes the octets of a frame.
     pub(crate) fn hear(
         &mut self,
@@ -56,7 +56,7 @@ impl Link {
         echo: u16,
         now: u64,
         random: &[u8; 16],
-        steps: &mut Steps,
+        steps: &mut LcpOutcome,
     )
         requires moment { now < 2 ^ 60 }
         requires quiet { said steps.old ≡ says_nothing }
@@ -64,9 +64,9 @@ impl Link {
         ensures few { length steps.new.outs.items ≤ 2 }
     {
         match frame_at(octets) {
-            Heard::Long | Heard::NoFrame | Heard::NoPacket => {}
-            Heard::Lcp(packet) => self.take(&packet, echo, now, random, steps),
-            Heard::Other(number) => self.pass(number, octets, steps),
+            FrameKind::Long | FrameKind::NoFrame | FrameKind::NoPacket => {}
+            FrameKind::Lcp(packet) => self.take(&packet, echo, now, random, steps),
+            FrameKind::Other(number) => self.pass(number, octets, steps),
         }
     }
 
@@ -77,7 +77,7 @@ impl Link {
         echo: u16,
         now: u64,
         random: &[u8; 16],
-        steps: &mut Steps,
+        steps: &mut LcpOutcome,
     )
         requires moment { now < 2 ^ 60 }
         requires body { length packet.now.body.now ≤ 4090 }

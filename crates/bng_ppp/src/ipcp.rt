@@ -1,12 +1,12 @@
 //! IPCP of a link (RFC 1332).
 ghost use Rattle.std.specs.Prelude.{◌≡◌, ◌+◌, option_map};
 ghost use Rattle.bng_ppp.specs.IpcpState.{ipcp_unused, first_ask};
-ghost use Rattle.bng_ppp.specs.LinkState.{is_opened as opened_in};
+ghost use Rattle.bng_ppp.specs.LcpState.{is_opened as opened_in};
 
 use crate::counters::NAKS_MOST;
 use crate::identifiers::first;
 use crate::ipcp_counters::IpcpKept;
-use crate::link::{MAX_CONFIGURE, MAX_TERMINATE};
+use crate::lcp_link::{MAX_CONFIGURE, MAX_TERMINATE};
 use bng_automaton::{Automaton, State};
 use bng_base::Ip4;
 use bng_ipcp::IpcpAsk;

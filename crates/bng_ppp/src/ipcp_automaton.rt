@@ -9,7 +9,7 @@ ghost use Rattle.std.specs.List.{sum_by};
 use crate::encapsulation::{send_bare, send_some};
 use crate::identifiers::{ending, next_id};
 use crate::ipcp::Ipcp;
-use crate::step::Steps;
+use crate::lcp_outcome::LcpOutcome;
 use bng_automaton::{Action, Event};
 use bng_ppp_wire::code::{TERMINATE_ACK, TERMINATE_REQUEST};
 use bng_ppp_wire::{Packet, protocol};
@@ -42,7 +42,7 @@ impl Ipcp {
     }
 
     /// An event whose actions answer a packet at most by a Terminate-Ack.
-    pub(crate) fn plainly(&mut self, event: Event, id: u8, now: u64, steps: &mut Steps)
+    pub(crate) fn plainly(&mut self, event: Event, id: u8, now: u64, steps: &mut LcpOutcome)
         requires moment { now < 2 ^ 60 }
         requires room { length steps.old.outs.items + most_of event ≤ 4 }
         ensures few { length steps.new.outs.items ≤ length steps.old.outs.items + most_of event }
@@ -58,7 +58,7 @@ impl Ipcp {
         event: Event,
         cause: &IpcpCause<'_>,
         now: u64,
-        steps: &mut Steps,
+        steps: &mut LcpOutcome,
     )
         requires moment { now < 2 ^ 60 }
         requires answer { AnswerFits cause.now.answer }
@@ -71,7 +71,7 @@ impl Ipcp {
     }
 
     // Does the actions of a cell in their order.
-    fn perform(&mut self, actions: &[Action], cause: &IpcpCause<'_>, steps: &mut Steps)
+    fn perform(&mut self, actions: &[Action], cause: &IpcpCause<'_>, steps: &mut LcpOutcome)
         requires answer { AnswerFits cause.now.answer }
         requires room { length steps.old.outs.items + sum_by sends actions.now ≤ 4 }
         ensures few { length steps.new.outs.items ≤ length steps.old.outs.items + sum_by sends actions.now }
@@ -84,7 +84,7 @@ impl Ipcp {
     }
 
     // Does one action.
-    fn act(&mut self, action: Action, cause: &IpcpCause<'_>, steps: &mut Steps)
+    fn act(&mut self, action: Action, cause: &IpcpCause<'_>, steps: &mut LcpOutcome)
         requires answer { AnswerFits cause.now.answer }
         requires room { length steps.old.outs.items + sends action ≤ 4 }
         ensures few { length steps.new.outs.items ≤ length steps.old.outs.items + sends action }
@@ -115,7 +115,7 @@ impl Ipcp {
     }
 
     // Sends a Terminate-Request.
-    fn terminate(&mut self, cause: &IpcpCause<'_>, steps: &mut Steps)
+    fn terminate(&mut self, cause: &IpcpCause<'_>, steps: &mut LcpOutcome)
         requires room { length steps.old.outs.items < 4 }
         ensures few { length steps.new.outs.items ≤ length steps.old.outs.items + 1 }
         ensures after { self.new ≡ (ipcp_terminated (ipcp_why cause.now) (record { ipcp = self.old; said = said steps.old })).ipcp }

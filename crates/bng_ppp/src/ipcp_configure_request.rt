@@ -12,7 +12,7 @@ use crate::identifiers::requested;
 use crate::ipcp::Ipcp;
 use crate::ipcp_automaton::IpcpCause;
 use crate::judgement::{code_of, event_of, naks_after, put_body};
-use crate::step::Steps;
+use crate::lcp_outcome::LcpOutcome;
 use bng_base::{Frame, Ip4};
 use bng_ipcp::{IpcpRules, Judged, judge};
 use bng_ppp_wire::{Packet, options, protocol};
@@ -35,7 +35,7 @@ impl Ipcp {
         packet: &Packet<'_>,
         dns: &[Option<Ip4>; 2],
         now: u64,
-        steps: &mut Steps,
+        steps: &mut LcpOutcome,
     )
         requires moment { now < 2 ^ 60 }
         requires body { length packet.now.body.now ≤ 4090 }
@@ -52,7 +52,7 @@ impl Ipcp {
     }
 
     // Answers a Configure-Request that was judged.
-    fn answer(&mut self, packet: &Packet<'_>, judged: &Judged<'_>, now: u64, steps: &mut Steps)
+    fn answer(&mut self, packet: &Packet<'_>, judged: &Judged<'_>, now: u64, steps: &mut LcpOutcome)
         requires moment { now < 2 ^ 60 }
         requires body { length packet.now.body.now ≤ 4090 }
         requires fits { IsSpellable judged.now }
@@ -77,7 +77,7 @@ impl Ipcp {
     }
 
     // Sends a Configure-Request.
-    pub(crate) fn configure(&mut self, cause: &IpcpCause<'_>, steps: &mut Steps)
+    pub(crate) fn configure(&mut self, cause: &IpcpCause<'_>, steps: &mut LcpOutcome)
         requires room { length steps.old.outs.items < 4 }
         ensures few { length steps.new.outs.items ≤ length steps.old.outs.items + 1 }
         ensures after { self.new ≡ (ipcp_configured (ipcp_why cause.now) (record { ipcp = self.old; said = said steps.old })).ipcp }

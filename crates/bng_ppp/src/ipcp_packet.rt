@@ -12,7 +12,7 @@ use crate::ipcp::Ipcp;
 use crate::ipcp_automaton::IpcpCause;
 use crate::ipcp_codes::{IpcpKind, ipcp_kind_at};
 use crate::maximum_receive_unit::{body_most, cut};
-use crate::step::Steps;
+use crate::lcp_outcome::LcpOutcome;
 use bng_automaton::Event;
 use bng_base::{Frame, Ip4};
 use bng_ipcp::Taken;
@@ -27,7 +27,7 @@ impl Ipcp {
         dns: &[Option<Ip4>; 2],
         mru: u16,
         now: u64,
-        steps: &mut Steps,
+        steps: &mut LcpOutcome,
     )
         requires moment { now < 2 ^ 60 }
         requires body { length packet.now.body.now ≤ 4090 }
@@ -45,7 +45,7 @@ impl Ipcp {
     }
 
     // A Configure-Ack, -Nak or -Reject.
-    fn reply(&mut self, packet: &Packet<'_>, now: u64, steps: &mut Steps)
+    fn reply(&mut self, packet: &Packet<'_>, now: u64, steps: &mut LcpOutcome)
         requires moment { now < 2 ^ 60 }
         requires room { length steps.old.outs.items ≤ 2 }
         ensures few { length steps.new.outs.items ≤ length steps.old.outs.items + 2 }
@@ -59,7 +59,7 @@ impl Ipcp {
     }
 
     // The event of a reply that is not ignored.
-    fn took(&mut self, event: Event, id: u8, now: u64, steps: &mut Steps)
+    fn took(&mut self, event: Event, id: u8, now: u64, steps: &mut LcpOutcome)
         requires moment { now < 2 ^ 60 }
         requires room { length steps.old.outs.items + most_of event ≤ 4 }
         ensures few { length steps.new.outs.items ≤ length steps.old.outs.items + most_of event }
@@ -70,7 +70,7 @@ impl Ipcp {
     }
 
     // Rejects a packet of an unknown code.
-    fn reject_code(&mut self, packet: &Packet<'_>, mru: u16, now: u64, steps: &mut Steps)
+    fn reject_code(&mut self, packet: &Packet<'_>, mru: u16, now: u64, steps: &mut LcpOutcome)
         requires moment { now < 2 ^ 60 }
         requires body { length packet.now.body.now ≤ 4090 }
         requires mru { mru ≤ 1500 }

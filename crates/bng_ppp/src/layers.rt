@@ -1,17 +1,17 @@
 //! The layers of a link, and what one going up or down is to those above it.
 ghost use Rattle.std.specs.Prelude.{◌<◌, ◌≤◌, ◌^◌, length, ◌≡◌, None, ◌+◌, ◌||◌, ◌&&◌, not};
 ghost use Rattle.bng_ppp.specs.Layers.{LcpSteps, lcp_told, LcpCloses, Above, authenticates, IpcpMoves};
-ghost use Rattle.bng_ppp.specs.WholeStep.{turn_of, IsFresh};
-ghost use Rattle.bng_ppp.specs.LinkState.{is_opened as opened_in};
+ghost use Rattle.bng_ppp.specs.LinkStep.{turn_of, IsFresh};
+ghost use Rattle.bng_ppp.specs.LcpState.{is_opened as opened_in};
 ghost use Rattle.bng_ppp.specs.IpcpAutomaton.{ipcp_plain};
 ghost use Rattle.bng_ppp.specs.Room.{most_of};
 
 use crate::authentication::{Authentication, send_challenge};
 use crate::identifiers::next_id;
-use crate::rules::{Input, LinkRules};
-use crate::whole_link::WholeLink;
-use crate::whole_step::WholeSteps;
-use crate::whole_timers::CHALLENGE_AFTER;
+use crate::rules::{LcpInput, LinkRules};
+use crate::link::Link;
+use crate::steps::Steps;
+use crate::link_timers::CHALLENGE_AFTER;
 use bng_auth::{Chap, Pap};
 use bng_automaton::Event;
 use bng_base::AuthKind;
@@ -19,15 +19,15 @@ use bng_base::AuthKind;
 /// So many milliseconds a peer's PAP is waited for.
 const PAP_WITHIN: u64 = 30_000;
 
-impl WholeLink {
+impl Link {
     /// A step of LCP alone, with which the step of the link begins, and what it is to the layers above.
     pub(crate) fn tell_lcp_alone(
         &mut self,
         rules: &LinkRules,
-        input: Input<'_>,
+        input: LcpInput<'_>,
         now: u64,
         random: &[u8; 16],
-        steps: &mut WholeSteps,
+        steps: &mut Steps,
     )
         requires moment { now < 2 ^ 60 }
         requires auth { 0 < length rules.now.auth.items }
@@ -45,10 +45,10 @@ impl WholeLink {
     pub(crate) fn tell_lcp(
         &mut self,
         rules: &LinkRules,
-        input: Input<'_>,
+        input: LcpInput<'_>,
         now: u64,
         random: &[u8; 16],
-        steps: &mut WholeSteps,
+        steps: &mut Steps,
     ) -> Option<u8>
         requires moment { now < 2 ^ 60 }
         requires auth { 0 < length rules.now.auth.items }
@@ -66,7 +66,7 @@ impl WholeLink {
         rules: &LinkRules,
         now: u64,
         random: &[u8; 16],
-        steps: &mut WholeSteps,
+        steps: &mut Steps,
     )
         requires moment { now < 2 ^ 60 }
         requires room { length steps.old.layer.outs.items ≤ 2 }
@@ -89,7 +89,7 @@ impl WholeLink {
         rules: &LinkRules,
         now: u64,
         random: &[u8; 16],
-        steps: &mut WholeSteps,
+        steps: &mut Steps,
     )
         requires moment { now < 2 ^ 60 }
         requires room { length steps.old.layer.outs.items ≤ 3 }
@@ -114,7 +114,7 @@ impl WholeLink {
         rules: &LinkRules,
         now: u64,
         random: &[u8; 16],
-        steps: &mut WholeSteps,
+        steps: &mut Steps,
     )
         requires moment { now < 2 ^ 60 }
         requires room { length steps.old.layer.outs.items ≤ 3 }
@@ -131,7 +131,7 @@ impl WholeLink {
     }
 
     // The peer is to authenticate itself, as LCP agreed.
-    fn authenticate(&mut self, name: &[u8], now: u64, random: &[u8; 16], steps: &mut WholeSteps)
+    fn authenticate(&mut self, name: &[u8], now: u64, random: &[u8; 16], steps: &mut Steps)
         requires moment { now < 2 ^ 60 }
         requires name { length name.now ≤ 64 }
         requires room { length steps.old.layer.outs.items ≤ 3 }
@@ -154,7 +154,7 @@ impl WholeLink {
     }
 
     /// One event of IPCP, whose actions answer no packet.
-    pub(crate) fn tell_ipcp(&mut self, event: Event, now: u64, steps: &mut WholeSteps)
+    pub(crate) fn tell_ipcp(&mut self, event: Event, now: u64, steps: &mut Steps)
         requires moment { now < 2 ^ 60 }
         requires room { length steps.old.layer.outs.items + most_of event ≤ 4 }
         ensures moves { IpcpMoves event (ipcp_plain self.old.ipcp.kept 0) now (turn_of self.old steps.old) (turn_of self.new steps.new) }

@@ -1,11 +1,11 @@
 //! One PPP link, by RFC 1661: it has no clock, no socket and takes no memory.
 //!
-//! [`WholeLink::step`] takes an input and a moment in milliseconds and writes the frames that are to be sent, and what came
+//! [`Link::step`] takes an input and a moment in milliseconds and writes the frames that are to be sent, and what came
 //! of the input: a question who the peer is, that data may pass, the end of a term, the end of the link. It joins LCP to the
 //! peer's authentication by PAP (RFC 1334) or CHAP (RFC 1994), and that to IPCP (RFC 1332). Its contract is a relation
 //! between the link before, the input, what is told and the link after, with one outcome.
 //!
-//! [`Link`] is LCP alone, of which the whole link is made: the automaton of RFC 1661 section 4 joined to the options of LCP
+//! [`LcpLink`] is LCP alone, of which the whole link is made: the automaton of RFC 1661 section 4 joined to the options of LCP
 //! (section 6), and what no packet has: identifiers, the peer's Maximum-Receive-Unit, the Configure-Naks in a row and the
 //! unanswered Echo-Requests. While LCP is Opened it passes frames of authentication, IPCP and IPv4 over.
 #![tactic(auto)]
@@ -30,20 +30,20 @@ mod ipcp_packet;
 mod judgement;
 mod laws;
 mod layers;
-mod link;
+mod lcp_link;
 mod lower_layer;
 mod maximum_receive_unit;
 mod protocol_reject;
 mod rules;
-mod step;
+mod lcp_outcome;
 mod terminate;
 mod timers;
 mod verdict;
-mod whole_frame;
-mod whole_input;
-mod whole_link;
-mod whole_step;
-mod whole_timers;
+mod link_frame;
+mod input;
+mod link;
+mod steps;
+mod link_timers;
 
 pub use crate::authentication::Authentication;
 pub use crate::counters::{ECHOES_UNANSWERED_MOST, Kept, NAKS_MOST};
@@ -54,9 +54,9 @@ pub use crate::laws::{
     link_frames_read_back, link_has_one_outcome, phases_tell, questions_open_by_asking,
     questions_stand_in_frames, steps_keep_phases, terms_last, yes_needs_a_verdict,
 };
+pub use crate::lcp_link::LcpLink;
+pub use crate::rules::{LcpInput, LinkKind, LinkRules};
+pub use crate::lcp_outcome::LcpOutcome;
+pub use crate::input::Input;
 pub use crate::link::Link;
-pub use crate::rules::{Input, LinkKind, LinkRules};
-pub use crate::step::Steps;
-pub use crate::whole_input::WholeInput;
-pub use crate::whole_link::WholeLink;
-pub use crate::whole_step::WholeSteps;
+pub use crate::steps::Steps;

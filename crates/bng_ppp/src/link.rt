@@ -1,81 +1,83 @@
-//! One PPP link, as far as LCP goes (RFC 1661).
-ghost use Rattle.std.specs.Prelude.{◌≤◌, ◌≡◌, ◌∷◌, [], ◌<◌, ◌^◌, length, ◌↔◌, ◌⊎◌, ℕ, IfSome, IsNone, option_map, ◌+◌};
-ghost use Rattle.bng_ppp.specs.LinkState.{IsFirstAsk, is_opened as opened_in};
-ghost use Rattle.bng_ppp.specs.Said.{said, quiet as says_nothing};
-ghost use Rattle.bng_ppp.specs.LinkRelation.{LinkSteps, earliest as first_of};
-ghost use Rattle.bng_ppp.specs.Echo.{EchoIsDue};
+//! A whole link: LCP, the peer's authentication and IPCP.
+ghost use Rattle.bng_ppp.specs.declared.authentication.Authentication.TheVariants as auth;
+ghost use Rattle.std.specs.Prelude.{◌≡◌, ◌∷◌, [], None, false, ◌<◌, ◌^◌, length, ◌≤◌, ◌↔◌, ◌⊎◌, ℕ, option_map, ◌+◌, IsSomeAnd};
+ghost use Rattle.bng_ppp.specs.IpcpState.{ipcp_unused};
+ghost use Rattle.bng_ppp.specs.LcpState.{IsFirstAsk, unused, kept_first, limit_of};
+ghost use Rattle.bng_ppp.specs.Phases.{is_begun, KeepsPhases};
+ghost use Rattle.bng_ppp.specs.LinkRelation.{LinkSteps, LinkGoes};
+ghost use Rattle.bng_ppp.specs.LinkTimers.{AuthIsDue};
+ghost use Rattle.bng_ppp.specs.LinkStep.{link_said, turn_of, IsFresh};
+ghost use Rattle.bng_ppp.specs.LinkState.{is_open, passes as passes_in};
 ghost use Rattle.bng_automaton.specs.Timer.{TimerIsOut};
+ghost use Rattle.bng_ppp.specs.LcpRelation.{earliest as first_of};
+ghost use Rattle.bng_ppp.specs.Echo.{EchoIsDue};
 
-use crate::counters::{Kept, NAKS_MOST};
-use crate::identifiers::first;
-use crate::lower_layer::first_ask;
-use crate::rules::{Input, LinkKind, LinkRules, limit};
-use crate::step::Steps;
+use crate::authentication::Authentication;
+use crate::ipcp::Ipcp;
+use crate::lcp_link::LcpLink;
+use crate::rules::{LcpInput, LinkKind, LinkRules};
 use crate::timers::earliest;
-use bng_automaton::{Automaton, Event, State};
+use crate::input::Input;
+use crate::steps::Steps;
 use bng_base::AuthKind;
-use bng_lcp::LcpAsk;
 use std::marker::Model;
 
-/// How often a Configure-Request and a Terminate-Request go out without an answer (RFC 1661 section 4.6).
-pub(crate) const MAX_CONFIGURE: u8 = 10;
-
-pub(crate) const MAX_TERMINATE: u8 = 2;
-
-/// One PPP link, as far as LCP goes (RFC 1661).
+/// One PPP link, from Start to its end (RFC 1661): LCP, the peer's authentication by PAP (RFC 1334) or CHAP (RFC 1994), and
+/// IPCP (RFC 1332).
 ///
-/// A contract sees LCP's automaton, the gateway's own side of LCP, and what the link keeps beside them.
+/// A contract sees LCP, how far authentication has come and when its timer is due, IPCP, CHAP's counter of identifiers, and
+/// whether a term is live.
 #[derive(Drop)]
 pub struct Link {
-    pub(crate) lcp: Automaton,
-    pub(crate) ask: LcpAsk,
-    pub(crate) kept: Kept,
+    pub(crate) lcp: LcpLink,
+    pub(crate) auth: Authentication,
+    pub(crate) auth_due: Option<u64>,
+    pub(crate) ipcp: Ipcp,
+    pub(crate) next_challenge: u8,
+    pub(crate) live: bool,
 }
 
 impl Model for Link {
-    ghost use Rattle.std.specs.Prelude.{◌≤◌};
-    ghost use Rattle.bng_ppp.specs.LinkState.{LinkState};
+    ghost use Rattle.bng_ppp.specs.LinkState.{LinkState, IsTimed};
 
     ghost Value = { LinkState };
 
-    ghost view = { λ l. record { lcp = l.lcp; ask = l.ask; kept = l.kept } };
+    ghost view = { λ l. record { lcp = l.lcp; auth = l.auth; auth_due = l.auth_due; ipcp = l.ipcp; next_challenge = l.next_challenge; live = l.live } };
 
-    ghost invariant = { λ l. (l.kept.limit ≤ 1500) × (l.kept.mru ≤ 1500) };
+    ghost invariant = { λ l. IsTimed l.auth l.auth_due };
 }
 
 impl Link {
-    ghost use Rattle.bng_ppp.specs.LinkState.{unused, kept_first, limit_of};
-
     /// A link that was told nothing. `random` are octets of which its magic number is made; Start makes it anew.
-    pub fn new(kind: LinkKind, random: &[u8; 16], _now: u64) -> Link
-        ensures lcp { result.lcp ≡ unused }
-        ensures ask { IsFirstAsk (limit_of kind) (AuthKind.Chap ∷ []) random.now result.ask }
-        ensures kept { result.kept ≡ kept_first (limit_of kind) }
+    pub fn new(kind: LinkKind, random: &[u8; 16], now: u64) -> Link
+        ensures lcp { result.lcp.lcp ≡ unused }
+        ensures ask { IsFirstAsk (limit_of kind) (AuthKind.Chap ∷ []) random.now result.lcp.ask }
+        ensures kept { result.lcp.kept ≡ kept_first (limit_of kind) }
+        ensures auth { result.auth ≡ auth.Idle }
+        ensures timer { result.auth_due ≡ None }
+        ensures ipcp { result.ipcp ≡ ipcp_unused (record { 0 = 0 }) }
+        ensures challenge { result.next_challenge ≡ 1 }
+        ensures term { result.live ≡ false }
+        ensures phases { KeepsPhases result }
     {
-        let limit = limit(kind);
         Link {
-            lcp: Automaton::new(MAX_CONFIGURE, MAX_TERMINATE, NAKS_MOST),
-            ask: first_ask(limit, &[AuthKind::Chap], random),
-            kept: Kept {
-                limit,
-                ids: first(),
-                mru: limit,
-                naks: 0,
-                was_opened: false,
-                unanswered: 0,
-                next_echo: None,
-            },
+            lcp: LcpLink::new(kind, random, now),
+            auth: Authentication::Idle,
+            auth_due: None,
+            ipcp: Ipcp::new(),
+            next_challenge: 1,
+            live: false,
         }
     }
 
-    /// Takes an input at a moment in milliseconds, below 2^60, and writes what is to be sent (RFC 1661 sections 4 to 6) into
-    /// `steps`, of which what stood there before is gone. The rules are equal at each step of a link. `random` are octets of
-    /// which magic numbers are made.
+    /// Takes an input at a moment in milliseconds, below 2^60, and writes what is to be sent and what came of it into `steps`,
+    /// of which what stood there before is gone. The rules are equal at each step of a link. `random` are octets of which
+    /// magic numbers and the Challenge are made.
     ///
-    /// Octets that are no frame, packets that are malformed, an Echo-Request without a magic number, a Configure-Request
-    /// of more than 64 options and a reply to another request than the last are ignored. While LCP is Opened a frame of
-    /// another protocol is rejected, but for IPCP, IPv4 and the protocol by which the peer authenticates itself. Where
-    /// three Echo-Requests in a row are unanswered as the next is due, the link is lost.
+    /// Once LCP is Opened the peer authenticates itself as was agreed: a Challenge goes out every 3 s, ten times in all, or
+    /// PAP is waited for 30 s; then LCP does Close. The question is asked once; what is heard until its verdict is ignored,
+    /// and after it gets the same reply again. An accepted peer negotiates IPCP, once it has an address; a refused one's LCP
+    /// does Close. Where LCP leaves Opened all this begins anew once it is Opened again. Of LCP the step is what [`LcpLink::step`] is.
     pub fn step(
         &mut self,
         rules: &LinkRules,
@@ -86,75 +88,92 @@ impl Link {
     )
         requires moment { now < 2 ^ 60 }
         requires auth { 0 < length rules.now.auth.items }
-        ensures { LinkSteps rules.now input.entry now random.now self.old (said steps.new) self.new }
+        ensures { LinkSteps rules.now input.entry now random.now self.old (link_said steps.new) self.new }
     {
         steps.clear();
-        self.take_input(rules, input, now, random, steps);
+        let term_ended = self.go(rules, input, now, random, steps);
+        self.live = self.live && !steps.left && !steps.ended;
+        steps.term_ended = term_ended;
     }
 
-    // Takes an input, and writes what is to be sent where nothing stands yet.
-    pub(crate) fn take_input(
+    // Goes on by an input, and answers the cause with which that ended a live term.
+    fn go(
         &mut self,
         rules: &LinkRules,
         input: Input<'_>,
         now: u64,
         random: &[u8; 16],
         steps: &mut Steps,
-    )
+    ) -> Option<u8>
         requires moment { now < 2 ^ 60 }
         requires auth { 0 < length rules.now.auth.items }
-        requires quiet { said steps.old ≡ says_nothing }
-        ensures steps { LinkSteps rules.now input.entry now random.now self.old (said steps.new) self.new }
-        ensures few { length steps.new.outs.items ≤ 2 }
+        requires fresh { IsFresh self.old steps.old }
+        ensures { LinkGoes rules.now input.entry now random.now self.old (turn_of self.new steps.new) result }
     {
         match input {
-            Input::Start => self.start(rules.auth.as_slice(), rules.echo, now, random, steps),
-            Input::Frame(octets) => self.hear(octets, rules.echo, now, random, steps),
-            Input::Timer => self.remind(rules.echo, now, steps),
-            Input::Close => self.plainly(Event::Close, 0, rules.echo, now, steps),
-            Input::Lost => self.lose(rules.echo, now, steps),
+            Input::Start => self.tell_lcp(rules, LcpInput::Start, now, random, steps),
+            Input::Frame(octets) => self.hear_counted(rules, octets, now, random, steps),
+            Input::Timer => self.remind_counted(rules, now, random, steps),
+            Input::Verdict { yes, lease, text } => {
+                // A verdict counts while the question is open. It ends no live term.
+                if self.auth.is_open() {
+                    if yes {
+                        self.accept(rules, lease, text.as_slice(), now, steps);
+                    } else {
+                        self.refuse(rules, text.as_slice(), now, random, steps);
+                    }
+                }
+                None
+            }
+            Input::Close => self.tell_lcp(rules, LcpInput::Close, now, random, steps),
+            Input::Lost => self.tell_lcp(rules, LcpInput::Lost, now, random, steps),
         }
+    }
+
+    /// Whether data passes: LCP and IPCP are Opened.
+    pub fn passes(&self) -> bool
+        ensures { result ≡ passes_in self.now }
+    {
+        self.lcp.is_opened() && self.ipcp.is_opened()
+    }
+
+    /// Whether it asked who the peer is and has no verdict yet.
+    pub fn asks(&self) -> bool
+        ensures { result ≡ is_open self.now.auth }
+    {
+        self.auth.is_open()
+    }
+
+    /// Whether the peer's authentication has begun, and its outcome counts still.
+    pub fn authenticates(&self) -> bool
+        ensures { result ≡ is_begun self.now.auth }
+    {
+        self.auth.is_begun()
     }
 
     /// Whether LCP was ever Opened.
     pub fn was_opened(&self) -> bool
-        ensures { result ≡ self.now.kept.was_opened }
+        ensures { result ≡ self.now.lcp.kept.was_opened }
     {
-        self.kept.was_opened
-    }
-
-    /// Whether LCP is Opened.
-    pub fn is_opened(&self) -> bool
-        ensures { result ≡ opened_in self.now.lcp.state }
-    {
-        match self.lcp.state() {
-            State::Opened => true,
-            _ => false,
-        }
-    }
-
-    /// The protocol by which the peer is asked to authenticate itself.
-    pub(crate) fn auth(&self) -> AuthKind
-        ensures { result ≡ self.now.ask.wanted.auth }
-    {
-        self.ask.wanted().auth
+        self.lcp.was_opened()
     }
 
     /// The peer's Maximum-Receive-Unit, in octets: that of its last Configure-Request that was acknowledged, and the
     /// limit where that has none or where there was none.
     pub fn mru(&self) -> u16
-        ensures mru { result ≡ self.now.kept.mru }
+        ensures mru { result ≡ self.now.lcp.kept.mru }
         ensures most { result ≤ 1500 }
     {
-        self.kept.mru
+        self.lcp.mru()
     }
 
     /// The first moment, in milliseconds, at which Timer does something; none exactly where no timer runs.
     pub fn deadline(&self) -> Option<u64>
-        ensures answer { result ≡ first_of (option_map (λ t. t + 3000) self.now.lcp.started) self.now.kept.next_echo }
-        ensures first { IfSome result (λ end. (moment : ℕ) → (end ≤ moment) ↔ (TimerIsOut self.now.lcp moment ⊎ EchoIsDue self.now moment)) }
-        ensures none { IsNone result ↔ (IsNone self.now.lcp.started × IsNone self.now.kept.next_echo) }
+        ensures answer { result ≡ first_of (first_of (first_of (option_map (λ t. t + 3000) self.now.lcp.lcp.started) self.now.lcp.kept.next_echo) self.now.auth_due) (option_map (λ t. t + 3000) self.now.ipcp.machine.started) }
+        ensures due { (moment : ℕ) → IsSomeAnd result (λ end. end ≤ moment)
+            ↔ (TimerIsOut self.now.lcp.lcp moment ⊎ (EchoIsDue self.now.lcp moment ⊎ (AuthIsDue self.now moment ⊎ TimerIsOut self.now.ipcp.machine moment))) }
     {
-        earliest(self.lcp.deadline(), self.kept.next_echo)
+        let lcp = earliest(self.lcp.deadline(), self.auth_due);
+        earliest(lcp, self.ipcp.deadline())
     }
 }

@@ -1,11 +1,11 @@
 //! The lower layer of a link: it is ready, or gone (RFC 1661 section 4.3, Up and Down).
 ghost use Rattle.std.specs.Prelude.{◌<◌, ◌≤◌, length, ◌≡◌, ◌^◌};
-ghost use Rattle.bng_ppp.specs.LinkState.{IsFirstAsk, is_down as down_in};
+ghost use Rattle.bng_ppp.specs.LcpState.{IsFirstAsk, is_down as down_in};
 ghost use Rattle.bng_ppp.specs.LowerLayer.{Starts, Asks, Loses};
 ghost use Rattle.bng_ppp.specs.Said.{said, quiet as says_nothing};
 
-use crate::link::Link;
-use crate::step::Steps;
+use crate::lcp_link::LcpLink;
+use crate::lcp_outcome::LcpOutcome;
 use arrayvec::ArrayVec;
 use bng_automaton::{Event, State};
 use bng_base::AuthKind;
@@ -37,7 +37,7 @@ fn is_down(state: State) -> bool
     }
 }
 
-impl Link {
+impl LcpLink {
     // Open, and then Up.
     pub(crate) fn start(
         &mut self,
@@ -45,7 +45,7 @@ impl Link {
         echo: u16,
         now: u64,
         random: &[u8; 16],
-        steps: &mut Steps,
+        steps: &mut LcpOutcome,
     )
         requires moment { now < 2 ^ 60 }
         requires some { 0 < length auth.now }
@@ -74,7 +74,7 @@ impl Link {
     }
 
     /// Takes the loss of the lower layer.
-    pub(crate) fn lose(&mut self, echo: u16, now: u64, steps: &mut Steps)
+    pub(crate) fn lose(&mut self, echo: u16, now: u64, steps: &mut LcpOutcome)
         requires moment { now < 2 ^ 60 }
         requires quiet { said steps.old ≡ says_nothing }
         ensures loses { Loses echo now self.old (said steps.new) self.new }

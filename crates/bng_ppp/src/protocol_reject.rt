@@ -5,9 +5,9 @@ ghost use Rattle.bng_ppp.specs.Said.{said, quiet as says_nothing};
 
 use crate::encapsulation::send;
 use crate::identifiers::next_id;
-use crate::link::Link;
+use crate::lcp_link::LcpLink;
 use crate::maximum_receive_unit::{body_most, cut};
-use crate::step::Steps;
+use crate::lcp_outcome::LcpOutcome;
 use bng_automaton::State;
 use bng_base::AuthKind;
 use bng_ppp_wire::code::PROTOCOL_REJECT;
@@ -30,9 +30,9 @@ fn is_known(number: u16, auth: AuthKind) -> bool
     number == protocol::IPCP || number == protocol::IPV4 || number == protocol_of(auth)
 }
 
-impl Link {
+impl LcpLink {
     // A frame of another protocol.
-    pub(crate) fn pass(&mut self, number: u16, octets: &[u8], steps: &mut Steps)
+    pub(crate) fn pass(&mut self, number: u16, octets: &[u8], steps: &mut LcpOutcome)
         requires { said steps.old ≡ says_nothing }
         ensures said { said steps.new ≡ (hears_other (is_rejected self.old number) octets.now self.old).said }
         ensures after { self.new ≡ (hears_other (is_rejected self.old number) octets.now self.old).link }

@@ -1,5 +1,5 @@
 ghost use Rattle.std.specs.Prelude.{◌≡◌};
-ghost use Rattle.bng_ppp.specs.LinkState.{limit_of};
+ghost use Rattle.bng_ppp.specs.LcpState.{limit_of};
 
 use arrayvec::ArrayVec;
 use bng_base::{AuthKind, Ip4};
@@ -44,7 +44,7 @@ pub(crate) fn limit(kind: LinkKind) -> u16
 
 /// What a link is told.
 #[derive(Clone, Copy)]
-pub enum Input<'a> {
+pub enum LcpInput<'a> {
     /// The link may be opened and its lower layer is ready: Open and then Up.
     Start,
     /// The octets of a PPP frame came, from its protocol on.

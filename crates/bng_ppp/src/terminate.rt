@@ -6,14 +6,14 @@ ghost use Rattle.bng_ppp.specs.Automaton.{why, terminated};
 use crate::automaton::Cause;
 use crate::encapsulation::send_bare;
 use crate::identifiers::ending;
-use crate::link::Link;
-use crate::step::Steps;
+use crate::lcp_link::LcpLink;
+use crate::lcp_outcome::LcpOutcome;
 use bng_ppp_wire::code::TERMINATE_REQUEST;
 use bng_ppp_wire::protocol;
 
-impl Link {
+impl LcpLink {
     // Sends a Terminate-Request.
-    pub(crate) fn terminate(&mut self, cause: &Cause<'_>, steps: &mut Steps)
+    pub(crate) fn terminate(&mut self, cause: &Cause<'_>, steps: &mut LcpOutcome)
         requires room { length steps.old.outs.items < 4 }
         ensures few { length steps.new.outs.items ≤ length steps.old.outs.items + 1 }
         ensures after { self.new ≡ (terminated (why cause.now) (record { link = self.old; said = said steps.old })).link }

@@ -1,13 +1,13 @@
 //! The timers of a link (RFC 1661 section 4.6).
 ghost use Rattle.std.specs.Prelude.{◌≡◌, ◌≤◌, ◌<◌, ◌^◌, length};
-ghost use Rattle.bng_ppp.specs.LinkRelation.{earliest as first_of};
+ghost use Rattle.bng_ppp.specs.LcpRelation.{earliest as first_of};
 ghost use Rattle.bng_ppp.specs.Timers.{Reminds};
 ghost use Rattle.bng_ppp.specs.Said.{said, quiet as says_nothing};
 
 use crate::automaton::Cause;
 use crate::counters::ECHOES_UNANSWERED_MOST;
-use crate::link::Link;
-use crate::step::Steps;
+use crate::lcp_link::LcpLink;
+use crate::lcp_outcome::LcpOutcome;
 
 // The earlier of two moments.
 pub(crate) fn earliest(a: Option<u64>, b: Option<u64>) -> Option<u64>
@@ -20,9 +20,9 @@ pub(crate) fn earliest(a: Option<u64>, b: Option<u64>) -> Option<u64>
     }
 }
 
-impl Link {
+impl LcpLink {
     /// Does what the timers ask for.
-    pub(crate) fn remind(&mut self, echo: u16, now: u64, steps: &mut Steps)
+    pub(crate) fn remind(&mut self, echo: u16, now: u64, steps: &mut LcpOutcome)
         requires moment { now < 2 ^ 60 }
         requires quiet { said steps.old ≡ says_nothing }
         ensures reminds { Reminds echo now self.old (said steps.new) self.new }

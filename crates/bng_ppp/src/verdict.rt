@@ -1,17 +1,17 @@
 //! The verdict on a peer.
 ghost use Rattle.std.specs.Prelude.{◌≡◌, ◌<◌, ◌≤◌, ◌^◌, None, length, ◌+◌};
 ghost use Rattle.bng_ppp.specs.Verdict.{Settles, Accepts, Refuses, Begins, BeginsFor};
-ghost use Rattle.bng_ppp.specs.PppState.{is_open as open_in};
-ghost use Rattle.bng_ppp.specs.WholeStep.{turn_of, IsFresh};
+ghost use Rattle.bng_ppp.specs.LinkState.{is_open as open_in};
+ghost use Rattle.bng_ppp.specs.LinkStep.{turn_of, IsFresh};
 
 use crate::authentication::send_reply;
 use crate::rules::LinkRules;
-use crate::whole_link::WholeLink;
-use crate::whole_step::WholeSteps;
+use crate::link::Link;
+use crate::steps::Steps;
 use bng_automaton::Event;
 use bng_base::Ip4;
 
-impl WholeLink {
+impl Link {
     /// The peer is accepted: the reply goes out, and a term begins where there is a lease.
     pub(crate) fn accept(
         &mut self,
@@ -19,7 +19,7 @@ impl WholeLink {
         lease: Option<Ip4>,
         text: &[u8],
         now: u64,
-        steps: &mut WholeSteps,
+        steps: &mut Steps,
     )
         requires moment { now < 2 ^ 60 }
         requires text { length text.now ≤ 253 }
@@ -33,7 +33,7 @@ impl WholeLink {
     }
 
     // The term of an accepted peer begins where it has an address.
-    fn begin_for(&mut self, rules: &LinkRules, lease: Option<Ip4>, now: u64, steps: &mut WholeSteps)
+    fn begin_for(&mut self, rules: &LinkRules, lease: Option<Ip4>, now: u64, steps: &mut Steps)
         requires moment { now < 2 ^ 60 }
         requires room { length steps.old.layer.outs.items ≤ 1 }
         ensures { BeginsFor lease rules.now now (turn_of self.old steps.old) (turn_of self.new steps.new) }
@@ -44,7 +44,7 @@ impl WholeLink {
     }
 
     // A term begins: IPCP does Open and Up for this lease.
-    fn begin_term(&mut self, rules: &LinkRules, lease: Ip4, now: u64, steps: &mut WholeSteps)
+    fn begin_term(&mut self, rules: &LinkRules, lease: Ip4, now: u64, steps: &mut Steps)
         requires moment { now < 2 ^ 60 }
         requires room { length steps.old.layer.outs.items ≤ 1 }
         ensures { Begins rules.now lease now (turn_of self.old steps.old) (turn_of self.new steps.new) }
@@ -62,7 +62,7 @@ impl WholeLink {
         text: &[u8],
         now: u64,
         random: &[u8; 16],
-        steps: &mut WholeSteps,
+        steps: &mut Steps,
     )
         requires moment { now < 2 ^ 60 }
         requires text { length text.now ≤ 253 }

@@ -4,7 +4,7 @@ use Rattle.std.proofs.lemmas.List.Elements.{All-cons}
 use Rattle.bng_base.specs.PppGrammar.{PppOption}
 use Rattle.bng_ppp_wire.specs.declared.view.Opt.{Opt}
 use Rattle.bng_ppp_wire.specs.View.{option_of, options_of}
-use Rattle.bng_ppp_wire.specs.declared.option_table.Row.{Row}
+use Rattle.bng_ppp_wire.specs.declared.option_table.OptionRow.{OptionRow}
 use Rattle.bng_ppp_wire.specs.declared.judgement.Class.{Class}
 use Rattle.bng_ppp_wire.specs.declared.judgement.Class.TheVariants.{Ack, Nak, Reject}
 use Rattle.bng_ppp_wire.specs.declared.judgement.Judged.{Judged}
@@ -31,7 +31,7 @@ append-none : (xs ys : List PppOption) → xs ++ ys ≡ [] → (xs ≡ []) × (y
 append-none [] ys e = (refl, e)
 append-none (x ∷ xs) ys e = absurd cc
 
-all_acked : (r : List Row) (n : Bool) (os : List Opt) → rejected r n (options_of os) ≡ [] → corrected r n (options_of os) ≡ [] → All (λ o. class_of r n (option_of o) ≡ Ack) os
+all_acked : (r : List OptionRow) (n : Bool) (os : List Opt) → rejected r n (options_of os) ≡ [] → corrected r n (options_of os) ≡ [] → All (λ o. class_of r n (option_of o) ≡ Ack) os
 all_acked r n [] p q = λ k d h. absurd (omega arith)
 all_acked r n (o ∷ os) p q =
     let c = class_of r n (option_of o) in
@@ -40,7 +40,7 @@ all_acked r n (o ∷ os) p q =
     let second = no_nak (suggested r) c (option_of o) others q in
     All-cons (λ x. class_of r n (option_of x) ≡ Ack) o os (neither c first.0 second.0) (all_acked r n os first.1 second.1)
 
-none_else : (r : List Row) (n : Bool) (os : List Opt) → All (λ o. class_of r n (option_of o) ≡ Ack) os → (rejected r n (options_of os) ≡ []) × (corrected r n (options_of os) ≡ [])
+none_else : (r : List OptionRow) (n : Bool) (os : List Opt) → All (λ o. class_of r n (option_of o) ≡ Ack) os → (rejected r n (options_of os) ≡ []) × (corrected r n (options_of os) ≡ [])
 none_else r n [] all = (refl, refl)
 none_else r n (o ∷ os) all =
     let here : class_of r n (option_of o) ≡ Ack = all 0 o (omega arith) in
@@ -50,10 +50,10 @@ none_else r n (o ∷ os) all =
       ap (λ (c : Class). map (suggested r) (cond (is_nak c) (option_of o ∷ others) others)) here ∙ rest.1,
     )
 
-none_naked : (r : List Row) (n : Bool) (os : List Opt) → corrected r n (options_of os) ≡ [] → added r n (options_of os) ≡ [] → naked r n (options_of os) ≡ []
+none_naked : (r : List OptionRow) (n : Bool) (os : List Opt) → corrected r n (options_of os) ≡ [] → added r n (options_of os) ≡ [] → naked r n (options_of os) ≡ []
 none_naked r n os p q = ap (λ (xs : List PppOption). xs ++ added r n (options_of os)) p ∙ q
 
-pub ack_iff : (r : List Row) (n : Bool) (os : List Opt) (j : Judged) → IsJudgement r n (options_of os) j → (j ≡ judged.Ack) ↔ (All (λ o. class_of r n (option_of o) ≡ Ack) os × (added r n (options_of os) ≡ []))
+pub ack_iff : (r : List OptionRow) (n : Bool) (os : List Opt) (j : Judged) → IsJudgement r n (options_of os) j → (j ≡ judged.Ack) ↔ (All (λ o. class_of r n (option_of o) ≡ Ack) os × (added r n (options_of os) ≡ []))
 ack_iff r n os judged.Ack is =
     let parts = append-none (corrected r n (options_of os)) (added r n (options_of os)) is.1 in
     (λ _. (all_acked r n os is.0 parts.0, parts.1), λ _. refl)

@@ -4,8 +4,8 @@ use Rattle.bng_base.specs.PppGrammar.{ControlPacket, PppOption, AreOptions}
 use Rattle.bng_ppp_wire.specs.Codes.{configure_ack, configure_nak, configure_reject}
 use Rattle.bng_ppp_wire.specs.View.{options_of}
 use Rattle.bng_ppp_wire.specs.Listing.{names}
-use Rattle.bng_ppp_wire.specs.declared.configure_reply.Reply.{Reply}
-use Rattle.bng_ppp_wire.specs.declared.configure_reply.Reply.TheVariants as reply
+use Rattle.bng_ppp_wire.specs.declared.configure_reply.ConfigureReply.{ConfigureReply}
+use Rattle.bng_ppp_wire.specs.declared.configure_reply.ConfigureReply.TheVariants as reply
 
 -- a Configure-Request that was sent: its Identifier and its options
 pub record Request : Type 0 where
@@ -35,7 +35,7 @@ abbrev pub IsReject : Request → ControlPacket → List PppOption → Type 0
 IsReject request packet options = IsReply request packet configure_reject options × (options ≡ named_of request.options options)
 
 -- What a packet is to a request. It is no reply exactly where it is none of the three.
-abbrev pub IsRead : Request → ControlPacket → Reply → Type 0
+abbrev pub IsRead : Request → ControlPacket → ConfigureReply → Type 0
 IsRead request packet reply.Ack = IsAck request packet
 IsRead request packet (reply.Nak options) = IsNak request packet (options_of options.items)
 IsRead request packet (reply.Reject options) = IsReject request packet (options_of options.items)

@@ -2,7 +2,7 @@
 use Rattle.std.specs.Prelude.{◌≡◌, ◌≢◌, ℕ, Bool, true, false, ◌&&◌, not, List, [], ◌++◌, map, filter, Option, Some, None, if◌then◌else◌}
 use Rattle.bng_base.specs.PppGrammar.{PppOption}
 use Rattle.bng_ppp_wire.specs.declared.option_table.Good.{Good}
-use Rattle.bng_ppp_wire.specs.declared.option_table.Row.{Row}
+use Rattle.bng_ppp_wire.specs.declared.option_table.OptionRow.{OptionRow}
 use Rattle.bng_ppp_wire.specs.declared.judgement.Class.{Class}
 use Rattle.bng_ppp_wire.specs.declared.judgement.Class.TheVariants.{Ack, Nak, Reject}
 use Rattle.bng_ppp_wire.specs.declared.judgement.Judged.{Judged}
@@ -21,12 +21,12 @@ abbrev pub class_at : Bool → Good → Option ℕ → Class
 class_at no_more_naks good None = Reject
 class_at no_more_naks good (Some n) = if is_good good n then Ack else not_good no_more_naks
 
-abbrev pub class_by : Bool → List ℕ → Option Row → Class
+abbrev pub class_by : Bool → List ℕ → Option OptionRow → Class
 class_by no_more_naks value None = Reject
 class_by no_more_naks value (Some row) = class_at no_more_naks row.good (number_of row.width value)
 
 -- The class of an option. A type that is not negotiated, and a wrong length, is rejected.
-abbrev pub class_of : List Row → Bool → PppOption → Class
+abbrev pub class_of : List OptionRow → Bool → PppOption → Class
 class_of rows no_more_naks o = class_by no_more_naks o.value (row_of rows o.kind)
 
 abbrev pub is_nak : Class → Bool
@@ -40,27 +40,27 @@ is_reject Nak = false
 is_reject Reject = true
 
 -- the options of a Configure-Reject: those of the request of that class, in its order
-abbrev pub rejected : List Row → Bool → List PppOption → List PppOption
+abbrev pub rejected : List OptionRow → Bool → List PppOption → List PppOption
 rejected rows no_more_naks request = filter (λ o. is_reject (class_of rows no_more_naks o)) request
 
 -- what is suggested in the place of those of the request that are naked, in its order
-abbrev pub corrected : List Row → Bool → List PppOption → List PppOption
+abbrev pub corrected : List OptionRow → Bool → List PppOption → List PppOption
 corrected rows no_more_naks request = map (suggested rows) (filter (λ o. is_nak (class_of rows no_more_naks o)) request)
 
 -- whether a row must be named, and the request does not
-abbrev pub is_missing : List PppOption → Row → Bool
+abbrev pub is_missing : List PppOption → OptionRow → Bool
 is_missing request row = row.must_be_named && not (names request row.kind)
 
 -- what a Configure-Nak adds: what must be named and is not, in the table's order, while Naks may go out
-abbrev pub added : List Row → Bool → List PppOption → List PppOption
+abbrev pub added : List OptionRow → Bool → List PppOption → List PppOption
 added rows no_more_naks request = if no_more_naks then [] else map suggestion_of (filter (is_missing request) rows)
 
 -- the options of a Configure-Nak
-abbrev pub naked : List Row → Bool → List PppOption → List PppOption
+abbrev pub naked : List OptionRow → Bool → List PppOption → List PppOption
 naked rows no_more_naks request = corrected rows no_more_naks request ++ added rows no_more_naks request
 
 -- The answer is the first class, of Reject, Nak and Ack, that has an option.
-abbrev pub IsJudgement : List Row → Bool → List PppOption → Judged → Type 0
+abbrev pub IsJudgement : List OptionRow → Bool → List PppOption → Judged → Type 0
 IsJudgement rows no_more_naks request (judged.Reject options) =
     (options_of options.items ≡ rejected rows no_more_naks request) × (rejected rows no_more_naks request ≢ [])
 IsJudgement rows no_more_naks request (judged.Nak options) =

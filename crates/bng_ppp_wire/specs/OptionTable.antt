@@ -6,7 +6,7 @@ use Rattle.bng_ppp_wire.specs.declared.option_table.Width.{Width}
 use Rattle.bng_ppp_wire.specs.declared.option_table.Width.TheVariants.{Two, Four}
 use Rattle.bng_ppp_wire.specs.declared.option_table.Good.{Good}
 use Rattle.bng_ppp_wire.specs.declared.option_table.Good.TheVariants.{Within, Neither, Only}
-use Rattle.bng_ppp_wire.specs.declared.option_table.Row.{Row}
+use Rattle.bng_ppp_wire.specs.declared.option_table.OptionRow.{OptionRow}
 
 abbrev pub octets_in : Width → ℕ
 octets_in Two = 2
@@ -27,17 +27,17 @@ is_good (Neither first second) n = not (n == first || n == second)
 is_good (Only right) n = n == right
 
 -- the row of an option's type, the first one where there are several; a type that is not negotiated has none
-abbrev pub row_of : List Row → ℕ → Option Row
+abbrev pub row_of : List OptionRow → ℕ → Option OptionRow
 row_of rows kind = find (λ row. row.kind == kind) rows
 
 -- the option that a row suggests
-abbrev pub suggestion_of : Row → PppOption
+abbrev pub suggestion_of : OptionRow → PppOption
 suggestion_of row = record { kind = row.kind; value = big_bytes (octets_in row.width) row.suggestion }
 
 -- what is suggested in the place of an option of this type
-abbrev pub suggestion_in : ℕ → Option Row → PppOption
+abbrev pub suggestion_in : ℕ → Option OptionRow → PppOption
 suggestion_in kind None = record { kind = kind; value = [] }
 suggestion_in kind (Some row) = suggestion_of row
 
-abbrev pub suggested : List Row → PppOption → PppOption
+abbrev pub suggested : List OptionRow → PppOption → PppOption
 suggested rows o = suggestion_in o.kind (row_of rows o.kind)

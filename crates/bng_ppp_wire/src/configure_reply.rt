@@ -14,7 +14,7 @@ use bng_base::{Frame, ROOM};
 
 /// What a packet is to a Configure-Request that was sent.
 #[derive(Drop)]
-pub enum Reply<'a> {
+pub enum ConfigureReply<'a> {
     /// The Configure-Ack: it has the request's Identifier and exactly its options.
     Ack,
     /// A Configure-Nak with the request's Identifier, and the options that it lists.
@@ -28,21 +28,21 @@ pub enum Reply<'a> {
 
 /// Reads a packet as a reply to the Configure-Request of this Identifier that asked for these options, at most 64
 /// (RFC 1661 sections 5.2 to 5.4).
-pub fn read_reply<'a>(id: u8, asked: &[MadeOpt], packet: &Packet<'a>) -> Reply<'a>
+pub fn read_reply<'a>(id: u8, asked: &[MadeOpt], packet: &Packet<'a>) -> ConfigureReply<'a>
     requires { length asked.now ≤ 64 }
     ensures { IsRead (record { id = id; options = all_made_of asked.now }) (packet_of packet.now) result }
 {
     if packet.id != id {
-        return Reply::Other;
+        return ConfigureReply::Other;
     }
     let Ok(found) = options(packet) else {
-        return Reply::Other;
+        return ConfigureReply::Other;
     };
     match packet.code {
-        CONFIGURE_ACK if is_acked(asked, packet.body) => Reply::Ack,
-        CONFIGURE_NAK => Reply::Nak(found),
-        CONFIGURE_REJECT if is_part(asked, found.as_slice(), packet.body) => Reply::Reject(found),
-        _ => Reply::Other,
+        CONFIGURE_ACK if is_acked(asked, packet.body) => ConfigureReply::Ack,
+        CONFIGURE_NAK => ConfigureReply::Nak(found),
+        CONFIGURE_REJECT if is_part(asked, found.as_slice(), packet.body) => ConfigureReply::Reject(found),
+        _ => ConfigureReply::Other,
     }
 }
 

@@ -6,7 +6,7 @@ ghost use Rattle.bng_ppp_wire.specs.Judgement.{IsJudgement, class_of, not_good a
 
 use crate::listing::names;
 use crate::made_option::{MadeOpt, made};
-use crate::option_table::{Row, number, row_for};
+use crate::option_table::{OptionRow, number, row_for};
 use crate::view::Opt;
 use arrayvec::ArrayVec;
 
@@ -36,7 +36,7 @@ pub enum Judged<'a> {
 /// Configure-Nak lists for each option whose value is not taken what its row suggests, and then what must be named and
 /// is not. Where there is none of these either, the request is acknowledged. `no_more_naks` says that what would be
 /// naked is rejected, and that nothing is added.
-pub fn judge<'a>(rows: &[Row], no_more_naks: bool, request: &[Opt<'a>]) -> Judged<'a>
+pub fn judge<'a>(rows: &[OptionRow], no_more_naks: bool, request: &[Opt<'a>]) -> Judged<'a>
     requires few { length request.now ≤ 64 }
     requires one { count_by (λ row. row.must_be_named) rows.now ≤ 1 }
     ensures answer { IsJudgement rows.now no_more_naks (options_of request.now) result }
@@ -48,7 +48,7 @@ pub fn judge<'a>(rows: &[Row], no_more_naks: bool, request: &[Opt<'a>]) -> Judge
 }
 
 // The first class that has an option.
-fn first_class<'a>(rows: &[Row], no_more_naks: bool, request: &[Opt<'a>]) -> Judged<'a>
+fn first_class<'a>(rows: &[OptionRow], no_more_naks: bool, request: &[Opt<'a>]) -> Judged<'a>
     requires few { length request.now ≤ 64 }
     requires one { count_by (λ row. row.must_be_named) rows.now ≤ 1 }
     ensures { IsJudgement rows.now no_more_naks (options_of request.now) result }
@@ -65,7 +65,7 @@ fn first_class<'a>(rows: &[Row], no_more_naks: bool, request: &[Opt<'a>]) -> Jud
 }
 
 // The options of a Configure-Reject.
-fn rejected<'a>(rows: &[Row], no_more_naks: bool, request: &[Opt<'a>]) -> ArrayVec<Opt<'a>, 64>
+fn rejected<'a>(rows: &[OptionRow], no_more_naks: bool, request: &[Opt<'a>]) -> ArrayVec<Opt<'a>, 64>
     requires { length request.now ≤ 64 }
     ensures { options_of result.items ≡ all_rejected rows.now no_more_naks (options_of request.now) }
 {
@@ -79,7 +79,7 @@ fn rejected<'a>(rows: &[Row], no_more_naks: bool, request: &[Opt<'a>]) -> ArrayV
 }
 
 // The options of a Configure-Nak.
-fn naked(rows: &[Row], no_more_naks: bool, request: &[Opt<'_>]) -> ArrayVec<MadeOpt, 65>
+fn naked(rows: &[OptionRow], no_more_naks: bool, request: &[Opt<'_>]) -> ArrayVec<MadeOpt, 65>
     requires few { length request.now ≤ 64 }
     requires one { count_by (λ row. row.must_be_named) rows.now ≤ 1 }
     ensures { all_made_of result.items ≡ all_naked rows.now no_more_naks (options_of request.now) }
@@ -92,7 +92,7 @@ fn naked(rows: &[Row], no_more_naks: bool, request: &[Opt<'_>]) -> ArrayVec<Made
 }
 
 // What is suggested in the place of options of the request.
-fn corrected(rows: &[Row], no_more_naks: bool, request: &[Opt<'_>]) -> ArrayVec<MadeOpt, 65>
+fn corrected(rows: &[OptionRow], no_more_naks: bool, request: &[Opt<'_>]) -> ArrayVec<MadeOpt, 65>
     requires { length request.now ≤ 64 }
     ensures are { all_made_of result.items ≡ all_corrected rows.now no_more_naks (options_of request.now) }
     ensures few { length result.items ≤ 64 }
@@ -107,7 +107,7 @@ fn corrected(rows: &[Row], no_more_naks: bool, request: &[Opt<'_>]) -> ArrayVec<
 }
 
 // Adds what must be named and is not.
-fn add_missing(rows: &[Row], request: &[Opt<'_>], list: &mut ArrayVec<MadeOpt, 65>)
+fn add_missing(rows: &[OptionRow], request: &[Opt<'_>], list: &mut ArrayVec<MadeOpt, 65>)
     requires few { length list.old.items ≤ 64 }
     requires one { count_by (λ row. row.must_be_named) rows.now ≤ 1 }
     ensures { all_made_of list.new.items
@@ -120,7 +120,7 @@ fn add_missing(rows: &[Row], request: &[Opt<'_>], list: &mut ArrayVec<MadeOpt, 6
     }
 }
 
-fn class_in(rows: &[Row], no_more_naks: bool, option: &Opt<'_>) -> Class
+fn class_in(rows: &[OptionRow], no_more_naks: bool, option: &Opt<'_>) -> Class
     ensures { result ≡ class_of rows.now no_more_naks (option_of option.now) }
 {
     let Some(row) = row_for(rows, option.kind) else {
@@ -145,7 +145,7 @@ fn not_good(no_more_naks: bool) -> Class
 }
 
 // What a Configure-Nak has in an option's place.
-fn suggested(rows: &[Row], option: &Opt<'_>) -> MadeOpt
+fn suggested(rows: &[OptionRow], option: &Opt<'_>) -> MadeOpt
     ensures { made_of result ≡ suggestion rows.now (option_of option.now) }
 {
     match row_for(rows, option.kind) {

@@ -18,10 +18,10 @@ mod packet;
 pub mod protocol;
 mod view;
 
-pub use crate::configure_reply::{Reply, read_reply};
+pub use crate::configure_reply::{ConfigureReply, read_reply};
 pub use crate::judgement::{Class, Judged, judge};
 pub use crate::listing::{names, options, write_options};
 pub use crate::made_option::{MadeOpt, made, put_made};
-pub use crate::option_table::{Good, Row, Width};
+pub use crate::option_table::{Good, OptionRow, Width};
 pub use crate::view::{Opt, Packet, Ppp};
 pub use bng_base::{ReadError, Written};

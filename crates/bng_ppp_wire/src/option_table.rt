@@ -25,7 +25,7 @@ pub enum Good {
 
 /// An option that is negotiated.
 #[derive(Clone, Copy)]
-pub struct Row {
+pub struct OptionRow {
     /// Its Type.
     pub kind: u8,
     pub width: Width,
@@ -36,10 +36,10 @@ pub struct Row {
     pub must_be_named: bool,
 }
 
-impl Default for Row {
+impl Default for OptionRow {
     /// What fills the unused places of a table.
-    fn default() -> Row {
-        Row {
+    fn default() -> OptionRow {
+        OptionRow {
             kind: 0,
             width: Width::Four,
             good: Good::Only(0),
@@ -61,7 +61,7 @@ pub(crate) fn number(width: Width, value: &[u8]) -> Option<u32>
 }
 
 // The row of an option of this type.
-pub(crate) fn row_for(rows: &[Row], kind: u8) -> Option<Row>
+pub(crate) fn row_for(rows: &[OptionRow], kind: u8) -> Option<OptionRow>
     ensures { result ≡ row_of rows.now kind }
 {
     rows.iter().copied().find(|row| row.kind == kind)
@@ -80,7 +80,7 @@ impl Good {
     }
 }
 
-impl Row {
+impl OptionRow {
     // The option that it suggests.
     pub(crate) fn suggested(&self) -> MadeOpt
         ensures { made_of result ≡ suggestion_of self.now }

@@ -4,7 +4,7 @@ use Rattle.std.specs.Prelude.{is_some}
 use Rattle.std.proofs.lemmas.List.{get_or-set_same, get_or-set_other, set-get_or, length-set}
 use Rattle.std.proofs.lemmas.List.Sums.{sum_by-set}
 use Rattle.bng_rad_client.specs.declared.pending.Pending.{Pending}
-use Rattle.bng_rad_client.specs.declared.due.Due.{Due}
+use Rattle.bng_rad_client.specs.declared.due.LastSend.{LastSend}
 use Rattle.bng_rad_client.specs.declared.due.Sought.{Sought}
 use Rattle.bng_rad_client.specs.declared.due.Sought.TheVariants.{Timeout, Resend, Endless, Any}
 use Rattle.bng_rad_client.specs.Table.{request_of, taken}
@@ -27,7 +27,7 @@ still places id j r is = ⊎_elim
     (written places id j None None)
 
 -- a request other than the one that was sent first leaves
-pub left : (places : List (Option Pending)) (id : ℕ) (first : Option Due) → ((d : Due) → first ≡ Some d → d.id ≢ id)
+pub left : (places : List (Option Pending)) (id : ℕ) (first : Option LastSend) → ((d : LastSend) → first ≡ Some d → d.id ≢ id)
     → IsOldestOrNone (is_sought Any 0) places 256 first → IsOldestOrNone (is_sought Any 0) (set places id None) 256 first
 left places id None other so_far = λ j r below is wants. so_far j r below (still places id j r is) wants
 left places id (Some d) other so_far = record {
@@ -65,7 +65,7 @@ module _ (places : List (Option Pending)) (id : ℕ) (made : Pending) (small : i
         (came j r is);
   }
 
-  module _ (d : Due) (so_far : IsOldestBelow (is_sought Any 0) places 256 d) where
+  module _ (d : LastSend) (so_far : IsOldestBelow (is_sought Any 0) places 256 d) where
     -- the one that was sent first was sent before it
     pub later : d.id ≢ id → d.sent_at ≤ made.sent_at → (d.sent_at ≡ made.sent_at → d.id ≤ id) → IsOldestBelow (is_sought Any 0) (set places id (Some made)) 256 d
     later other before lower = record {
@@ -95,29 +95,29 @@ module _ (places : List (Option Pending)) (id : ℕ) (made : Pending) (small : i
           (came j r is);
     }
 
-pub without : (places : List (Option Pending)) (id : ℕ) (d : Due) → d.id ≢ id → HasLeft (Some d) id places → IsOldestBelow (is_sought Any 0) places 256 d
+pub without : (places : List (Option Pending)) (id : ℕ) (d : LastSend) → d.id ≢ id → HasLeft (Some d) id places → IsOldestBelow (is_sought Any 0) places 256 d
 without places id d other has =
-    let each : (x : Due) → Some d ≡ Some x → x.id ≢ id = λ x is. let e : d ≡ x = cc in subst (λ (y : Due). y.id ≢ id) e other in
+    let each : (x : LastSend) → Some d ≡ Some x → x.id ≢ id = λ x is. let e : d ≡ x = cc in subst (λ (y : LastSend). y.id ≢ id) e other in
     subst (λ (ps : List (Option Pending)). IsOldestBelow (is_sought Any 0) ps 256 d) (sym has.written) (left has.before id (Some d) each has.oldest)
 
-module _ (places : List (Option Pending)) (came : Due) (small : came.id < 256) (size : length places ≡ 256) where
-  at : (first : Option Due) (has : HasCome first came places) (d : Due) → IsOldestBelow (is_sought Any 0) (set has.before came.id (Some has.request)) 256 d → IsOldestBelow (is_sought Any 0) places 256 d
+module _ (places : List (Option Pending)) (came : LastSend) (small : came.id < 256) (size : length places ≡ 256) where
+  at : (first : Option LastSend) (has : HasCome first came places) (d : LastSend) → IsOldestBelow (is_sought Any 0) (set has.before came.id (Some has.request)) 256 d → IsOldestBelow (is_sought Any 0) places 256 d
   at first has d h = subst (λ (ps : List (Option Pending)). IsOldestBelow (is_sought Any 0) ps 256 d) (sym has.written) h
 
-  sized : (first : Option Due) (has : HasCome first came places) → length has.before ≡ 256
+  sized : (first : Option LastSend) (has : HasCome first came places) → length has.before ≡ 256
   sized first has = sym (length-set has.before came.id (Some has.request)) ∙ ap length (sym has.written) ∙ size
 
-  own : (first : Option Due) (has : HasCome first came places) → record { id = came.id; sent_at = has.request.sent_at } ≡ came
+  own : (first : Option LastSend) (has : HasCome first came places) → record { id = came.id; sent_at = has.request.sent_at } ≡ came
   own first has = ap (λ (n : ℕ). record { id = came.id; sent_at = n }) (sym has.moment)
 
   pub came_alone : HasCome None came places → IsOldestBelow (is_sought Any 0) places 256 came
   came_alone has = at None has came (subst (IsOldestBelow (is_sought Any 0) (set has.before came.id (Some has.request)) 256) (own None has) (alone has.before came.id has.request small (sized None has) has.oldest))
 
-  pub came_later : (d : Due) → d.id ≢ came.id → ComesFirst d came → HasCome (Some d) came places → IsOldestBelow (is_sought Any 0) places 256 d
+  pub came_later : (d : LastSend) → d.id ≢ came.id → ComesFirst d came → HasCome (Some d) came places → IsOldestBelow (is_sought Any 0) places 256 d
   came_later d other first has = at (Some d) has d (later has.before came.id has.request small (sized (Some d) has) d has.oldest other
       (omega (arith, first.moment, has.moment)) (λ e. first.lower (e ∙ sym has.moment)))
 
-  pub came_sooner : (d : Due) → ComesFirst came d → HasCome (Some d) came places → IsOldestBelow (is_sought Any 0) places 256 came
+  pub came_sooner : (d : LastSend) → ComesFirst came d → HasCome (Some d) came places → IsOldestBelow (is_sought Any 0) places 256 came
   came_sooner d first has = at (Some d) has came (subst (IsOldestBelow (is_sought Any 0) (set has.before came.id (Some has.request)) 256) (own (Some d) has)
       (sooner has.before came.id has.request small (sized (Some d) has) d has.oldest
       (omega (arith, first.moment, has.moment)) (λ e. first.lower (has.moment ∙ e))))
@@ -145,7 +145,7 @@ one_replaced places id r made below is =
 
 -- where the request that was sent first is not due, none is
 module _ (now : ℕ) (places : List (Option Pending)) where
-  waits : (first : Option Due) → ((d : Due) → first ≡ Some d → now < d.sent_at + 3000) → IsOldestOrNone (is_sought Any 0) places 256 first
+  waits : (first : Option LastSend) → ((d : LastSend) → first ≡ Some d → now < d.sent_at + 3000) → IsOldestOrNone (is_sought Any 0) places 256 first
       → (j : ℕ) (r : Pending) → j < 256 → request_of places j ≡ Some r → now < r.sent_at + 3000
   waits None early so_far j r below is = absurd (so_far j r below is refl)
   waits (Some d) early so_far j r below is =
@@ -153,7 +153,7 @@ module _ (now : ℕ) (places : List (Option Pending)) where
       let soon = early d refl in
       omega (arith, soon, old.0)
 
-  pub none_due : (sought : Sought) → sought ≢ Any → (first : Option Due) → ((d : Due) → first ≡ Some d → now < d.sent_at + 3000)
+  pub none_due : (sought : Sought) → sought ≢ Any → (first : Option LastSend) → ((d : LastSend) → first ≡ Some d → now < d.sent_at + 3000)
       → IsOldestOrNone (is_sought Any 0) places 256 first → NoneBelow (is_sought sought now) places 256
   none_due (Timeout tries) due first early so_far = λ j r below is wants. let soon = waits first early so_far j r below is in grind (arith, soon, wants)
   none_due (Resend tries) due first early so_far = λ j r below is wants. let soon = waits first early so_far j r below is in grind (arith, soon, wants)

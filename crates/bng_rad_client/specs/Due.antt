@@ -3,7 +3,7 @@ use Rattle.std.specs.Prelude.{◌≡◌, ℕ, ◌+◌, ◌≤◌, ◌<◌, Bool,
 use Rattle.bng_rad_client.specs.declared.pending.Pending.{Pending}
 use Rattle.bng_rad_client.specs.declared.due.Sought.{Sought}
 use Rattle.bng_rad_client.specs.declared.due.Sought.TheVariants.{Timeout, Resend, Endless, Any}
-use Rattle.bng_rad_client.specs.declared.due.Due.{Due}
+use Rattle.bng_rad_client.specs.declared.due.LastSend.{LastSend}
 use Rattle.bng_rad_client.specs.Table.{request_of}
 
 -- 3 s after its last send a request is due: it is given up where it was sent as often as it is to be, and else sent again
@@ -14,16 +14,16 @@ is_sought Endless now r = nat_le (r.sent_at + 3000) now
 is_sought Any now r = true
 
 -- the best so far, or else a request that was sent before it
-abbrev pub newer : Option Due → Due → Option Due
+abbrev pub newer : Option LastSend → LastSend → Option LastSend
 newer None d = Some d
 newer (Some b) d = if nat_le b.sent_at d.sent_at then Some b else Some d
 
-abbrev pub older : (Pending → Bool) → Option Due → ℕ → Option Pending → Option Due
+abbrev pub older : (Pending → Bool) → Option LastSend → ℕ → Option Pending → Option LastSend
 older wanted best id None = best
 older wanted best id (Some r) = if wanted r then newer best (record { id = id; sent_at = r.sent_at }) else best
 
 -- of the requests below an identifier this one was sent first, the lowest identifier where several were
-pub record IsOldestBelow (wanted : Pending → Bool) (places : List (Option Pending)) (n : ℕ) (d : Due) : Type 0 where
+pub record IsOldestBelow (wanted : Pending → Bool) (places : List (Option Pending)) (n : ℕ) (d : LastSend) : Type 0 where
   pub request : Pending
   pub is : request_of places d.id ≡ Some request
   pub wants : wanted request ≡ true
@@ -43,6 +43,6 @@ pub record OneBelow (wanted : Pending → Bool) (places : List (Option Pending))
   pub is : request_of places id ≡ Some request
   pub wants : wanted request ≡ true
 
-abbrev pub IsOldestOrNone : (Pending → Bool) → List (Option Pending) → ℕ → Option Due → Type 0
+abbrev pub IsOldestOrNone : (Pending → Bool) → List (Option Pending) → ℕ → Option LastSend → Type 0
 IsOldestOrNone wanted places n None = NoneBelow wanted places n
 IsOldestOrNone wanted places n (Some d) = IsOldestBelow wanted places n d

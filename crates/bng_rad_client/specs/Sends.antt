@@ -2,14 +2,14 @@
 use Rattle.std.specs.Prelude.{◌≡◌, ℕ, ◌+◌, min, Bool, Some, None, slice_set}
 use Rattle.bng_base.specs.Packet.{Packet as Bytes}
 use Rattle.bng_rad_client.specs.declared.pending.Pending.{Pending}
-use Rattle.bng_rad_client.specs.declared.due.Due.{Due}
+use Rattle.bng_rad_client.specs.declared.due.LastSend.{LastSend}
 use Rattle.bng_rad_client.specs.declared.rules.Owner.{Owner}
 use Rattle.bng_rad_client.specs.Table.{Table, request_of}
 use Rattle.bng_rad_client.specs.Due.{IsOldestBelow}
 
 -- the oldest of the wanted requests is out no longer
 pub record IsGivenUp (old new : Table) (wanted : Pending → Bool) (owner : Owner) : Type 0 where
-  pub due : Due
+  pub due : LastSend
   pub oldest : IsOldestBelow wanted old.places 256 due
   pub owner_is : owner ≡ oldest.request.owner
   pub places : new.places ≡ slice_set old.places due.id None

@@ -21,7 +21,7 @@ pub enum Sought {
 
 /// A request whose moment has come: where it stands, and when it was last sent.
 #[derive(Clone, Copy, PartialEq, Eq, Debug)]
-pub struct Due {
+pub struct LastSend {
     pub id: u8,
     pub sent_at: u64,
 }
@@ -48,12 +48,12 @@ fn is_sought(request: &Pending, now: u64, sought: Sought) -> bool
 
 // The one that was sent first: the best so far, or the request at this identifier.
 pub(crate) fn older(
-    best: Option<Due>,
+    best: Option<LastSend>,
     id: u8,
     place: Option<&Pending>,
     now: u64,
     sought: Sought,
-) -> Option<Due>
+) -> Option<LastSend>
     ensures { result ≡ older (is_sought sought now) best id (option_copied place.entry) }
 {
     let Some(request) = place else {
@@ -64,7 +64,7 @@ pub(crate) fn older(
     }
     match best {
         Some(due) if due.sent_at <= request.sent_at => best,
-        _ => Some(Due {
+        _ => Some(LastSend {
             id,
             sent_at: request.sent_at,
         }),
@@ -86,7 +86,7 @@ pub enum Longest {
     Neither,
 }
 
-pub(crate) fn longest_of(auth: Option<Due>, acct: Option<Due>) -> Longest
+pub(crate) fn longest_of(auth: Option<LastSend>, acct: Option<LastSend>) -> Longest
     ensures { result ≡ longest_of auth acct }
 {
     match (auth, acct) {

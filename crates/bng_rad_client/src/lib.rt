@@ -13,8 +13,8 @@ mod rules;
 mod sends;
 
 pub use crate::client::Client;
-pub use crate::due::{Due, DueRequest, INTERVAL, Longest, Sought};
+pub use crate::due::{LastSend, DueRequest, INTERVAL, Longest, Sought};
 pub use crate::pending::Pending;
-pub use crate::replies::{Ignored, Replied};
+pub use crate::replies::{IgnoredReply, Replied};
 pub use crate::requests::Requests;
 pub use crate::rules::{Asked, ClientError, Lane, Owner, RadiusRules, RecordNo};

@@ -10,7 +10,7 @@ use bng_radius_wire::{Checked, check_reply, codes, read};
 /// Why a datagram is passed over: it does not come from the lane's server; it is no packet, has more than 64 attributes, or
 /// has a code that the lane does not take; no request has its identifier; or a digest is wrong.
 #[derive(Clone, Copy, PartialEq, Eq)]
-pub enum Ignored {
+pub enum IgnoredReply {
     Stranger,
     Malformed,
     NotPending,
@@ -21,7 +21,7 @@ pub enum Ignored {
 #[derive(Clone, Copy, PartialEq, Eq)]
 pub enum Replied {
     Matched(Owner),
-    Ignored(Ignored),
+    Ignored(IgnoredReply),
 }
 
 // Whether a code answers requests of the lane.
@@ -64,21 +64,21 @@ pub(crate) fn reply(
     ensures matched { WhenMatched result ((p : Packet) × IsReplyOf lane p bytes.now × (requests.new.places ≡ slice_set requests.old.places p.id None)) }
 {
     if from != server {
-        return Replied::Ignored(Ignored::Stranger);
+        return Replied::Ignored(IgnoredReply::Stranger);
     }
     let id = match read(bytes) {
         Ok(packet) if takes(lane, packet.code) => packet.id,
-        _ => return Replied::Ignored(Ignored::Malformed),
+        _ => return Replied::Ignored(IgnoredReply::Malformed),
     };
     let authenticator = match requests.get(id) {
         Some(request) => authenticator_of(request.octets.as_slice()),
-        None => return Replied::Ignored(Ignored::NotPending),
+        None => return Replied::Ignored(IgnoredReply::NotPending),
     };
     match check_reply(bytes, &authenticator, secret) {
-        Checked::WrongDigest => Replied::Ignored(Ignored::WrongDigest),
+        Checked::WrongDigest => Replied::Ignored(IgnoredReply::WrongDigest),
         Checked::Right => match requests.take(id) {
             Some(request) => Replied::Matched(request.owner),
-            None => Replied::Ignored(Ignored::NotPending),
+            None => Replied::Ignored(IgnoredReply::NotPending),
         },
     }
 }

@@ -5,7 +5,7 @@ ghost use Rattle.bng_rad_client.specs.Table.{request_of, taken, IsNextFree};
 ghost use Rattle.bng_rad_client.specs.Due.{is_sought, NoneBelow, OneBelow, IsOldestOrNone};
 ghost use Rattle.bng_rad_client.specs.Requests.{ComesFirst, HasLeft, HasCome};
 
-use crate::due::{Due, Sought, is_due, older};
+use crate::due::{LastSend, Sought, is_due, older};
 use crate::pending::Pending;
 use std::alloc::{AllocError, Global};
 use std::marker::Model;
@@ -18,7 +18,7 @@ const IDENTIFIERS: usize = 256;
 pub struct Requests {
     places: Vec<Option<Pending>>,
     last: u8,
-    first: Option<Due>,
+    first: Option<LastSend>,
     out: usize,
 }
 
@@ -42,7 +42,7 @@ fn request_at(places: &[Option<Pending>], id: u8) -> Option<&Pending>
 }
 
 // Of the requests that are sought and due, the one that was sent first: it looks at each place.
-fn oldest_of(places: &[Option<Pending>], now: u64, sought: Sought) -> Option<Due>
+fn oldest_of(places: &[Option<Pending>], now: u64, sought: Sought) -> Option<LastSend>
     requires size { length places.now ≡ 256 }
     ensures { IsOldestOrNone (is_sought sought now) places.now 256 result }
 {
@@ -55,7 +55,7 @@ fn oldest_of(places: &[Option<Pending>], now: u64, sought: Sought) -> Option<Due
 }
 
 // Whether a request was sent before another one, or at the same moment under a lower identifier.
-fn comes_first(first: Due, second: Due) -> bool
+fn comes_first(first: LastSend, second: LastSend) -> bool
     ensures yes { IsTrue result → ComesFirst first second }
     ensures no { result ≡ false → ComesFirst second first }
 {
@@ -63,7 +63,7 @@ fn comes_first(first: Due, second: Due) -> bool
 }
 
 // The request that was sent first, once the one with an identifier left.
-fn first_without(first: Option<Due>, id: u8, places: &[Option<Pending>]) -> Option<Due>
+fn first_without(first: Option<LastSend>, id: u8, places: &[Option<Pending>]) -> Option<LastSend>
     requires size { length places.now ≡ 256 }
     requires left { HasLeft first id places.now }
     ensures { IsOldestOrNone (is_sought Any 0) places.now 256 result }
@@ -75,7 +75,7 @@ fn first_without(first: Option<Due>, id: u8, places: &[Option<Pending>]) -> Opti
 }
 
 // The request that was sent first, once this one came.
-fn first_with(first: Option<Due>, came: Due, places: &[Option<Pending>]) -> Option<Due>
+fn first_with(first: Option<LastSend>, came: LastSend, places: &[Option<Pending>]) -> Option<LastSend>
     requires size { length places.now ≡ 256 }
     requires come { HasCome first came places.now }
     ensures { IsOldestOrNone (is_sought Any 0) places.now 256 result }
@@ -135,7 +135,7 @@ impl Requests {
         ensures places { self.new.places ≡ slice_set self.old.places id (Some request) }
         ensures last { self.new.last ≡ self.old.last }
     {
-        let came = Due {
+        let came = LastSend {
             id,
             sent_at: request.sent_at,
         };
@@ -157,7 +157,7 @@ impl Requests {
 
     /// Of the requests that are sought and due, the one that was sent first, and of several the lowest identifier. It looks
     /// at each request only where one is due.
-    pub fn oldest(&self, now: u64, sought: Sought) -> Option<Due>
+    pub fn oldest(&self, now: u64, sought: Sought) -> Option<LastSend>
         ensures { IsOldestOrNone (is_sought sought now) self.now.places 256 result }
     {
         match (sought, self.first) {

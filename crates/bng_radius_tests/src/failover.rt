@@ -3,8 +3,8 @@ ghost use Rattle.std.specs.Prelude.{◌≡◌, ◌<◌, ◌∷◌, []};
 use crate::asserts::assert_holds;
 use arrayvec::ArrayVec;
 use bng_base::{Frame, Ip4, Peer, SessionNo};
-use bng_failover::{DueSend, FailAsked, Failover, FailoverRules, Peers};
-use bng_rad_client::{ClientError, Ignored, Lane, Owner, RecordNo, Replied};
+use bng_failover::{DueSend, FailAsked, Failover, FailoverRules, ServerPeers};
+use bng_rad_client::{ClientError, IgnoredReply, Lane, Owner, RecordNo, Replied};
 use bng_radius_wire::{Radius, Written, codes, write};
 use std::alloc::Global;
 use std::process::Abort;
@@ -45,10 +45,10 @@ const ASK: Owner = Owner::Ask {
 };
 
 // The first server, and then the second.
-fn both() -> Peers
+fn both() -> ServerPeers
     ensures { result ≡ FIRST ∷ SECOND ∷ [] }
 {
-    let mut peers = Peers::new();
+    let mut peers = ServerPeers::new();
     peers.push(FIRST);
     peers.push(SECOND);
     peers
@@ -173,8 +173,8 @@ fn hear(
 fn the_second_server_answers_where_the_first_is_silent(rt: HostRuntime) -> Result<(), Fail> {
     let mut failover = opened(rt.alloc(), 2)?;
     go_to_second(&rt, &mut failover)?;
-    let late = Replied::Ignored(Ignored::NotPending);
-    let stranger = Replied::Ignored(Ignored::Stranger);
+    let late = Replied::Ignored(IgnoredReply::NotPending);
+    let stranger = Replied::Ignored(IgnoredReply::Stranger);
     hear(&rt, rt.alloc(), &mut failover, FIRST, late)?;
     hear(&rt, rt.alloc(), &mut failover, STRANGER, stranger)?;
     hear(

@@ -3,7 +3,7 @@ use arrayvec::ArrayVec;
 use bng_access::NasRules;
 use bng_auth::{Credentials, Proof};
 use bng_base::{Circuit, Frame, Ip4, Mac, Peer, SessionNo};
-use bng_lane::{Lane, LaneRules};
+use bng_lane::{Questions, LaneRules};
 use bng_verdict::{AuthAsk, QuestionNo};
 use std::alloc::Global;
 use std::process::Abort;
@@ -62,7 +62,7 @@ fn number(ask: u64) -> QuestionNo {
 }
 
 // Asks the question of this number, if there is room.
-fn asked(lane: &mut Lane, ask: u64, now: u64) -> Option<(u8, Frame)> {
+fn asked(lane: &mut Questions, ask: u64, now: u64) -> Option<(u8, Frame)> {
     if !lane.room() {
         return None;
     }
@@ -84,7 +84,7 @@ fn asked(lane: &mut Lane, ask: u64, now: u64) -> Option<(u8, Frame)> {
 }
 
 // Asks the question of this number, as `asked`: its identifier.
-fn ask(lane: &mut Lane, number: u64) -> Option<u8> {
+fn ask(lane: &mut Questions, number: u64) -> Option<u8> {
     match asked(lane, number, 0) {
         Some((id, _)) => Some(id),
         None => None,
@@ -95,7 +95,7 @@ fn ask(lane: &mut Lane, number: u64) -> Option<u8> {
 fn hear(
     rt: &impl Abort,
     alloc: Global,
-    lane: &mut Lane,
+    lane: &mut Questions,
     from: Peer,
     datagram: &str,
     answer: Option<QuestionNo>,
@@ -106,12 +106,12 @@ fn hear(
 }
 
 // Notes what became of a send. Nothing is said of it, so that no proof looks into the list of what was sent.
-fn note(lane: &mut Lane, id: u8, sent: bool) {
+fn note(lane: &mut Questions, id: u8, sent: bool) {
     lane.note(id, sent);
 }
 
 // Hears the reply before its request was sent, and where the send failed; and then sends it.
-fn hear_too_soon(rt: &impl Abort, alloc: Global, lane: &mut Lane) -> Result<(), Fail> {
+fn hear_too_soon(rt: &impl Abort, alloc: Global, lane: &mut Questions) -> Result<(), Fail> {
     hear(rt, alloc, lane, SERVER, ACCEPT, None)?;
     note(lane, 0, false);
     hear(rt, alloc, lane, SERVER, ACCEPT, None)?;
@@ -120,7 +120,7 @@ fn hear_too_soon(rt: &impl Abort, alloc: Global, lane: &mut Lane) -> Result<(), 
 }
 
 // Hears what is no reply: from another port, with another Identifier, with one octet changed, and one octet alone.
-fn hear_others(rt: &impl Abort, alloc: Global, lane: &mut Lane) -> Result<(), Fail> {
+fn hear_others(rt: &impl Abort, alloc: Global, lane: &mut Questions) -> Result<(), Fail> {
     hear(rt, alloc, lane, STRANGER, ACCEPT, None)?;
     hear(rt, alloc, lane, SERVER, ACCEPT_1, None)?;
     hear(rt, alloc, lane, SERVER, WITH_ONE_OCTET_CHANGED, None)?;
@@ -129,7 +129,7 @@ fn hear_others(rt: &impl Abort, alloc: Global, lane: &mut Lane) -> Result<(), Fa
 
 #[test]
 fn a_reply_counts_once_and_after_its_request_was_sent(rt: HostRuntime) -> Result<(), Fail> {
-    let mut lane = Lane::open(rt.alloc(), rules(3))?;
+    let mut lane = Questions::open(rt.alloc(), rules(3))?;
     assert_holds(&rt, lane.server() == SERVER);
     assert_holds(&rt, ask(&mut lane, 7) == Some(0));
     hear_too_soon(&rt, rt.alloc(), &mut lane)?;
@@ -141,7 +141,7 @@ fn a_reply_counts_once_and_after_its_request_was_sent(rt: HostRuntime) -> Result
 }
 
 // Whether the request with this identifier and these octets is sent again at this moment.
-fn is_resent(lane: &mut Lane, id: u8, frame: &Frame, now: u64) -> bool {
+fn is_resent(lane: &mut Questions, id: u8, frame: &Frame, now: u64) -> bool {
     match lane.resend(now) {
         Some((again, octets)) => again == id && octets.payload() == frame.payload(),
         None => false,
@@ -149,12 +149,12 @@ fn is_resent(lane: &mut Lane, id: u8, frame: &Frame, now: u64) -> bool {
 }
 
 // No request is sent again at this moment.
-fn none_resent(lane: &mut Lane, now: u64) -> bool {
+fn none_resent(lane: &mut Questions, now: u64) -> bool {
     lane.resend(now).is_none()
 }
 
 // The question 7 is asked, and its request is sent again after 3 s.
-fn send_twice(rt: &impl Abort, lane: &mut Lane) -> Result<(), Fail> {
+fn send_twice(rt: &impl Abort, lane: &mut Questions) -> Result<(), Fail> {
     let (id, frame) = asked(lane, 7, 0).ok_or("no room")?;
     note(lane, id, true);
     assert_holds(rt, lane.deadline() == Some(3000));
@@ -164,7 +164,7 @@ fn send_twice(rt: &impl Abort, lane: &mut Lane) -> Result<(), Fail> {
 }
 
 // It is given up after 3 s more.
-fn give_up(rt: &impl Abort, lane: &mut Lane) {
+fn give_up(rt: &impl Abort, lane: &mut Questions) {
     assert_holds(rt, none_resent(lane, 3000));
     assert_holds(rt, lane.give_up(5999) == None);
     assert_holds(rt, none_resent(lane, 6000));
@@ -176,7 +176,7 @@ fn give_up(rt: &impl Abort, lane: &mut Lane) {
 fn a_request_is_sent_again_after_3_s_and_given_up_after_its_tries(
     rt: HostRuntime,
 ) -> Result<(), Fail> {
-    let mut lane = Lane::open(rt.alloc(), rules(2))?;
+    let mut lane = Questions::open(rt.alloc(), rules(2))?;
     send_twice(&rt, &mut lane)?;
     give_up(&rt, &mut lane);
     assert_holds(&rt, lane.deadline() == None);
@@ -184,13 +184,13 @@ fn a_request_is_sent_again_after_3_s_and_given_up_after_its_tries(
 }
 
 // Asks a question, whose request has this identifier, and sends it.
-fn send_one(rt: &impl Abort, lane: &mut Lane, id: u8) {
+fn send_one(rt: &impl Abort, lane: &mut Questions, id: u8) {
     assert_holds(rt, ask(lane, u64::from(id)) == Some(id));
     note(lane, id, true);
 }
 
 // Asks 256 questions, for more of which there is no room.
-fn send_all(rt: &impl Abort, lane: &mut Lane) {
+fn send_all(rt: &impl Abort, lane: &mut Questions) {
     for id in 0..=255u8 {
         send_one(rt, lane, id);
     }
@@ -200,7 +200,7 @@ fn send_all(rt: &impl Abort, lane: &mut Lane) {
 
 #[test]
 fn an_identifier_is_given_again_and_was_not_sent_then(rt: HostRuntime) -> Result<(), Fail> {
-    let mut lane = Lane::open(rt.alloc(), rules(2))?;
+    let mut lane = Questions::open(rt.alloc(), rules(2))?;
     send_all(&rt, &mut lane);
     hear(&rt, rt.alloc(), &mut lane, SERVER, REJECT, Some(number(0)))?;
     assert_holds(&rt, ask(&mut lane, 256) == Some(0));

@@ -2,7 +2,7 @@ use crate::asserts::{assert_holds, assert_same};
 use arrayvec::ArrayVec;
 use bng_base::{Frame, Ip4, Peer, SessionNo};
 use bng_rad_client::{
-    Asked, Client, DueRequest, Ignored, Lane, Owner, RadiusRules, RecordNo, Replied,
+    Asked, Client, DueRequest, IgnoredReply, Lane, Owner, RadiusRules, RecordNo, Replied,
 };
 use bng_radius_wire::{Radius, Written, codes, write};
 use std::alloc::Global;
@@ -116,7 +116,7 @@ fn hear_ignored(
     alloc: Global,
     client: &mut Client,
     datagram: &str,
-    cause: Ignored,
+    cause: IgnoredReply,
 ) -> Result<(), Fail> {
     hear(rt, alloc, client, SERVER, datagram, Replied::Ignored(cause))
 }
@@ -124,18 +124,18 @@ fn hear_ignored(
 // Hears what is no reply: of another address, two octets, with another Identifier, another code, and with one octet
 // changed.
 fn hear_others(rt: &impl Abort, alloc: Global, client: &mut Client) -> Result<(), Fail> {
-    let stranger = Replied::Ignored(Ignored::Stranger);
+    let stranger = Replied::Ignored(IgnoredReply::Stranger);
     hear(rt, alloc, client, STRANGER, RIGHT, stranger)?;
-    hear_ignored(rt, alloc, client, "0200", Ignored::Malformed)?;
-    hear_ignored(rt, alloc, client, WITH_IDENTIFIER_1, Ignored::NotPending)?;
-    hear_ignored(rt, alloc, client, WITH_CODE_5, Ignored::Malformed)?;
-    hear_ignored(rt, alloc, client, WRONG, Ignored::WrongDigest)
+    hear_ignored(rt, alloc, client, "0200", IgnoredReply::Malformed)?;
+    hear_ignored(rt, alloc, client, WITH_IDENTIFIER_1, IgnoredReply::NotPending)?;
+    hear_ignored(rt, alloc, client, WITH_CODE_5, IgnoredReply::Malformed)?;
+    hear_ignored(rt, alloc, client, WRONG, IgnoredReply::WrongDigest)
 }
 
 // Hears the reply, and hears it again.
 fn hear_twice(rt: &impl Abort, alloc: Global, client: &mut Client) -> Result<(), Fail> {
     hear(rt, alloc, client, SERVER, RIGHT, Replied::Matched(ASK))?;
-    hear_ignored(rt, alloc, client, RIGHT, Ignored::NotPending)
+    hear_ignored(rt, alloc, client, RIGHT, IgnoredReply::NotPending)
 }
 
 #[test]

@@ -7,8 +7,8 @@ use Rattle.bng_base.specs.declared.address.Peer.{Peer}
 use Rattle.bng_base.specs.declared.outside.Received.{Received}
 use Rattle.bng_base.specs.declared.outside.Received.TheVariants.{Got, Empty, Failed}
 use Rattle.bng_base.specs.Told.{Grows}
-use Rattle.bng_real.specs.declared.taking.Taken.{Taken}
-use Rattle.bng_real.specs.declared.taking.Taken.TheVariants.{Datagram, Nothing, Fault}
+use Rattle.bng_real.specs.declared.taking.SystemReceive.{SystemReceive}
+use Rattle.bng_real.specs.declared.taking.SystemReceive.TheVariants.{Datagram, Nothing, Fault}
 use Rattle.bng_real.specs.Ends.{peer_at}
 use Rattle.bng_real.specs.Sockets.{Parcel, one}
 
@@ -20,7 +20,7 @@ pub record Gives (old new : Option (List Parcel)) (from : Peer) (octets : List �
 
 -- What is taken is the next datagram that the socket gave, with its sender; its octets stand first in the room. Where nothing
 -- is there the socket gave none.
-abbrev pub IsNext : Taken → List ℕ → Option (List Parcel) → Option (List Parcel) → Type 0
+abbrev pub IsNext : SystemReceive → List ℕ → Option (List Parcel) → Option (List Parcel) → Type 0
 IsNext (Datagram count from) room old new = (count ≤ length room) × Gives old new from (take count room)
 IsNext Nothing room old new = new ≡ old
 IsNext Fault room old new = Unit {0}

@@ -15,7 +15,7 @@ pub(crate) const TRIES: usize = 16;
 
 /// What a receive of the system gave.
 #[derive(Clone, Copy)]
-enum Taken {
+enum SystemReceive {
     Datagram { count: usize, from: Peer },
     Nothing,
     Fault,
@@ -33,30 +33,30 @@ pub(crate) fn take_into<S: Datagrams>(
 {
     let room = into.lend();
     match take_one(socket, &mut room[HEADROOM..], faults) {
-        Taken::Datagram { count, from } => {
+        SystemReceive::Datagram { count, from } => {
             into.cut_back(LONGEST - count.min(LONGEST));
             let cut = count > LONGEST;
             Received::Got { from, cut }
         }
-        Taken::Nothing => Received::Empty,
-        Taken::Fault => Received::Failed,
+        SystemReceive::Nothing => Received::Empty,
+        SystemReceive::Fault => Received::Failed,
     }
 }
 
 /// Takes the next datagram of a socket, where one is there. The system tells an error of an earlier send, as by an ICMP
 /// message, in place of a datagram: it is counted, and the receive tried again.
-fn take_one<S: Datagrams>(socket: &mut S, room: &mut [u8], faults: &mut u64) -> Taken
+fn take_one<S: Datagrams>(socket: &mut S, room: &mut [u8], faults: &mut u64) -> SystemReceive
     ensures next { IsNext result room.new (S.given socket.old) (S.given socket.new) }
-    ensures cause { HasCause faults.old faults.new (result ≡ Taken.Fault) }
+    ensures cause { HasCause faults.old faults.new (result ≡ SystemReceive.Fault) }
 {
     for _ in 0..TRIES {
         match socket.receive(room) {
             Ok((count, address)) => match peer_of(address) {
-                Some(from) => return Taken::Datagram { count, from },
+                Some(from) => return SystemReceive::Datagram { count, from },
                 None => return fault(faults),
             },
             Err(error) => match error.kind() {
-                ErrorKind::WouldBlock => return Taken::Nothing,
+                ErrorKind::WouldBlock => return SystemReceive::Nothing,
                 ErrorKind::Interrupted => {}
                 kind if is_of_earlier(kind) => *faults = faults.saturating_add(1),
                 _ => return fault(faults),
@@ -76,10 +76,10 @@ fn is_of_earlier(kind: ErrorKind) -> bool
     )
 }
 
-fn fault(faults: &mut u64) -> Taken
-    ensures taken { result ≡ Taken.Fault }
+fn fault(faults: &mut u64) -> SystemReceive
+    ensures taken { result ≡ SystemReceive.Fault }
     ensures counted { HasCause faults.old faults.new (Unit {0}) }
 {
     *faults = faults.saturating_add(1);
-    Taken::Fault
+    SystemReceive::Fault
 }

@@ -33,7 +33,7 @@ pub use crate::kinds::two_kinds;
 pub use crate::numbers::{shards_of, terms_of};
 pub use crate::repeats::known_text;
 pub use crate::rule::{Rule, breaks};
-pub use crate::table::{Row, TABLES, fields_of, is_listed, row_of};
+pub use crate::table::{KeyEntry, TABLES, fields_of, is_listed, row_of};
 pub use crate::unknown::{Unknown, first_unknown};
 pub use crate::values::{
     address_at, addresses_at, kinds_at, label_at, mac_at, name_at, number_at, octets_at, peer_at,

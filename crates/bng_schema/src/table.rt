@@ -11,7 +11,7 @@ const RATE_MOST: u64 = 1_000_000_000_000;
 /// What there is to know of a key: the table in which it stands, its name there, whether it must be there, and what may
 /// stand there. A table itself stands in none: its row names it twice.
 #[derive(Clone, Copy)]
-pub struct Row {
+pub struct KeyEntry {
     pub table: Table,
     pub name: &'static str,
     pub needed: bool,
@@ -127,7 +127,7 @@ pub fn is_listed(table: Table) -> bool
 }
 
 /// What there is to know of a key.
-pub fn row_of(key: Key) -> Row
+pub fn row_of(key: Key) -> KeyEntry
     ensures table { result.table ≡ (row key).table }
     ensures name { result.name.now ≡ (row key).name }
     ensures needed { result.needed ≡ (row key).needed }
@@ -140,10 +140,10 @@ pub fn row_of(key: Key) -> Row
 }
 
 // A key that must be there.
-fn needed(table: Table, name: &'static str, form: Form) -> Row
+fn needed(table: Table, name: &'static str, form: Form) -> KeyEntry
     ensures { row_view result ≡ needed_row table name.now form }
 {
-    Row {
+    KeyEntry {
         table,
         name,
         needed: true,
@@ -152,10 +152,10 @@ fn needed(table: Table, name: &'static str, form: Form) -> Row
 }
 
 // A key that may be absent.
-fn other(table: Table, name: &'static str, form: Form) -> Row
+fn other(table: Table, name: &'static str, form: Form) -> KeyEntry
     ensures { row_view result ≡ other_row table name.now form }
 {
-    Row {
+    KeyEntry {
         table,
         name,
         needed: false,
@@ -163,7 +163,7 @@ fn other(table: Table, name: &'static str, form: Form) -> Row
     }
 }
 
-fn table_row(table: Table) -> Row
+fn table_row(table: Table) -> KeyEntry
     ensures { row_view result ≡ line_of_table table }
 {
     match table {
@@ -181,7 +181,7 @@ fn table_row(table: Table) -> Row
     }
 }
 
-fn field_row(field: Field) -> Row
+fn field_row(field: Field) -> KeyEntry
     ensures { row_view result ≡ line_of_field field }
 {
     match field {

@@ -7,10 +7,10 @@ use Rattle.bng_engine.specs.Terms.{Key, Term, keys}
 use Rattle.bng_engine.specs.Views.{row_keys}
 use Rattle.bng_pool.specs.Tables.{Table, entry}
 use Rattle.bng_steps.specs.declared.rules.Rules.{Rules}
-use Rattle.bng_steps.specs.declared.terms.Running.{Running}
+use Rattle.bng_steps.specs.declared.terms.TermRow.{TermRow}
 use Rattle.bng_steps.specs.Protocol.{key_in, term_in}
 use Rattle.bng_shard.specs.Handling.{AreHeld}
-use Rattle.bng_steps.specs.Running.{AreRising, AreTied, TermsView, row_from, rows_in, tenures_in, whole}
+use Rattle.bng_steps.specs.TermRows.{AreRising, AreTied, TermsView, row_from, rows_in, tenures_in, whole}
 use Rattle.bng_steps.specs.Serving.{AreOwn}
 use Rattle.bng_steps.specs.State.{State}
 use Rattle.bng_steps.specs.Tenures.{Tenure}
@@ -56,37 +56,37 @@ keys_more [] t = refl
 keys_more (u ∷ ts) t = ap (λ (ks : List Key). key_in u ∷ ks) (keys_more ts t)
 
 -- of rows, and back
-pub keys_of_rows : (rows : List Running) → row_keys (rows_in rows) ≡ keys_there (tenures_in rows)
+pub keys_of_rows : (rows : List TermRow) → row_keys (rows_in rows) ≡ keys_there (tenures_in rows)
 keys_of_rows [] = refl
 keys_of_rows (r ∷ rows) = ap (λ (ks : List Key). (row_from r).key ∷ ks) (keys_of_rows rows)
 
-numbered_keys : (n : ℕ) (rows : List Running) → AllByRecursion (λ (r : Running). r.term.serial ≤ n) rows → AreNumbered n (keys_there (tenures_in rows))
+numbered_keys : (n : ℕ) (rows : List TermRow) → AllByRecursion (λ (r : TermRow). r.term.serial ≤ n) rows → AreNumbered n (keys_there (tenures_in rows))
 numbered_keys n [] h = tt
 numbered_keys n (r ∷ rows) h = (h.0, numbered_keys n rows h.1)
 
-numbered_rows : (n : ℕ) (rows : List Running) → AreNumbered n (keys_there (tenures_in rows)) → AllByRecursion (λ (r : Running). r.term.serial ≤ n) rows
+numbered_rows : (n : ℕ) (rows : List TermRow) → AreNumbered n (keys_there (tenures_in rows)) → AllByRecursion (λ (r : TermRow). r.term.serial ≤ n) rows
 numbered_rows n [] h = tt
 numbered_rows n (r ∷ rows) h = (h.0, numbered_rows n rows h.1)
 
-other_keys : (a : Ip4) (rows : List Running) → AllByRecursion (λ (r : Running). a ≢ r.lease) rows → AllByRecursion (λ (k : Key). a ≢ k.lease) (keys_there (tenures_in rows))
+other_keys : (a : Ip4) (rows : List TermRow) → AllByRecursion (λ (r : TermRow). a ≢ r.lease) rows → AllByRecursion (λ (k : Key). a ≢ k.lease) (keys_there (tenures_in rows))
 other_keys a [] h = tt
 other_keys a (r ∷ rows) h = (h.0, other_keys a rows h.1)
 
-other_rows : (a : Ip4) (rows : List Running) → AllByRecursion (λ (k : Key). a ≢ k.lease) (keys_there (tenures_in rows)) → AllByRecursion (λ (r : Running). a ≢ r.lease) rows
+other_rows : (a : Ip4) (rows : List TermRow) → AllByRecursion (λ (k : Key). a ≢ k.lease) (keys_there (tenures_in rows)) → AllByRecursion (λ (r : TermRow). a ≢ r.lease) rows
 other_rows a [] h = tt
 other_rows a (r ∷ rows) h = (h.0, other_rows a rows h.1)
 
-own_keys : (rows : List Running) → AllPairs (λ (b c : Running). b.lease ≢ c.lease) rows → HaveOwnLeases (keys_there (tenures_in rows))
+own_keys : (rows : List TermRow) → AllPairs (λ (b c : TermRow). b.lease ≢ c.lease) rows → HaveOwnLeases (keys_there (tenures_in rows))
 own_keys [] h = tt
 own_keys (r ∷ rows) h = (
-  other_keys r.lease rows (recursion_from_All (λ (c : Running). r.lease ≢ c.lease) rows (λ k d lt. h zero (suc k) d (omega arith) (omega (arith, lt)))),
+  other_keys r.lease rows (recursion_from_All (λ (c : TermRow). r.lease ≢ c.lease) rows (λ k d lt. h zero (suc k) d (omega arith) (omega (arith, lt)))),
   own_keys rows (λ i j d lt within. h (suc i) (suc j) d (omega (arith, lt)) (omega (arith, within))),
 )
 
-own_rows : (rows : List Running) → HaveOwnLeases (keys_there (tenures_in rows)) → AllPairs (λ (b c : Running). b.lease ≢ c.lease) rows
+own_rows : (rows : List TermRow) → HaveOwnLeases (keys_there (tenures_in rows)) → AllPairs (λ (b c : TermRow). b.lease ≢ c.lease) rows
 own_rows [] h i j d lt within = absurd (omega (arith, within))
 own_rows (r ∷ rows) h zero zero d lt within = absurd (omega (arith, lt))
-own_rows (r ∷ rows) h zero (suc j) d lt within = All-from_recursion (λ (c : Running). r.lease ≢ c.lease) rows (other_rows r.lease rows h.0) j d (omega (arith, within))
+own_rows (r ∷ rows) h zero (suc j) d lt within = All-from_recursion (λ (c : TermRow). r.lease ≢ c.lease) rows (other_rows r.lease rows h.0) j d (omega (arith, within))
 own_rows (r ∷ rows) h (suc i) zero d lt within = absurd (omega (arith, lt))
 own_rows (r ∷ rows) h (suc i) (suc j) d lt within = own_rows rows h.1 i j d (omega (arith, lt)) (omega (arith, within))
 
@@ -111,14 +111,14 @@ not_theirs table shard a k free holds e = none_some shard (sym free ∙ ap (λ (
 pub free_of : (table : Table) (shard : ℕ) (a : Ip4) (ks : List Key) → entry table a.0 ≡ None → HoldTheirs table shard ks → AllByRecursion (λ (k : Key). k.lease ≢ a) ks
 free_of table shard a ks free h = all_so (λ (k : Key). entry table k.lease.0 ≡ Some shard) (λ (k : Key). k.lease ≢ a) ks (λ k holds. not_theirs table shard a k free holds) h
 
-free_rows : (a : Ip4) (rows : List Running) → AllByRecursion (λ (k : Key). k.lease ≢ a) (keys_there (tenures_in rows)) → AllByRecursion (λ (r : Running). r.lease ≢ a) rows
+free_rows : (a : Ip4) (rows : List TermRow) → AllByRecursion (λ (k : Key). k.lease ≢ a) (keys_there (tenures_in rows)) → AllByRecursion (λ (r : TermRow). r.lease ≢ a) rows
 free_rows a [] h = tt
 free_rows a (r ∷ rows) h = (h.0, free_rows a rows h.1)
 
 -- no row has an address that was free
-pub rows_free : (table : Table) (shard : ℕ) (a : Ip4) (rows : List Running) → entry table a.0 ≡ None → AreHeld shard (map term_in (tenures_in rows)) table → All (λ (r : Running). r.lease ≢ a) rows
+pub rows_free : (table : Table) (shard : ℕ) (a : Ip4) (rows : List TermRow) → entry table a.0 ≡ None → AreHeld shard (map term_in (tenures_in rows)) table → All (λ (r : TermRow). r.lease ≢ a) rows
 rows_free table shard a rows free h =
-    All-from_recursion (λ (r : Running). r.lease ≢ a) rows (free_rows a rows (free_of table shard a (keys_there (tenures_in rows)) free (all_held table shard (map term_in (tenures_in rows)) h)))
+    All-from_recursion (λ (r : TermRow). r.lease ≢ a) rows (free_rows a rows (free_of table shard a (keys_there (tenures_in rows)) free (all_held table shard (map term_in (tenures_in rows)) h)))
 
 -- what is kept of a state's terms
 pub record KeysFit (s : State) : Type 0 where
@@ -156,40 +156,40 @@ module _ (r : Rules) (s s' : State) (h : KeysFit s) where
 
 -- of the shard's fields ------------------------------------------------------------------------------------------------------
 
-pub fit_rows : (s : State) (t : TermsView) → All (λ (r : Running). r.term.serial ≤ s.begun) t.rows → All (λ (r : Running). r.term.serial ≤ s.begun) t.news → AllPairs (λ (b c : Running). b.lease ≢ c.lease) t.rows → KeysFit (whole s t)
+pub fit_rows : (s : State) (t : TermsView) → All (λ (r : TermRow). r.term.serial ≤ s.begun) t.rows → All (λ (r : TermRow). r.term.serial ≤ s.begun) t.news → AllPairs (λ (b c : TermRow). b.lease ≢ c.lease) t.rows → KeysFit (whole s t)
 fit_rows s t numbered news apart = record {
-  numbered = numbered_keys s.begun t.rows (recursion_from_All (λ (r : Running). r.term.serial ≤ s.begun) t.rows numbered);
-  news = numbered_keys s.begun t.news (recursion_from_All (λ (r : Running). r.term.serial ≤ s.begun) t.news news);
+  numbered = numbered_keys s.begun t.rows (recursion_from_All (λ (r : TermRow). r.term.serial ≤ s.begun) t.rows numbered);
+  news = numbered_keys s.begun t.news (recursion_from_All (λ (r : TermRow). r.term.serial ≤ s.begun) t.news news);
   apart = own_keys t.rows apart;
 }
 
 module _ (s : State) (t : TermsView) (h : KeysFit (whole s t)) where
-  pub rows_numbered : All (λ (r : Running). r.term.serial ≤ s.begun) t.rows
-  rows_numbered = All-from_recursion (λ (r : Running). r.term.serial ≤ s.begun) t.rows (numbered_rows s.begun t.rows h.numbered)
+  pub rows_numbered : All (λ (r : TermRow). r.term.serial ≤ s.begun) t.rows
+  rows_numbered = All-from_recursion (λ (r : TermRow). r.term.serial ≤ s.begun) t.rows (numbered_rows s.begun t.rows h.numbered)
 
-  pub news_numbered : All (λ (r : Running). r.term.serial ≤ s.begun) t.news
-  news_numbered = All-from_recursion (λ (r : Running). r.term.serial ≤ s.begun) t.news (numbered_rows s.begun t.news h.news)
+  pub news_numbered : All (λ (r : TermRow). r.term.serial ≤ s.begun) t.news
+  news_numbered = All-from_recursion (λ (r : TermRow). r.term.serial ≤ s.begun) t.news (numbered_rows s.begun t.news h.news)
 
-  pub rows_apart : AllPairs (λ (b c : Running). b.lease ≢ c.lease) t.rows
+  pub rows_apart : AllPairs (λ (b c : TermRow). b.lease ≢ c.lease) t.rows
   rows_apart = own_rows t.rows h.apart
 
-own_terms : (rows : List Running) → AreRising rows → HaveOwn (tenures_in rows)
+own_terms : (rows : List TermRow) → AreRising rows → HaveOwn (tenures_in rows)
 own_terms [] h = tt
 own_terms (r ∷ rows) h = (other_numbers r.term.serial rows h.0, own_terms rows h.1)
   where
-    other_numbers : (n : ℕ) (rows : List Running) → AllByRecursion (λ (p : Running). n < p.term.serial) rows → AllByRecursion (λ (u : Tenure). n ≢ u.term.serial) (tenures_in rows)
+    other_numbers : (n : ℕ) (rows : List TermRow) → AllByRecursion (λ (p : TermRow). n < p.term.serial) rows → AllByRecursion (λ (u : Tenure). n ≢ u.term.serial) (tenures_in rows)
     other_numbers n [] h = tt
     other_numbers n (r ∷ rows) h = ((λ e. omega (arith, e, h.0)), other_numbers n rows h.1)
 
-numbered_terms : (n : ℕ) (rows : List Running) → AllByRecursion (λ (r : Running). r.term.serial ≤ n) rows → AllByRecursion (λ (u : Tenure). u.term.serial ≤ n) (tenures_in rows)
+numbered_terms : (n : ℕ) (rows : List TermRow) → AllByRecursion (λ (r : TermRow). r.term.serial ≤ n) rows → AllByRecursion (λ (u : Tenure). u.term.serial ≤ n) (tenures_in rows)
 numbered_terms n [] h = tt
 numbered_terms n (r ∷ rows) h = (h.0, numbered_terms n rows h.1)
 
 -- leases are tied to terms
-pub are_tied : (s : State) (t : TermsView) → AreOwn s.sessions → AreRising t.rows → All (λ (r : Running). r.term.serial ≤ s.begun) t.rows → AreTied s.sessions (tenures_in t.rows) → Holds (whole s t)
+pub are_tied : (s : State) (t : TermsView) → AreOwn s.sessions → AreRising t.rows → All (λ (r : TermRow). r.term.serial ≤ s.begun) t.rows → AreTied s.sessions (tenures_in t.rows) → Holds (whole s t)
 are_tied s t own rising numbered tied = record {
   own = λ n x l at leased. own n x at;
   tied = tied;
   apart = own_terms t.rows rising;
-  numbered = numbered_terms s.begun t.rows (recursion_from_All (λ (r : Running). r.term.serial ≤ s.begun) t.rows numbered);
+  numbered = numbered_terms s.begun t.rows (recursion_from_All (λ (r : TermRow). r.term.serial ≤ s.begun) t.rows numbered);
 }

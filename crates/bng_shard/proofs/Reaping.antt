@@ -13,15 +13,15 @@ use Rattle.bng_engine.specs.Terms.{ComesBefore, Key, Stop, Term}
 use Rattle.bng_engine.specs.Views.{ShardView, row_keys}
 use Rattle.bng_pool.specs.Tables.{Table, TableFrees, entry}
 use Rattle.bng_sessions.specs.Sessions.{Sessions}
-use Rattle.bng_steps.specs.declared.changes.Answer.{Answer}
+use Rattle.bng_steps.specs.declared.changes.ChangeAnswer.{ChangeAnswer}
 use Rattle.bng_steps.specs.declared.rules.Rules.{Rules}
 use Rattle.bng_steps.specs.declared.session.Session.{Session}
 use Rattle.bng_steps.specs.declared.term.EndedTerm.{EndedTerm}
-use Rattle.bng_steps.specs.declared.terms.Running.{Running}
+use Rattle.bng_steps.specs.declared.terms.TermRow.{TermRow}
 use Rattle.bng_steps.specs.Placed.{ArePlaced}
 use Rattle.bng_steps.specs.Protocol.{SaysOf, ShardState, TellsNew, stop_of, term_in}
 use Rattle.bng_shard.specs.Handling.{AreHeld, Leaves}
-use Rattle.bng_steps.specs.Running.{AreTied, TakesFirst, TermsView, has_ended, key_from, rows_in, tenure_in, tenures_in, whole}
+use Rattle.bng_steps.specs.TermRows.{AreTied, TakesFirst, TermsView, has_ended, key_from, rows_in, tenure_in, tenures_in, whole}
 use Rattle.bng_steps.specs.State.{IsTermOf, State, leaves, reaped}
 use Rattle.bng_steps.specs.Tenures.{LeavesTerms, Tenure}
 use Rattle.bng_steps.proofs.LeavingFirst.{all_are_live, ended_from, left_are, left_least, left_leaves, left_live, left_lives, left_one, left_sums, left_were, rows_fit, told_least}
@@ -43,12 +43,12 @@ module _ {X : Type 0} where
       pairs_within R before after x back (λ i j e below within. h (suc i) (suc j) e (omega (arith, below)) (omega (arith, within))) k d (omega (arith, lt))
 
 -- each row has its address
-held_rows : (P : Term → Type 0) (rows : List Running) → All P (map term_in (tenures_in rows)) → All (λ (r : Running). P (term_in (tenure_in r))) rows
+held_rows : (P : Term → Type 0) (rows : List TermRow) → All P (map term_in (tenures_in rows)) → All (λ (r : TermRow). P (term_in (tenure_in r))) rows
 held_rows P [] h k d lt = absurd (omega (arith, lt))
 held_rows P (r ∷ rows) h zero d lt = h zero (term_in (tenure_in d)) (omega arith)
 held_rows P (r ∷ rows) h (suc k) d lt = held_rows P rows (λ j e within. h (suc j) e (omega (arith, within))) k d (omega (arith, lt))
 
-rows_held : (P : Term → Type 0) (rows : List Running) → All (λ (r : Running). P (term_in (tenure_in r))) rows → All P (map term_in (tenures_in rows))
+rows_held : (P : Term → Type 0) (rows : List TermRow) → All (λ (r : TermRow). P (term_in (tenure_in r))) rows → All P (map term_in (tenures_in rows))
 rows_held P [] h k e lt = absurd (omega (arith, lt))
 rows_held P (r ∷ rows) h zero e lt = h zero r (omega arith)
 rows_held P (r ∷ rows) h (suc k) e lt = rows_held P rows (λ j f within. h (suc j) f (omega (arith, within))) k e (omega (arith, lt))
@@ -56,32 +56,32 @@ rows_held P (r ∷ rows) h (suc k) e lt = rows_held P rows (λ j f within. h (su
 same_address : (a b : Ip4) → a.0 ≡ b.0 → a ≡ b
 same_address a b e = λ i. record { 0 = e i }
 
-module _ (rows rows' : List Running) (r : Running) (shard : ℕ) (table : Table) (takes : TakesFirst true rows r rows') (held : AreHeld shard (map term_in (tenures_in rows)) table) where
+module _ (rows rows' : List TermRow) (r : TermRow) (shard : ℕ) (table : Table) (takes : TakesFirst true rows r rows') (held : AreHeld shard (map term_in (tenures_in rows)) table) where
   -- it has its address until then
   pub held_here : entry table r.lease.0 ≡ Some shard
   held_here =
       let P : Term → Type 0 = λ t. entry table t.key.lease.0 ≡ Some shard in
-      all_within (λ (q : Running). P (term_in (tenure_in q))) takes.before takes.after r (subst (All (λ (q : Running). P (term_in (tenure_in q)))) takes.were (held_rows P rows held))
+      all_within (λ (q : TermRow). P (term_in (tenure_in q))) takes.before takes.after r (subst (All (λ (q : TermRow). P (term_in (tenure_in q)))) takes.were (held_rows P rows held))
 
   -- and the others keep theirs
-  pub held_still : (k : ℕ) (table' : Table) → AllPairs (λ (b c : Running). b.lease ≢ c.lease) rows → TableFrees table k r.lease.0 table' → AreHeld shard (map term_in (tenures_in rows')) table'
+  pub held_still : (k : ℕ) (table' : Table) → AllPairs (λ (b c : TermRow). b.lease ≢ c.lease) rows → TableFrees table k r.lease.0 table' → AreHeld shard (map term_in (tenures_in rows')) table'
   held_still k table' apart frees =
-      let differ = pairs_within (λ (b c : Running). b.lease ≢ c.lease) takes.before takes.after r (λ a b other same. other (sym same)) (subst (AllPairs (λ (b c : Running). b.lease ≢ c.lease)) takes.were apart) in
+      let differ = pairs_within (λ (b c : TermRow). b.lease ≢ c.lease) takes.before takes.after r (λ a b other same. other (sym same)) (subst (AllPairs (λ (b c : TermRow). b.lease ≢ c.lease)) takes.were apart) in
       let P : Term → Type 0 = λ t. entry table t.key.lease.0 ≡ Some shard in
-      let were : All (λ (q : Running). P (term_in (tenure_in q))) (takes.before ++ takes.after) =
-      all_left (λ (q : Running). P (term_in (tenure_in q))) takes.before takes.after r (subst (All (λ (q : Running). P (term_in (tenure_in q)))) takes.were (held_rows P rows held)) in
+      let were : All (λ (q : TermRow). P (term_in (tenure_in q))) (takes.before ++ takes.after) =
+      all_left (λ (q : TermRow). P (term_in (tenure_in q))) takes.before takes.after r (subst (All (λ (q : TermRow). P (term_in (tenure_in q)))) takes.were (held_rows P rows held)) in
       let P' : Term → Type 0 = λ t. entry table' t.key.lease.0 ≡ Some shard in
-      let are : All (λ (q : Running). P' (term_in (tenure_in q))) (takes.before ++ takes.after) =
+      let are : All (λ (q : TermRow). P' (term_in (tenure_in q))) (takes.before ++ takes.after) =
       λ j d lt. frees.elsewhere (get_or (takes.before ++ takes.after) j d).lease.0 (λ same. differ j d lt (same_address r.lease (get_or (takes.before ++ takes.after) j d).lease (sym same))) ∙ were j d lt in
-      rows_held P' rows' (subst (All (λ (q : Running). P' (term_in (tenure_in q)))) (sym takes.are) are)
+      rows_held P' rows' (subst (All (λ (q : TermRow). P' (term_in (tenure_in q)))) (sym takes.are) are)
 
 -- A term leaves -----------------------------------------------------------------------------------------------------------
 
 -- the lease of a session is that of a live term, which stays
-pub tied_left : (sessions : Sessions Session) (rows rows' : List Running) (r : Running) → TakesFirst true rows r rows' → AreTied sessions (tenures_in rows) → AreTied sessions (tenures_in rows')
+pub tied_left : (sessions : Sessions Session) (rows rows' : List TermRow) (r : TermRow) → TakesFirst true rows r rows' → AreTied sessions (tenures_in rows) → AreTied sessions (tenures_in rows')
 tied_left sessions rows rows' r takes tied n x l at leased = left_live rows rows' r (IsTermOf x l) (λ t is. is.live) takes (tied n x l at leased)
 
-module _ (rules : Rules) (s : State) (changed : List Answer) (books : List Book) (allowance : ℕ) (journal : List Entry) (outs : List OutRecord) where
+module _ (rules : Rules) (s : State) (changed : List ChangeAnswer) (books : List Book) (allowance : ℕ) (journal : List Entry) (outs : List OutRecord) where
   abbrev pub shown : TermsView → ℕ → ShardView ShardState Entry
   shown t room = record {
     number = s.sessions.shard;
@@ -97,7 +97,7 @@ module _ (rules : Rules) (s : State) (changed : List Answer) (books : List Book)
     room = room;
   }
 
-  pub leaves_so : (t t' : TermsView) (room : ℕ) (r : Running) (stop : Stop) → TakesFirst true t.rows r t'.rows → t' ≡ record t { rows = t'.rows }
+  pub leaves_so : (t t' : TermsView) (room : ℕ) (r : TermRow) (stop : Stop) → TakesFirst true t.rows r t'.rows → t' ≡ record t { rows = t'.rows }
       → r.cause ≡ Some stop.cause → stop.key ≡ key_from r → stop.carried ≡ r.carried → Leaves (shown t room) (shown t' 0) stop
   leaves_so t t' room r stop takes others cause key carried =
       let rows = t.rows in
@@ -123,7 +123,7 @@ module _ (rules : Rules) (s : State) (changed : List Answer) (books : List Book)
       }
 
   -- what is reported of it
-  pub ended_so : (t t' : TermsView) (room : ℕ) (r : Running) (o : Option EndedTerm) → TakesFirst true t.rows r t'.rows → t' ≡ record t { rows = t'.rows }
+  pub ended_so : (t t' : TermsView) (room : ℕ) (r : TermRow) (o : Option EndedTerm) → TakesFirst true t.rows r t'.rows → t' ≡ record t { rows = t'.rows }
       → IfSome o (λ e. (r.cause ≡ Some e.cause) × ((stop_of e).key ≡ key_from r) × (e.carried ≡ r.carried))
       → (table table' : Table) → (k : ℕ) × TableFrees table k r.lease.0 table'
       → IfSome o (λ e. Leaves (shown t room) (shown t' 0) (stop_of e) × ((k : ℕ) × TableFrees table k e.address.0 table'))
@@ -135,7 +135,7 @@ module _ (rules : Rules) (s : State) (changed : List Answer) (books : List Book)
 
   -- One is told ---------------------------------------------------------------------------------------------------------------
 
-  pub tells_so : (t t' : TermsView) (r : Running) → TakesFirst false t.news r t'.news → t' ≡ record t { news = t'.news } → TellsNew (whole s t) (whole s t') (tenure_in r)
+  pub tells_so : (t t' : TermsView) (r : TermRow) → TakesFirst false t.news r t'.news → t' ≡ record t { news = t'.news } → TellsNew (whole s t) (whole s t') (tenure_in r)
   tells_so t t' r takes others = record {
     leaves = left_leaves t.news t'.news r false takes;
     least = told_least t.news t'.news r takes;
@@ -152,7 +152,7 @@ reaped_whole s s' t next none =
     ap (λ (u : State). whole u t) next
     ∙ ap (λ (ts : List Tenure). let u : State = record (whole s t) { sessions = (reaped s).sessions; terms = ts } in u) (sym (all_are_live t.rows none))
 
-pub reaped_shown : (rules : Rules) (s : State) (changed : List Answer) (books : List Book) (allowance : ℕ) (journal : List Entry) (outs : List OutRecord) (t t' : TermsView) (s' : State) (room : ℕ)
+pub reaped_shown : (rules : Rules) (s : State) (changed : List ChangeAnswer) (books : List Book) (allowance : ℕ) (journal : List Entry) (outs : List OutRecord) (t t' : TermsView) (s' : State) (room : ℕ)
     → filter has_ended t.rows ≡ [] → t' ≡ t → s' ≡ record s { sessions = (reaped s).sessions }
     → shown rules s' changed books allowance journal outs t' 0 ≡ record (shown rules s changed books allowance journal outs t room) { state = record { rules = rules; slots = reaped (whole s t); changed = changed }; room = 0 }
 reaped_shown rules s changed books allowance journal outs t t' s' room none same next =
@@ -161,7 +161,7 @@ reaped_shown rules s changed books allowance journal outs t t' s' room none same
     ∙ ap (λ (w : State). view s' t w) (reaped_whole s s' t next none)
     ∙ ap (λ (u : State). view u t (reaped (whole s t))) next
 
-pub ended_said : (rows rows' : List Running) (r : Running) (o : Option EndedTerm) → TakesFirst true rows r rows'
+pub ended_said : (rows rows' : List TermRow) (r : TermRow) (o : Option EndedTerm) → TakesFirst true rows r rows'
     → IfSome o (λ e. (r.cause ≡ Some e.cause) × ((stop_of e).key ≡ key_from r) × (e.carried ≡ r.carried)) → IfSome o (λ e. (e.user ≡ r.user) × (e.class ≡ r.class) × (e.began ≡ r.began))
     → IfSome o (λ e. (t : Tenure) × SaysOf e.user.items e.class.items e.began (stop_of e).key t × LeavesTerms (tenures_in rows) (tenures_in rows') t)
 ended_said rows rows' r None takes one says = tt

@@ -24,7 +24,7 @@ use Rattle.bng_engine.specs.Views.{Row, ShardView, row_keys}
 use Rattle.bng_engine.proofs.SameLists.{same_equal}
 use Rattle.bng_pool.specs.Plain.{PlainView}
 use Rattle.bng_pool.specs.Tables.{Puts, Table, entry}
-use Rattle.bng_steps.specs.declared.changes.Answer.{Answer}
+use Rattle.bng_steps.specs.declared.changes.ChangeAnswer.{ChangeAnswer}
 use Rattle.bng_steps.specs.declared.rules.Rules.{Rules}
 use Rattle.bng_steps.specs.Changes.{IsAnswerOf}
 use Rattle.bng_steps.specs.Hearing.{Does, outs_most}
@@ -89,7 +89,7 @@ owed_more journal e tick end =
 -- a step as a caller sees it -----------------------------------------------------------------------------------------------
 
 -- the fields of a shard that is in a round
-abbrev pub view : Rules → State → List Answer → List Row → List Book → ℕ → List Entry → List OutRecord → ℕ → ShardView ShardState Entry
+abbrev pub view : Rules → State → List ChangeAnswer → List Row → List Book → ℕ → List Entry → List OutRecord → ℕ → ShardView ShardState Entry
 view r s changed rows books allowance journal outs room = record {
   number = s.sessions.shard;
   state = record { rules = r; slots = s; changed = changed };
@@ -202,7 +202,7 @@ module _ (r : Rules) (s s' : State) (outs outs' : List OutRecord) (e : Entry) (l
   pub moved_held : (pool' : PlainView) → AreHeld s.sessions.shard (terms_there s') pool'.table → AreHeld s'.sessions.shard (terms_there s') pool'.table
   moved_held pool' h = subst (λ (n : ℕ). AreHeld n (terms_there s') pool'.table) (sym moved_shard) h
 
-  module _ (changed changed' : List Answer) (answer : Option Answer) (is_answer : IsAnswerOf r s does.deed.entry answer) (pushed : changed' ≡ changed ++ option_to_list answer) (rows rows' : List Row) (books books' : List Book) (allowance left room : ℕ) (journal journal' : List Entry) (counted : left + begun_in journal ≡ allowance) (is_limited : limited ≡ (left == 0))
+  module _ (changed changed' : List ChangeAnswer) (answer : Option ChangeAnswer) (is_answer : IsAnswerOf r s does.deed.entry answer) (pushed : changed' ≡ changed ++ option_to_list answer) (rows rows' : List Row) (books books' : List Book) (allowance left room : ℕ) (journal journal' : List Entry) (counted : left + begun_in journal ≡ allowance) (is_limited : limited ≡ (left == 0))
       (fit : row_keys rows' ≡ keys (terms_there s')) (sums : SayTheSame rows rows') where
     abbrev effect : Handled
     effect = record { deed = does.deed; limited = limited; refused = refused_by r.pools e.claim; answer = answer }
@@ -216,7 +216,7 @@ module _ (r : Rules) (s s' : State) (outs outs' : List OutRecord) (e : Entry) (l
       number = moved_shard;
       allowance = refl;
       state = ap (λ (t : State). let x : ShardState = record { rules = r; slots = t; changed = changed' } in x) (sym does.next)
-          ∙ ap (λ (answers : List Answer). let x : ShardState = record { rules = r; slots = does.deed.next; changed = answers } in x) pushed;
+          ∙ ap (λ (answers : List ChangeAnswer). let x : ShardState = record { rules = r; slots = does.deed.next; changed = answers } in x) pushed;
       fit = same_equal (row_keys rows') (keys (terms_there s')) fit;
       rows = sums;
       books = rise;
@@ -243,7 +243,7 @@ module _ (r : Rules) (s s' : State) (outs outs' : List OutRecord) (e : Entry) (l
     }
 
 -- an entry has one answer at most
-pub few_answers : (o : Option Answer) → length (option_to_list o) ≤ 1
+pub few_answers : (o : Option ChangeAnswer) → length (option_to_list o) ≤ 1
 few_answers None = omega arith
 few_answers (Some a) = omega arith
 

@@ -4,10 +4,10 @@ use Rattle.std.specs.List.{All, AllPairs, flat_map}
 use Rattle.bng_base.specs.declared.item.Entry.{Entry}
 use Rattle.bng_profile.specs.Books.{names_of}
 use Rattle.bng_shard.specs.declared.shard.Shard.TheInside.{Inside}
-use Rattle.bng_steps.specs.declared.terms.Running.{Running}
+use Rattle.bng_steps.specs.declared.terms.TermRow.{TermRow}
 use Rattle.bng_steps.specs.Protocol.{claimed_by}
 use Rattle.bng_shard.specs.Room.{has_tick, has_end}
-use Rattle.bng_steps.specs.Running.{AreTied, tenures_in}
+use Rattle.bng_steps.specs.TermRows.{AreTied, tenures_in}
 use Rattle.bng_steps.specs.Placed.{ArePlaced}
 
 -- how many outs a Tick and an End may still have that the round has not had
@@ -23,9 +23,9 @@ begun_in journal = length (flat_map (λ (e : Entry). claimed_by e.claim) journal
 -- and what each access port offers. At most 16 profiles, and of each its name and a book, in their order. Where a round has room for an
 -- entry, there is room for it, for its outs, for a term that it begins, and for what it is answered.
 pub record Fits (a : Inside) : Type 0 where
-  pub numbered : All (λ (r : Running). r.term.serial ≤ a.served.begun) a.terms.rows
-  pub numbered_news : All (λ (r : Running). r.term.serial ≤ a.served.begun) a.terms.news
-  pub apart : AllPairs (λ (b c : Running). b.lease ≢ c.lease) a.terms.rows
+  pub numbered : All (λ (r : TermRow). r.term.serial ≤ a.served.begun) a.terms.rows
+  pub numbered_news : All (λ (r : TermRow). r.term.serial ≤ a.served.begun) a.terms.news
+  pub apart : AllPairs (λ (b c : TermRow). b.lease ≢ c.lease) a.terms.rows
   pub tied : AreTied a.served.sessions (tenures_in a.terms.rows)
   pub left : 0 < a.room → a.left + begun_in a.journal.items ≡ a.allowance
   pub numbers : 0 < a.left → a.served.begun + a.left < 2 ^ 48

@@ -28,7 +28,7 @@ use bng_coa::ChangeVerdict;
 use bng_pool::PlainPool;
 use bng_profile::Profiles;
 use bng_steps::{
-    Answer, Charged, EndedTerm, Incoming, LiveTerm, ReportedTerm, Reports, Rules, Served,
+    ChangeAnswer, Charged, EndedTerm, Incoming, LiveTerm, ReportedTerm, Reports, Rules, Served,
     ShardError, Survey, Terms, book, charged_as, hear, stop_from, tally, wish_for,
 };
 use std::alloc::{AllocError, Global};
@@ -49,7 +49,7 @@ pub struct Shard {
     left: u32,
     journal: Batch<Entry>,
     outs: Batch<OutRecord>,
-    pub(crate) changed: Vec<Answer>,
+    pub(crate) changed: Vec<ChangeAnswer>,
     room: usize,
     // whether a journal was handed out with its memory, and no list was given for the next ones since
     lent: bool,
@@ -85,7 +85,7 @@ impl Model for Shard {
 
     ghost coded = { Prim.hlevel (codes, state_code) };
 
-    ghost use Rattle.bng_steps.specs.Running.{rows_in, whole};
+    ghost use Rattle.bng_steps.specs.TermRows.{rows_in, whole};
     ghost use Rattle.bng_shard.specs.Fits.{Fits};
 
     ghost view = { λ a. record { number = a.served.sessions.shard; state = record { rules = a.rules; slots = whole a.served a.terms; changed = a.changed.items }; rows = rows_in a.terms.rows; books = a.profiles.books; allowance = a.allowance; journal = a.journal.items; outs = a.outs.items; sends = []; stops = []; starts = []; room = a.room } };

@@ -12,7 +12,7 @@ use Rattle.bng_base.specs.declared.address.Ip4.{Ip4}
 use Rattle.bng_base.specs.declared.address.SessionNo.{SessionNo}
 use Rattle.bng_base.specs.declared.circuit.Circuit.{Circuit}
 use Rattle.bng_base.specs.declared.circuit.TermId.{TermId}
-use Rattle.bng_slots.specs.declared.key.Due.{Due}
+use Rattle.bng_slots.specs.declared.key.Deadline.{Deadline}
 use Rattle.bng_slots.specs.Orders.{circuit_order, address_order, term_order, due_order}
 use Rattle.bng_slots.specs.OrderLaws.{circuit_order-total, address_order-total, term_order-total, due_order-total, circuit_order-IsAntisymmetric, address_order-IsAntisymmetric, term_order-IsAntisymmetric, due_order-IsAntisymmetric}
 use Rattle.bng_slots.specs.Listing.{Listing}
@@ -92,7 +92,7 @@ some_free {A} (Some a ∷ xs) (suc i) l none =
     let sums : count_by is_some (Some a ∷ xs) ≡ 1 + count_by is_some xs = sum_by-cons (λ (o : Option A). cond (is_some o) 1 0) (Some a) xs in
     omega (arith, rest, sums)
 
-module _ {V : Type 0} (circuit : V → Option Circuit) (address : V → Option Ip4) (term : V → Option TermId) (deadline : V → Option ℕ) (shard : ℕ) (shelf : List (Option V)) (words : List ℕ) (cs : Listing Circuit) (ads : Listing Ip4) (ts : Listing TermId) (ds : Listing Due) (is : IsSlots circuit address term deadline shard shelf words cs ads ts ds) where
+module _ {V : Type 0} (circuit : V → Option Circuit) (address : V → Option Ip4) (term : V → Option TermId) (deadline : V → Option ℕ) (shard : ℕ) (shelf : List (Option V)) (words : List ℕ) (cs : Listing Circuit) (ads : Listing Ip4) (ts : Listing TermId) (ds : Listing Deadline) (is : IsSlots circuit address term deadline shard shelf words cs ads ts ds) where
   seen : Sessions V
   seen = record { shard = shard; by_number = by_number shard shelf }
 
@@ -132,12 +132,12 @@ leads_nowhere R read m x is key = (
 )
 
 -- the deadline of a slot, from what its index has
-slot_due : {V : Type 0} (deadline : V → Option ℕ) (q : SessionNo) (o : Option V) (due : Due) → option_and_then (due_of deadline q) o ≡ Some due → (option_and_then deadline o ≡ Some due.deadline) × (due.session ≡ q)
+slot_due : {V : Type 0} (deadline : V → Option ℕ) (q : SessionNo) (o : Option V) (due : Deadline) → option_and_then (due_of deadline q) o ≡ Some due → (option_and_then deadline o ≡ Some due.deadline) × (due.session ≡ q)
 slot_due deadline q None due e = absurd (none_some due e)
 slot_due deadline q (Some v) due e =
     elim (deadline v) as (λ d. option_map (λ t. record { deadline = t; session = q }) d ≡ Some due → (d ≡ Some due.deadline) × (due.session ≡ q)) [
       | None ↦ λ f. absurd (none_some due f)
-      | Some t ↦ λ f. let same = some_same _ due f in (ap (λ (x : Due). Some x.deadline) same, sym (ap (λ (x : Due). x.session) same))
+      | Some t ↦ λ f. let same = some_same _ due f in (ap (λ (x : Deadline). Some x.deadline) same, sym (ap (λ (x : Deadline). x.session) same))
     ] e
 
 due_slot : {V : Type 0} (deadline : V → Option ℕ) (q : SessionNo) (o : Option V) (t : ℕ) → option_and_then deadline o ≡ Some t → option_and_then (due_of deadline q) o ≡ Some (record { deadline = t; session = q })
@@ -156,14 +156,14 @@ same_or_later a b m n more e = elim (cases_eq a b) [
   | inr differ ↦ absurd (true≢false (sym (later a b m n (omega arith)) ∙ e))
 ]
 
-in_due_order : (a b : Due) → is_gt (due_order a b) ≡ false → (a.deadline < b.deadline) ⊎ ((a.deadline ≡ b.deadline) × (a.session.0 ≤ b.session.0))
+in_due_order : (a b : Deadline) → is_gt (due_order a b) ≡ false → (a.deadline < b.deadline) ⊎ ((a.deadline ≡ b.deadline) × (a.session.0 ≤ b.session.0))
 in_due_order a b e = elim (cases_lt a.deadline b.deadline) [
   | inl less ↦ inl less
   | inr more ↦ inr (same_or_later a.deadline b.deadline a.session.0 b.session.0 more e)
 ]
 
-module _ {V : Type 0} (deadline : V → Option ℕ) (s : Sessions V) (x : Listing Due) (is : Agrees due_order (due_of deadline) s.by_number x) where
-  pub earliest_is : (due : Due) → is_some (find due_order due x.entries) ≡ true → ((j : Due) (n : SessionNo) → find due_order j x.entries ≡ Some n → is_gt (due_order due j) ≡ false) → IsEarliest deadline s due.deadline due.session.0
+module _ {V : Type 0} (deadline : V → Option ℕ) (s : Sessions V) (x : Listing Deadline) (is : Agrees due_order (due_of deadline) s.by_number x) where
+  pub earliest_is : (due : Deadline) → is_some (find due_order due x.entries) ≡ true → ((j : Deadline) (n : SessionNo) → find due_order j x.entries ≡ Some n → is_gt (due_order due j) ≡ false) → IsEarliest deadline s due.deadline due.session.0
   earliest_is due there least =
       elim (find due_order due x.entries) as (λ f. find due_order due x.entries ≡ f → is_some f ≡ true → IsEarliest deadline s due.deadline due.session.0) [
         | None ↦ λ e t. absurd (false≢true t)
@@ -182,7 +182,7 @@ module _ {V : Type 0} (deadline : V → Option ℕ) (s : Sessions V) (x : Listin
         | Some t ↦ λ e. absurd (none_some (record { 0 = n }) (sym (ap (find due_order (record { deadline = t; session = record { 0 = n } })) none) ∙ (is.finds _ _).1 (due_slot deadline (record { 0 = n }) (get s.by_number n) t e)))
       ] refl
 
-  pub some_due : (due : Due) → is_some (find due_order due x.entries) ≡ true → ((n : ℕ) → option_and_then deadline (get s.by_number n) ≡ None) → ⊥
+  pub some_due : (due : Deadline) → is_some (find due_order due x.entries) ≡ true → ((n : ℕ) → option_and_then deadline (get s.by_number n) ≡ None) → ⊥
   some_due due there nobody =
       elim (find due_order due x.entries) as (λ f. find due_order due x.entries ≡ f → is_some f ≡ true → ⊥) [
         | None ↦ λ e t. false≢true t
@@ -190,7 +190,7 @@ module _ {V : Type 0} (deadline : V → Option ℕ) (s : Sessions V) (x : Listin
       ] refl there
 
 -- a shard whose slots are all vacant
-pub opened : {V : Type 0} (circuit : V → Option Circuit) (address : V → Option Ip4) (term : V → Option TermId) (deadline : V → Option ℕ) (shard : ℕ) (shelf : List (Option V)) (words : List ℕ) (cs : Listing Circuit) (ads : Listing Ip4) (ts : Listing TermId) (ds : Listing Due) → shard ≤ 63 → shelf ≡ replicate 1022 None → ((i : ℕ) → i < 1024 → free_bit words i ≡ 1) → (cs.entries ≡ []) × (1022 ≤ cs.room) → (ads.entries ≡ []) × (1022 ≤ ads.room) → (ts.entries ≡ []) × (1022 ≤ ts.room) → (ds.entries ≡ []) × (1022 ≤ ds.room) → IsSlots circuit address term deadline shard shelf words cs ads ts ds
+pub opened : {V : Type 0} (circuit : V → Option Circuit) (address : V → Option Ip4) (term : V → Option TermId) (deadline : V → Option ℕ) (shard : ℕ) (shelf : List (Option V)) (words : List ℕ) (cs : Listing Circuit) (ads : Listing Ip4) (ts : Listing TermId) (ds : Listing Deadline) → shard ≤ 63 → shelf ≡ replicate 1022 None → ((i : ℕ) → i < 1024 → free_bit words i ≡ 1) → (cs.entries ≡ []) × (1022 ≤ cs.room) → (ads.entries ≡ []) × (1022 ≤ ads.room) → (ts.entries ≡ []) × (1022 ≤ ts.room) → (ds.entries ≡ []) × (1022 ≤ ds.room) → IsSlots circuit address term deadline shard shelf words cs ads ts ds
 opened {V} circuit address term deadline shard shelf words cs ads ts ds small none free c a t d =
     let nothing : Option V = None in
     let nobody : by_number shard shelf ≡ empty = ap (by_number shard) none ∙ places_none (shard * 1024 + 1) 1022 in
@@ -225,9 +225,9 @@ module _ {K V : Type 0} (R : K → K → Ordering) (o : IsTotalOrder R) (same : 
   pub note_absent : (read : V → Option K) (m : FinMap nat_cmp V) (x : Listing K) → Agrees R (λ _. read) m x → (v : V) (key : Option K) → key ≡ read v → ((n : ℕ) (k : K) → read v ≡ Some k → option_and_then read (get m n) ≢ Some k) → (k : K) → key ≡ Some k → find R k x.entries ≡ None
   note_absent read m x is v key e alone k h = absent R o same (λ _. read) m x is k (λ q. alone q.0 k (sym e ∙ h))
 
-module _ {V : Type 0} (deadline : V → Option ℕ) (m : FinMap nat_cmp V) (x : Listing Due) (is : Agrees due_order (due_of deadline) m x) where
+module _ {V : Type 0} (deadline : V → Option ℕ) (m : FinMap nat_cmp V) (x : Listing Deadline) (is : Agrees due_order (due_of deadline) m x) where
   -- a session that is not there has no deadline in the index
-  pub due_absent : (n : SessionNo) (v : V) (key : Option Due) → key ≡ due_of deadline n v → get m n.0 ≡ None → (k : Due) → key ≡ Some k → find due_order k x.entries ≡ None
+  pub due_absent : (n : SessionNo) (v : V) (key : Option Deadline) → key ≡ due_of deadline n v → get m n.0 ≡ None → (k : Deadline) → key ≡ Some k → find due_order k x.entries ≡ None
   due_absent n v key e vacant k h = absent due_order due_order-total due_order-IsAntisymmetric (due_of deadline) m x is k (λ q has.
       let theirs = slot_due deadline q (get m q.0) k has in
       let ours = slot_due deadline n (Some v) k (sym e ∙ h) in
@@ -247,7 +247,7 @@ remove_absent m n none = same_map nat_cmp_total nat_cmp-IsAntisymmetric _ _ (λ 
   | inr differ ↦ get-remove nat_cmp_total m n q ∙ ap (λ b. cond b None (get m q)) (other_number q n differ)
 ])
 
-module _ {V : Type 0} (circuit : V → Option Circuit) (address : V → Option Ip4) (term : V → Option TermId) (deadline : V → Option ℕ) (shard : ℕ) (shelf : List (Option V)) (words : List ℕ) (cs : Listing Circuit) (ads : Listing Ip4) (ts : Listing TermId) (ds : Listing Due) (is : IsSlots circuit address term deadline shard shelf words cs ads ts ds) (n : SessionNo) (p : ℕ) (l : p < 1022) (e : n.0 ≡ shard * 1024 + 1 + p) where
+module _ {V : Type 0} (circuit : V → Option Circuit) (address : V → Option Ip4) (term : V → Option TermId) (deadline : V → Option ℕ) (shard : ℕ) (shelf : List (Option V)) (words : List ℕ) (cs : Listing Circuit) (ads : Listing Ip4) (ts : Listing TermId) (ds : Listing Deadline) (is : IsSlots circuit address term deadline shard shelf words cs ads ts ds) (n : SessionNo) (p : ℕ) (l : p < 1022) (e : n.0 ≡ shard * 1024 + 1 + p) where
   within : p < length shelf
   within = omega (arith, l, is.places)
 
@@ -267,7 +267,7 @@ module _ {V : Type 0} (circuit : V → Option Circuit) (address : V → Option I
     | inr differ ↦ bits i ∙ if_other i p b _ differ ∙ is.bits i small ∙ sym (ap (λ (o : Option V). cond (is_some o) 0 1) (get_or-set_other shelf p i x None differ))
   ]
 
-  pub put_slots : (v : V) (words' : List ℕ) (cs' : Listing Circuit) (ads' : Listing Ip4) (ts' : Listing TermId) (ds' : Listing Due) → ((i : ℕ) → free_bit words' i ≡ (if i == p then 0 else free_bit words i)) → Agrees circuit_order (λ _. circuit) (insert (by_number shard shelf) n.0 v) cs' → Agrees address_order (λ _. address) (insert (by_number shard shelf) n.0 v) ads' → Agrees term_order (λ _. term) (insert (by_number shard shelf) n.0 v) ts' → Agrees due_order (due_of deadline) (insert (by_number shard shelf) n.0 v) ds' → IsSlots circuit address term deadline shard (set shelf p (Some v)) words' cs' ads' ts' ds'
+  pub put_slots : (v : V) (words' : List ℕ) (cs' : Listing Circuit) (ads' : Listing Ip4) (ts' : Listing TermId) (ds' : Listing Deadline) → ((i : ℕ) → free_bit words' i ≡ (if i == p then 0 else free_bit words i)) → Agrees circuit_order (λ _. circuit) (insert (by_number shard shelf) n.0 v) cs' → Agrees address_order (λ _. address) (insert (by_number shard shelf) n.0 v) ads' → Agrees term_order (λ _. term) (insert (by_number shard shelf) n.0 v) ts' → Agrees due_order (due_of deadline) (insert (by_number shard shelf) n.0 v) ds' → IsSlots circuit address term deadline shard (set shelf p (Some v)) words' cs' ads' ts' ds'
   put_slots v words' cs' ads' ts' ds' bits c a t d = record {
     in_range = is.in_range;
     places = length-set shelf p (Some v) ∙ is.places;
@@ -278,7 +278,7 @@ module _ {V : Type 0} (circuit : V → Option Circuit) (address : V → Option I
     deadlines_agree = subst (λ m. Agrees due_order (due_of deadline) m ds') (sym (put_map v)) d;
   }
 
-  pub take_slots : (words' : List ℕ) (cs' : Listing Circuit) (ads' : Listing Ip4) (ts' : Listing TermId) (ds' : Listing Due) → ((i : ℕ) → free_bit words' i ≡ (if i == p then 1 else free_bit words i)) → Agrees circuit_order (λ _. circuit) (remove (by_number shard shelf) n.0) cs' → Agrees address_order (λ _. address) (remove (by_number shard shelf) n.0) ads' → Agrees term_order (λ _. term) (remove (by_number shard shelf) n.0) ts' → Agrees due_order (due_of deadline) (remove (by_number shard shelf) n.0) ds' → IsSlots circuit address term deadline shard (set shelf p None) words' cs' ads' ts' ds'
+  pub take_slots : (words' : List ℕ) (cs' : Listing Circuit) (ads' : Listing Ip4) (ts' : Listing TermId) (ds' : Listing Deadline) → ((i : ℕ) → free_bit words' i ≡ (if i == p then 1 else free_bit words i)) → Agrees circuit_order (λ _. circuit) (remove (by_number shard shelf) n.0) cs' → Agrees address_order (λ _. address) (remove (by_number shard shelf) n.0) ads' → Agrees term_order (λ _. term) (remove (by_number shard shelf) n.0) ts' → Agrees due_order (due_of deadline) (remove (by_number shard shelf) n.0) ds' → IsSlots circuit address term deadline shard (set shelf p None) words' cs' ads' ts' ds'
   take_slots words' cs' ads' ts' ds' bits c a t d = record {
     in_range = is.in_range;
     places = length-set shelf p None ∙ is.places;

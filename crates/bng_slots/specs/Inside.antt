@@ -8,7 +8,7 @@ use Rattle.bng_base.specs.declared.address.Ip4.{Ip4}
 use Rattle.bng_base.specs.declared.address.SessionNo.{SessionNo}
 use Rattle.bng_base.specs.declared.circuit.Circuit.{Circuit}
 use Rattle.bng_base.specs.declared.circuit.TermId.{TermId}
-use Rattle.bng_slots.specs.declared.key.Due.{Due}
+use Rattle.bng_slots.specs.declared.key.Deadline.{Deadline}
 use Rattle.bng_slots.specs.Orders.{circuit_order, address_order, term_order, due_order}
 use Rattle.bng_slots.specs.Listing.{Listing}
 use Rattle.bng_slots.specs.Bits.{free_bit}
@@ -40,11 +40,11 @@ module _ {V : Type 0} where
     pub room : 1022 ≤ x.room
 
   -- a slot's deadline, and its session
-  abbrev pub due_of : (V → Option ℕ) → SessionNo → V → Option Due
+  abbrev pub due_of : (V → Option ℕ) → SessionNo → V → Option Deadline
   due_of deadline n value = option_map (λ d. record { deadline = d; session = n }) (deadline value)
 
   -- each place of the shard has a bit, and each index is one of the values that stand there
-  pub record IsSlots (circuit : V → Option Circuit) (address : V → Option Ip4) (term : V → Option TermId) (deadline : V → Option ℕ) (shard : ℕ) (shelf : List (Option V)) (words : List ℕ) (circuits : Listing Circuit) (addresses : Listing Ip4) (terms : Listing TermId) (deadlines : Listing Due) : Type 0 where
+  pub record IsSlots (circuit : V → Option Circuit) (address : V → Option Ip4) (term : V → Option TermId) (deadline : V → Option ℕ) (shard : ℕ) (shelf : List (Option V)) (words : List ℕ) (circuits : Listing Circuit) (addresses : Listing Ip4) (terms : Listing TermId) (deadlines : Listing Deadline) : Type 0 where
     pub in_range : shard < 64
     pub places : length shelf ≡ 1022
     pub bits : (i : ℕ) → i < 1022 → free_bit words i ≡ cond (is_some (slice_index_or shelf i None)) 0 1

@@ -7,7 +7,7 @@ use Rattle.bng_base.specs.declared.address.Ip4.{Ip4}
 use Rattle.bng_base.specs.declared.circuit.Circuit.{Circuit}
 use Rattle.bng_base.specs.declared.circuit.Circuit.TheVariants.{Pppoe, L2tp}
 use Rattle.bng_base.specs.declared.circuit.TermId.{TermId}
-use Rattle.bng_slots.specs.declared.key.Due.{Due}
+use Rattle.bng_slots.specs.declared.key.Deadline.{Deadline}
 
 -- a PPPoE circuit before an L2TP one, and each by its session number first
 abbrev pub circuit_numbers : Circuit → List ℕ
@@ -25,5 +25,5 @@ abbrev pub term_order : TermId → TermId → Ordering
 term_order = then_cmp (on (λ t. t.session.0) nat_cmp) (on (λ t. t.serial) nat_cmp)
 
 -- the earlier deadline first, and of equal ones the lower session number
-abbrev pub due_order : Due → Due → Ordering
+abbrev pub due_order : Deadline → Deadline → Ordering
 due_order = then_cmp (on (λ d. d.deadline) nat_cmp) (on (λ d. d.session.0) nat_cmp)

@@ -6,7 +6,7 @@ ghost use Rattle.std.specs.declared.cmp.Ordering.TheVariants.{Less, Equal, Great
 ghost use Rattle.std.specs.FinMap.{find};
 ghost use Rattle.bng_slots.specs.Inside.{noted, forgotten};
 
-use crate::key::Key;
+use crate::key::IndexKey;
 use bng_base::SessionNo;
 use std::alloc::{AllocError, Global};
 use std::cmp::Ordering;
@@ -14,11 +14,11 @@ use std::marker::Model;
 
 /// Sessions by one kind of key. Each key has one session.
 #[derive(Drop)]
-pub(crate) struct Index<K: Key> {
+pub(crate) struct Index<K: IndexKey> {
     entries: Vec<(K, SessionNo)>,
 }
 
-impl<K: Key> Model for Index<K> {
+impl<K: IndexKey> Model for Index<K> {
     ghost use Rattle.std.specs.Prelude.{T, vec_capacity};
     ghost use Rattle.std.specs.FinMap.{is_sorted};
     ghost use Rattle.bng_slots.specs.Listing.{Listing, listing_code};
@@ -32,7 +32,7 @@ impl<K: Key> Model for Index<K> {
     ghost invariant = { λ a. T (is_sorted K.order a.entries.items) };
 }
 
-impl<K: Key> Index<K> {
+impl<K: IndexKey> Index<K> {
     /// An index with no entry and room for so many.
     pub(crate) fn open(alloc: Global, room: usize) -> Result<Index<K>, AllocError>
         ensures empty { IfOk result (λ x. x.entries ≡ []) }

@@ -10,7 +10,7 @@ use bng_base::{Circuit, Ip4, SessionNo, TermId};
 use std::cmp::Ordering;
 
 /// What an index finds a session by. Keys have a total order in which only equal keys tie.
-pub(crate) trait Key: Copy {
+pub(crate) trait IndexKey: Copy {
     ghost order: { Self → Self → Answer };
 
     fn compare(&self, other: &Self) -> Ordering
@@ -23,12 +23,12 @@ pub(crate) trait Key: Copy {
 
 /// A deadline in milliseconds, and the session that has it: the earlier deadline first, then the lower session number.
 #[derive(Clone, Copy)]
-pub(crate) struct Due {
+pub(crate) struct Deadline {
     pub(crate) deadline: u64,
     pub(crate) session: SessionNo,
 }
 
-impl Key for Circuit {
+impl IndexKey for Circuit {
     ghost order = { circuit_order };
 
     ghost total = { circuit_order-total };
@@ -72,7 +72,7 @@ impl Key for Circuit {
     }
 }
 
-impl Key for Ip4 {
+impl IndexKey for Ip4 {
     ghost order = { address_order };
 
     ghost total = { address_order-total };
@@ -84,7 +84,7 @@ impl Key for Ip4 {
     }
 }
 
-impl Key for TermId {
+impl IndexKey for TermId {
     ghost order = { term_order };
 
     ghost total = { term_order-total };
@@ -99,14 +99,14 @@ impl Key for TermId {
     }
 }
 
-impl Key for Due {
+impl IndexKey for Deadline {
     ghost order = { due_order };
 
     ghost total = { due_order-total };
 
     ghost identical = { due_order-IsAntisymmetric };
 
-    fn compare(&self, other: &Due) -> Ordering {
+    fn compare(&self, other: &Deadline) -> Ordering {
         self.deadline
             .cmp(&other.deadline)
             .then(self.session.0.cmp(&other.session.0))

@@ -7,7 +7,7 @@ ghost use Rattle.bng_sessions.specs.Sessions.{IsNumberOf, IsLowestVacant, IsEarl
 
 use crate::full::{Full, SlotError};
 use crate::index::Index;
-use crate::key::Due;
+use crate::key::Deadline;
 use crate::shelf::Shelf;
 use crate::vacancy::{PLACES, Vacancy};
 use bng_base::{Circuit, Ip4, SessionNo, TermId};
@@ -25,7 +25,7 @@ pub struct Slots<V: Slotted> {
     circuits: Index<Circuit>,
     addresses: Index<Ip4>,
     terms: Index<TermId>,
-    deadlines: Index<Due>,
+    deadlines: Index<Deadline>,
 }
 
 impl<V: Slotted> Model for Slots<V> {
@@ -204,9 +204,9 @@ impl<V: Slotted> Slots<V> {
 }
 
 // What the index of deadlines has for a value under a session number.
-fn due_of<V: Slotted>(value: &V, session: SessionNo) -> Option<Due>
+fn due_of<V: Slotted>(value: &V, session: SessionNo) -> Option<Deadline>
     ensures { result ≡ due_of V.deadline session value.now }
 {
     let deadline = value.deadline()?;
-    Some(Due { deadline, session })
+    Some(Deadline { deadline, session })
 }

@@ -2,11 +2,11 @@
 use Rattle.std.proofs.Common.{◌≡◌, ℕ, ◌+◌, ◌≤◌, max, Bool, not, List, Option, Some, None, IfSome, option_map, inl, inr, refl, sym, subst, ◌∙◌, arith}
 use Rattle.bng_base.specs.declared.address.Ip4.{Ip4}
 use Rattle.bng_base.specs.declared.item.OutRecord.{OutRecord}
-use Rattle.bng_ppp.specs.declared.whole_input.WholeInput.TheVariants.{Start, Close}
+use Rattle.bng_ppp.specs.declared.input.Input.TheVariants.{Start, Close}
 use Rattle.bng_term.specs.declared.limits.Limits.{Limits}
 use Rattle.bng_term.specs.Lifetimes.{HasAllowedInterval, seconds_after}
 use Rattle.bng_base.specs.declared.item.ItemKind.{ItemKind}
-use Rattle.bng_steps.specs.declared.changes.Answer.{Answer}
+use Rattle.bng_steps.specs.declared.changes.ChangeAnswer.{ChangeAnswer}
 use Rattle.bng_steps.specs.declared.meters.Plan.{Plan}
 use Rattle.bng_steps.specs.declared.rules.Rules.{Rules}
 use Rattle.bng_base.specs.declared.item.At.{At}
@@ -101,12 +101,12 @@ module _ (t : Reports) where
         with_kept Awaits s d.entry.item.target (record j.after { lease = Some lease }) (begun_awaits (reported_at t.last j.after.number) s u.plan u.limits d.entry.moment a long near) h
 
     -- what is no request for a change, and so is not answered, changes nothing
-    unanswered_same : (answer : Option Answer) → AnswersRequest r s d.entry answer → answer ≡ None → HearsChange r s d.entry d → d.next ≡ s
+    unanswered_same : (answer : Option ChangeAnswer) → AnswersRequest r s d.entry answer → answer ≡ None → HearsChange r s d.entry d → d.next ≡ s
     unanswered_same answer (inl (no_request, is)) none (inl (other, h)) = next_of d (ignored s d.entry) h
     unanswered_same answer (inl (no_request, is)) none (inr (p, reads, h)) = absurd (no_request p reads)
     unanswered_same answer (inr (p, reads, is)) none h = absurd (none_some (answer_to r s d.entry p) (sym none ∙ is))
 
-    pub awaits_kept : (answer : Option Answer) → IsAnswerOf r s d.entry answer → answer ≡ None → Step r s limited d → AwaitsInterims s t → AwaitsInterims d.next t
+    pub awaits_kept : (answer : Option ChangeAnswer) → IsAnswerOf r s d.entry answer → answer ≡ None → Step r s limited d → AwaitsInterims s t → AwaitsInterims d.next t
     awaits_kept answer answered none =
         step_walks_by r Keeps (walks_by r Keeps (keeps_walk r)) keeps_stops s limited d
         (λ u decides j. judged_keeps u j (decides_allowed r limited d.entry.item.frame.payload d.entry.claim u decides) u.lease)

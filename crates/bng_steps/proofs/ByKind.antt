@@ -10,7 +10,7 @@ use Rattle.bng_base.specs.declared.item.Item.{Item}
 use Rattle.bng_base.specs.declared.item.ItemKind.{ItemKind}
 use Rattle.bng_base.specs.declared.item.ItemKind.TheVariants.{Tick, End}
 use Rattle.bng_base.specs.declared.item.OutRecord.{OutRecord}
-use Rattle.bng_steps.specs.declared.changes.Answer.{Answer}
+use Rattle.bng_steps.specs.declared.changes.ChangeAnswer.{ChangeAnswer}
 use Rattle.bng_steps.specs.declared.rules.Rules.{Rules}
 use Rattle.bng_base.specs.declared.item.At.{At}
 use Rattle.bng_steps.specs.State.{State, with_ended, with_tunnels}
@@ -104,10 +104,10 @@ module _ (r : Rules) (s s' : State) (outs outs' : List OutRecord) (a : At) (now 
           })
 
 -- what is answered to an item is so by its kind
-pub answered_so : (r : Rules) (s : State) (item : Item) (kind : ItemKind) → item.kind ≡ kind → (e : Entry) → e.item ≡ item → (answer : Option Answer) → AnswersKind kind r s e answer → IsAnswerOf r s e answer
+pub answered_so : (r : Rules) (s : State) (item : Item) (kind : ItemKind) → item.kind ≡ kind → (e : Entry) → e.item ≡ item → (answer : Option ChangeAnswer) → AnswersKind kind r s e answer → IsAnswerOf r s e answer
 answered_so r s item kind is e same answer h = subst (λ (k : ItemKind). AnswersKind k r s e answer) (sym (ap (λ (i : Item). i.kind) same ∙ is)) h
 
 -- nothing is, where its kind has no answers
-pub unanswered : (r : Rules) (s : State) (item : Item) (kind : ItemKind) → item.kind ≡ kind → ((e : Entry) → AnswersKind kind r s e None) → (answers : List Answer) (e : Entry) → e.item ≡ item
-    → (answer : Option Answer) × IsAnswerOf r s e answer × (answers ≡ answers ++ option_to_list answer)
+pub unanswered : (r : Rules) (s : State) (item : Item) (kind : ItemKind) → item.kind ≡ kind → ((e : Entry) → AnswersKind kind r s e None) → (answers : List ChangeAnswer) (e : Entry) → e.item ≡ item
+    → (answer : Option ChangeAnswer) × IsAnswerOf r s e answer × (answers ≡ answers ++ option_to_list answer)
 unanswered r s item kind is none answers e same = (None, answered_so r s item kind is e same None (none e), sym (append-nil answers))

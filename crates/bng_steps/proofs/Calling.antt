@@ -17,12 +17,12 @@ use Rattle.bng_l2tp_tunnel.specs.TunnelState.{TunnelState}
 use Rattle.bng_l2tp_wire.specs.View.{Said}
 use Rattle.bng_l2tp_wire.specs.Messages.{ControlMessage}
 use Rattle.bng_lns.specs.Tunnels.{TunnelsState, tunnel_at}
-use Rattle.bng_ppp.specs.declared.whole_input.WholeInput.TheVariants.{Start}
+use Rattle.bng_ppp.specs.declared.input.Input.TheVariants.{Start}
 use Rattle.bng_sessions.specs.Sessions.{NoneShares, Sessions, value_at, without}
 use Rattle.bng_steps.specs.declared.rules.Rules.{Rules}
 use Rattle.bng_steps.specs.declared.session.Lease.{Lease}
 use Rattle.bng_steps.specs.declared.session.Session.{Session}
-use Rattle.bng_steps.specs.declared.way.Called.{Called}
+use Rattle.bng_steps.specs.declared.way.TunnelCall.{TunnelCall}
 use Rattle.bng_steps.specs.declared.way.Way.{Way}
 use Rattle.bng_steps.specs.declared.way.Way.TheVariants.{Port, Call}
 use Rattle.bng_steps.specs.Calls.{AsksForCall, HearsCallMessage, MakesSession, TakesForCall, TakesForNone, TakesFound, TakesIfLives, TurnsCall, call_after, call_step, called_over, linked_anew, number_for, session_over, step_outs, stepped, turned}
@@ -32,7 +32,7 @@ use Rattle.bng_steps.specs.Doing.{DoesWith}
 use Rattle.bng_steps.specs.Indexed.{address_of}
 use Rattle.bng_steps.specs.Link.{ended, lost_carrier}
 use Rattle.bng_steps.specs.Protocol.{entry_of}
-use Rattle.bng_steps.specs.Running.{KeepSums, TermsView, whole}
+use Rattle.bng_steps.specs.TermRows.{KeepSums, TermsView, whole}
 use Rattle.bng_steps.specs.State.{Beside, State, beside_at, call_of, is_over_way, is_port, lives_in, where_over, with_session, with_tunnels}
 use Rattle.bng_steps.specs.Timed.{TurnedOnce}
 use Rattle.bng_steps.specs.Timers.{does_live}
@@ -49,19 +49,19 @@ use Rattle.bng_steps.proofs.Values.{none_some, same_some}
 -- The session of a message ---------------------------------------------------------------------------------------------
 
 -- a session that was found as one of a tunnel is a call
-over_called : (peer : Peer) (tunnel : ℕ) (way : Way) → is_over_way peer tunnel way ≡ true → (c : Called) × (way ≡ Call c)
+over_called : (peer : Peer) (tunnel : ℕ) (way : Way) → is_over_way peer tunnel way ≡ true → (c : TunnelCall) × (way ≡ Call c)
 over_called peer tunnel (Port p m) e = absurd (false≢true e)
 over_called peer tunnel (Call c) e = (c, refl)
 
-pub found_called : (peer : Peer) (tunnel : ℕ) (o : Option Session) (x : Session) → where_over peer tunnel o ≡ Some x → (c : Called) × (x.way ≡ Call c)
+pub found_called : (peer : Peer) (tunnel : ℕ) (o : Option Session) (x : Session) → where_over peer tunnel o ≡ Some x → (c : TunnelCall) × (x.way ≡ Call c)
 found_called peer tunnel None x e = absurd (none_some x e)
 found_called peer tunnel (Some y) x e =
-    (elim (is_over_way peer tunnel y.way) as (λ (b : Bool). is_over_way peer tunnel y.way ≡ b → cond b (Some y) None ≡ Some x → (c : Called) × (x.way ≡ Call c)) [
-      | true ↦ λ over is. let same : y ≡ x = cc in subst (λ (z : Session). (c : Called) × (z.way ≡ Call c)) same (over_called peer tunnel y.way over)
+    (elim (is_over_way peer tunnel y.way) as (λ (b : Bool). is_over_way peer tunnel y.way ≡ b → cond b (Some y) None ≡ Some x → (c : TunnelCall) × (x.way ≡ Call c)) [
+      | true ↦ λ over is. let same : y ≡ x = cc in subst (λ (z : Session). (c : TunnelCall) × (z.way ≡ Call c)) same (over_called peer tunnel y.way over)
       | false ↦ λ over is. absurd (none_some x is)
     ]) refl e
 
-pub called_no_port : (way : Way) (c : Called) → way ≡ Call c → is_port way ≡ false
+pub called_no_port : (way : Way) (c : TunnelCall) → way ≡ Call c → is_port way ≡ false
 called_no_port way c e = ap is_port e
 
 some_session : (o : Option Session) → IsSome o → (x : Session) × (o ≡ Some x)
@@ -73,7 +73,7 @@ module _ (s : State) (from : Peer) (number n : ℕ) (x : Session) (value : Some 
   pub taken_found : (y : Session) → call_of s from number n ≡ Some y → x ≡ y
   taken_found y found = same_some x y (value ∙ call_number from number (value_at s.sessions n) y found)
 
-  pub taken_called : IsSome (call_of s from number n) → (k : Called) × (x.way ≡ Call k)
+  pub taken_called : IsSome (call_of s from number n) → (k : TunnelCall) × (x.way ≡ Call k)
   taken_called some =
       let (y, found) = some_session (call_of s from number n) some in
       let (k, way) = found_called from number (value_at s.sessions n) y found in
@@ -94,12 +94,12 @@ vacancy_number (Some m) n e = ap (λ (k : SessionNo). k.0) e
 -- What is done ---------------------------------------------------------------------------------------------------------
 
 -- a session is made of a call, with the terms
-pub makes_so : (o : Option ℕ) (unmade : Bool) (c c' : Called) (random : List ℕ) (s s₁ s' : State) (u : TunnelsState) (t : TermsView) → s₁ ≡ with_tunnels s u → c ≡ c' → MakesSession o unmade c random s₁ s'
+pub makes_so : (o : Option ℕ) (unmade : Bool) (c c' : TunnelCall) (random : List ℕ) (s s₁ s' : State) (u : TunnelsState) (t : TermsView) → s₁ ≡ with_tunnels s u → c ≡ c' → MakesSession o unmade c random s₁ s'
     → MakesSession o unmade c' random (with_tunnels (whole s t) u) (whole s' t)
 makes_so None unmade c c' random s s₁ s' u t is same h = ap (λ (q : State). whole q t) (h ∙ is)
 makes_so (Some n) true c c' random s s₁ s' u t is same h = ap (λ (q : State). whole q t) (h ∙ is)
 makes_so (Some n) false c c' random s s₁ s' u t is same (link, new, next) =
-    (link, new, ap (λ (q : State). whole q t) (next ∙ ap (λ (q : State). with_session q n (session_over n c link)) is) ∙ ap (λ (k : Called). with_session (with_tunnels (whole s t) u) n (session_over n k link)) same)
+    (link, new, ap (λ (q : State). whole q t) (next ∙ ap (λ (q : State). with_session q n (session_over n c link)) is) ∙ ap (λ (k : TunnelCall). with_session (with_tunnels (whole s t) u) n (session_over n k link)) same)
 
 module _ (r : Rules) (s : State) (a : At) (item : Item) (outs : List OutRecord) (here : a.shard ≡ s.sessions.shard) (now number : ℕ) (heard : Said) (m : ControlMessage) (tunnel : TunnelState) (stands : tunnel_at s.tunnels number ≡ Some tunnel) where
   abbrev entry : Entry
@@ -160,7 +160,7 @@ module _ (r : Rules) (s : State) (a : At) (item : Item) (outs : List OutRecord) 
       }
 
   -- a message was taken for the call of a session
-  pub takes_call : (x : Session) (c : Called) → x.way ≡ Call c → (told : Said) → told ≡ (call_step tunnel heard c.call m now).said → AllByRecursion IsSpelled told.outs → length told.outs ≤ 9
+  pub takes_call : (x : Session) (c : TunnelCall) → x.way ≡ Call c → (told : Said) → told ≡ (call_step tunnel heard c.call m now).said → AllByRecursion IsSpelled told.outs → length told.outs ≤ 9
       → (more outs₁ outs' : List OutRecord) → outs₁ ≡ outs ++ tunnel_outs a item.from told.outs → outs' ≡ outs₁ ++ more → length more ≤ 1
       → (s' : State) → TurnsCall told.opened told.ended m.session x c (call_after c.call m) r (stepped s entry number (call_step tunnel heard c.call m now)) entry more s'
       → DoesWith (λ e d. TakesForCall number heard m x r s e d) 10 s s' outs outs' a now item Consumed
@@ -236,7 +236,7 @@ module _ (r : Rules) (a : At) (now : ℕ) (random : List ℕ) (beside : Beside) 
   turned_sums false true h = closed_keeps t t' x.lease (Some lost_carrier) h.2
   turned_sums false false h = subst (λ (u : TermsView). KeepSums t u) (sym h.2) (keeps_same t)
 
-module _ (r : Rules) (a : At) (now : ℕ) (random : List ℕ) (s s' : State) (t t' : TermsView) (n : ℕ) (x : Session) (c : Called) (call : CallState) (x' : Session) (asked' : ℕ) (u' : TunnelsState) (outs outs' : List OutRecord)
+module _ (r : Rules) (a : At) (now : ℕ) (random : List ℕ) (s s' : State) (t t' : TermsView) (n : ℕ) (x : Session) (c : TunnelCall) (call : CallState) (x' : Session) (asked' : ℕ) (u' : TunnelsState) (outs outs' : List OutRecord)
     (next : s' ≡ record (with_session s n x') { asked = asked'; tunnels = u' }) where
   abbrev before : Beside
   before = beside_at now s.asked s.tunnels

@@ -14,8 +14,8 @@ use Rattle.bng_steps.specs.declared.changes.Meant.{Meant}
 use Rattle.bng_steps.specs.declared.rules.Rules.{Rules}
 use Rattle.bng_steps.specs.declared.session.Lease.{Lease}
 use Rattle.bng_steps.specs.declared.session.Session.{Session}
-use Rattle.bng_steps.specs.declared.terms.Asked.{Asked}
-use Rattle.bng_steps.specs.Changes.{Applies, Found, HearsChange, Obeys, asked, by_session, changed_by, found_by, found_with, is_asked_for, lease_for, lease_if, meant, place_of, recast_by, refusal_of, with_its_session}
+use Rattle.bng_steps.specs.declared.terms.NamedTerm.{NamedTerm}
+use Rattle.bng_steps.specs.Changes.{Applies, Found, HearsChange, Obeys, named_term, by_session, changed_by, found_by, found_with, is_named_by, lease_for, lease_if, meant, place_of, recast_by, refusal_of, with_its_session}
 use Rattle.bng_steps.specs.Deed.{Deed, handled, ignored}
 use Rattle.bng_steps.specs.Link.{admin_reset}
 use Rattle.bng_steps.specs.Protocol.{term_in}
@@ -29,7 +29,7 @@ use Rattle.bng_steps.proofs.Values.{none_some, same_some}
 
 -- the first live term that is asked for, with its session, which has not ended and has its lease
 pub record IsFound (r : Rules) (s : State) (fs : List Field) (f : Found) : Type 0 where
-  pub among : find (is_asked_for r fs) s.terms ≡ Some f.term
+  pub among : find (is_named_by r fs) s.terms ≡ Some f.term
   pub at : value_at s.sessions f.term.term.session.0 ≡ Some f.session
   pub stays : leaves f.session ≡ false
   pub leased : f.session.lease ≡ Some f.lease
@@ -68,7 +68,7 @@ session_is t (Some x) f e =
     let leased = lease_is t.term.serial x.lease l both.1 in
     subst (IsBy t (Some x)) same (record { term = refl; session = refl; stays = both.0; leased = leased.0; serial = leased.1 })
 
-its_session : (r : Rules) (s : State) (fs : List Field) (o : Option Tenure) (f : Found) → find (is_asked_for r fs) s.terms ≡ o → with_its_session s o ≡ Some f → IsFound r s fs f
+its_session : (r : Rules) (s : State) (fs : List Field) (o : Option Tenure) (f : Found) → find (is_named_by r fs) s.terms ≡ o → with_its_session s o ≡ Some f → IsFound r s fs f
 its_session r s fs None f is e = absurd (none_some f e)
 its_session r s fs (Some t) f is e =
     let by = session_is t (value_at s.sessions t.term.session.0) f e in
@@ -81,35 +81,35 @@ its_session r s fs (Some t) f is e =
     }
 
 pub found_is : (r : Rules) (s : State) (fs : List Field) (f : Found) → found_by r s fs ≡ Some f → IsFound r s fs f
-found_is r s fs f e = its_session r s fs (find (is_asked_for r fs) s.terms) f refl e
+found_is r s fs f e = its_session r s fs (find (is_named_by r fs) s.terms) f refl e
 
 -- what a step keeps of it: of the term that a look at the terms found, and the lease of its session
-abbrev meant_with : Asked → Lease → Meant
+abbrev meant_with : NamedTerm → Lease → Meant
 meant_with k l = record { term = k.term; profile = k.profile; lease = l }
 
-abbrev meant_by : Asked → Option Session → Option Meant
+abbrev meant_by : NamedTerm → Option Session → Option Meant
 meant_by k None = None
 meant_by k (Some x) = option_map (meant_with k) (lease_for k.term.serial x)
 
-same_meant : (t : Tenure) (x : Session) (o : Option Lease) → option_map meant (option_map (found_with t x) o) ≡ option_map (meant_with (asked t)) o
+same_meant : (t : Tenure) (x : Session) (o : Option Lease) → option_map meant (option_map (found_with t x) o) ≡ option_map (meant_with (named_term t)) o
 same_meant t x None = refl
 same_meant t x (Some l) = refl
 
-meant_there : (t : Tenure) (o : Option Session) → option_map meant (by_session t o) ≡ meant_by (asked t) o
+meant_there : (t : Tenure) (o : Option Session) → option_map meant (by_session t o) ≡ meant_by (named_term t) o
 meant_there t None = refl
 meant_there t (Some x) = same_meant t x (lease_for t.term.serial x)
 
-pub none_meant : (s : State) (o : Option Tenure) → None ≡ option_map asked o → None ≡ option_map meant (with_its_session s o)
+pub none_meant : (s : State) (o : Option Tenure) → None ≡ option_map named_term o → None ≡ option_map meant (with_its_session s o)
 none_meant s None e = refl
-none_meant s (Some t) e = absurd (none_some (asked t) e)
+none_meant s (Some t) e = absurd (none_some (named_term t) e)
 
-meant_is : (s : State) (o : Option Tenure) (k : Asked) → Some k ≡ option_map asked o → option_map meant (with_its_session s o) ≡ meant_by k (value_at s.sessions k.term.session.0)
+meant_is : (s : State) (o : Option Tenure) (k : NamedTerm) → Some k ≡ option_map named_term o → option_map meant (with_its_session s o) ≡ meant_by k (value_at s.sessions k.term.session.0)
 meant_is s None k e = absurd (none_some k (sym e))
 meant_is s (Some t) k e =
-    subst (λ (j : Asked). option_map meant (by_session t (value_at s.sessions t.term.session.0)) ≡ meant_by j (value_at s.sessions j.term.session.0)) (sym (same_some k (asked t) e))
+    subst (λ (j : NamedTerm). option_map meant (by_session t (value_at s.sessions t.term.session.0)) ≡ meant_by j (value_at s.sessions j.term.session.0)) (sym (same_some k (named_term t) e))
     (meant_there t (value_at s.sessions t.term.session.0))
 
-module _ (s : State) (o : Option Tenure) (k : Asked) (among : Some k ≡ option_map asked o) where
+module _ (s : State) (o : Option Tenure) (k : NamedTerm) (among : Some k ≡ option_map named_term o) where
   pub no_session_meant : None ≡ value_at s.sessions k.term.session.0 → None ≡ option_map meant (with_its_session s o)
   no_session_meant none = sym (meant_is s o k among ∙ ap (meant_by k) (sym none))
 
@@ -175,4 +175,4 @@ wanted_below n old (Some k) wants low = wants k refl
 pub place_there : (r : Rules) (s : State) (p : Packet) (f : Found) → found_by r s p.attributes ≡ Some f → HaveProfiles (length r.profiles) (map term_in s.terms) → place_of f.term.profile (wanted r.profiles p) < length r.profiles
 place_there r s p f is have =
     wanted_below (length r.profiles) f.term.profile (wanted r.profiles p).profile (λ k e. place_below r.profiles _ k e)
-    (found_below (length r.profiles) (is_asked_for r p.attributes) s.terms f.term have (found_is r s p.attributes f is).among)
+    (found_below (length r.profiles) (is_named_by r p.attributes) s.terms f.term have (found_is r s p.attributes f is).among)

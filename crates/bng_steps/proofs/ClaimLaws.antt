@@ -20,30 +20,30 @@ use Rattle.bng_discovery.specs.declared.answers.Answer.{Answer}
 use Rattle.bng_discovery.specs.declared.answers.Answer.TheVariants.{Offer, Make, Again, Refuse, Ended, NoSession, Ignore}
 use Rattle.bng_discovery.specs.declared.port.PortRules.{PortRules}
 use Rattle.bng_forward.specs.Fates.{IsFrame}
-use Rattle.bng_ppp.specs.declared.whole_input.WholeInput.TheVariants.{Start, Timer, Close}
+use Rattle.bng_ppp.specs.declared.input.Input.TheVariants.{Start, Timer, Close}
 use Rattle.bng_ppp.specs.Claims.{Claim}
 use Rattle.bng_ppp.specs.Phases.{is_begun}
-use Rattle.bng_ppp.specs.PppRelation.{PppSaid}
+use Rattle.bng_ppp.specs.LinkRelation.{LinkSaid}
 use Rattle.bng_ppp.proofs.Claimed.{octets_say}
-use Rattle.bng_ppp.proofs.WholeQuestions.{only_frames_ask}
+use Rattle.bng_ppp.proofs.LinkQuestions.{only_frames_ask}
 use Rattle.bng_sessions.specs.Sessions.{value_at}
 use Rattle.bng_sessions.proofs.SessionLaws.{value_at-with_value}
 use Rattle.bng_steps.specs.Claiming.{IsAskedBy, CarriesOn}
 use Rattle.bng_l2tp_call.specs.CallState.{CallState}
 use Rattle.bng_lns.specs.Places.{same_peer}
 use Rattle.bng_lns.specs.Timed.{Telling, reminded}
-use Rattle.bng_steps.specs.declared.way.Called.{Called}
+use Rattle.bng_steps.specs.declared.way.TunnelCall.{TunnelCall}
 use Rattle.bng_steps.specs.declared.way.Way.{Way}
 use Rattle.bng_steps.specs.declared.way.Way.TheVariants.{Port, Call}
 use Rattle.bng_steps.specs.Calls.{called_session, linked_anew, turned}
 use Rattle.bng_steps.specs.Cutting.{cut_at, cut_if, cut_of, cut_off, cut_told, is_cut, numbers_most}
 use Rattle.bng_steps.specs.L2tp.{tunnels_most}
-use Rattle.bng_steps.specs.Made.{Made, Question}
+use Rattle.bng_steps.specs.LinkService.{LinkService, Question}
 use Rattle.bng_steps.specs.declared.rules.Rules.{Rules}
 use Rattle.bng_base.specs.declared.item.At.{At}
 use Rattle.bng_steps.specs.declared.session.Lease.{Lease}
 use Rattle.bng_steps.specs.declared.session.Service.{Service}
-use Rattle.bng_steps.specs.declared.session.Service.TheVariants.{Provisioned, Discovered}
+use Rattle.bng_steps.specs.declared.session.Service.TheVariants.{Provisioned, Linked}
 use Rattle.bng_steps.specs.declared.session.Session.{Session}
 use Rattle.bng_steps.specs.State.{Beside, State, is_on, session_of, where_on, with_session, with_driven, with_ended, with_tunnels, call_of, circuit_in, is_on_way, is_call_of, is_over_way, where_over}
 use Rattle.bng_steps.specs.Changes.{lease_after, place_of}
@@ -92,7 +92,7 @@ same_peer_is a b e =
 
 -- a way over a call of this peer's tunnel
 record OverCall (peer : Peer) (tunnel : ℕ) (way : Way) : Type 0 where
-  called : Called
+  called : TunnelCall
   is : way ≡ Call called
   from : called.peer ≡ peer
   number : called.tunnel.0 ≡ tunnel
@@ -151,14 +151,14 @@ with_keeps s n y own m a is = elim (last_with s n y m a is) [
 
 same_last : (v : Service) → last_in v ≡ last_in (ended_service v)
 same_last (Provisioned l) = refl
-same_last (Discovered m) = refl
+same_last (Linked m) = refl
 
 question_of : Service → Option Question
 question_of (Provisioned l) = None
-question_of (Discovered m) = m.question
+question_of (Linked m) = m.question
 
 -- a session whose call goes on keeps its question
-turned_last : (s : State) (n : ℕ) (x : Session) (c : Called) (call : CallState) → value_at s.sessions n ≡ Some x → x.way ≡ Call c → (q : Question) → last_in x.service ≡ Some q → last_asking_at s n ≡ Some (asking_of (turned x c call) q)
+turned_last : (s : State) (n : ℕ) (x : Session) (c : TunnelCall) (call : CallState) → value_at s.sessions n ≡ Some x → x.way ≡ Call c → (q : Question) → last_in x.service ≡ Some q → last_asking_at s n ≡ Some (asking_of (turned x c call) q)
 turned_last s n x c call at way q is =
     ap (option_and_then last_asking) at ∙ ap (option_map (asking_of x)) is ∙ ap (λ (b : Asking). Some b) (sym (asks_same x (turned x c call) q refl (call_stays x c call way)))
 
@@ -209,7 +209,7 @@ module _ (r : Rules) (e : Entry) where
   -- the live term of a session ends, and its link takes Close, if it has one
   loses_keep : (v : Service) (cause : ℕ) (s : State) (n : ℕ) (x : Session) (outs : List OutRecord) (s' : State) → value_at s.sessions n ≡ Some x → LosesTerm v cause r e s n x outs s' → Keeps s s'
   loses_keep (Provisioned over) cause s n x outs s' at (none, next) = subst (Keeps s) (sym next) (leased_keeps s n x None at)
-  loses_keep (Discovered m) cause s n x outs s' at (y, none, beside', drives, next) =
+  loses_keep (Linked m) cause s n x outs s' at (y, none, beside', drives, next) =
       let silent = only_frames_ask r.link e.moment e.item.random Close drives.made.link drives.says drives.link drives.steps refl in
       subst (Keeps s) (sym next) (with_keeps s n y (λ q is.
       last_there s n x at drives.made drives.is_made q (silent_last r (at_of s e) (beside_of s e) (lapsed x) (told r e Close) outs none y beside' drives silent q is)
@@ -223,7 +223,7 @@ module _ (r : Rules) (e : Entry) where
 
   times_keep : (v : Service) (s : State) (n : ℕ) (x : Session) (outs : List OutRecord) (s' : State) → value_at s.sessions n ≡ Some x → TimesIn v r e s n x outs s' → Keeps s s'
   times_keep (Provisioned over) s n x outs s' at h = looks_keep (cause_at (passed_at s.passed x.number) x.lease e.moment) s n x outs s' at h
-  times_keep (Discovered m) s n x outs s' at h =
+  times_keep (Linked m) s n x outs s' at h =
       let next = with_driven s n x.lease h.cause h.after h.beside in
       chain_keeps s next s'
       (with_keeps s n h.after (silent_keeps r s n (at_of s e) (beside_of s e) x (told r e Timer) h.first h.cause h.after h.beside at h.drives
@@ -269,7 +269,7 @@ module _ (r : Rules) (s : State) (limited : Bool) (d : Deed) where
     where
       question_in : Service → Option Question
       question_in (Provisioned l) = None
-      question_in (Discovered m) = m.question
+      question_in (Linked m) = m.question
 
   answers : (answer : Answer) (number : ℕ) (port : AccessPort) (offers : PortRules) (p : PppoeFrame) (tags : List PppoeTag) → Answers answer r s d.entry number port offers p tags d → Heard
   answers Offer number port offers p tags h = still _ h refl
@@ -322,7 +322,7 @@ module _ (r : Rules) (s : State) (limited : Bool) (d : Deed) where
         let own : x.number.0 ≡ m = sound.own m x at in
         let asking : a ≡ asking_of x (record { ask = next_ask s.asked; claim = c }) =
         sym here ∙ same_asking r (at_of s d.entry) (beside_of s d.entry) x (hears r d.entry octets) outs cause x' beside' h q ∙ ap (asking_of x) is in
-        let asked : h.steps.turn.asked ≡ Some c = sym (ap (λ (w : PppSaid). w.asked) h.steps.said) ∙ asks in
+        let asked : h.steps.turn.asked ≡ Some c = sym (ap (λ (w : LinkSaid). w.asked) h.steps.said) ∙ asks in
         record {
           x = x;
           found = at;
@@ -339,13 +339,13 @@ module _ (r : Rules) (s : State) (limited : Bool) (d : Deed) where
           };
         }
 
-    ppp : (made : Made) → x.service ≡ Discovered made → HearsPpp r s d.entry m x made octets d → Heard
+    ppp : (made : LinkService) → x.service ≡ Linked made → HearsPpp r s d.entry m x made octets d → Heard
     ppp made is_made (inl (gone, h)) n a e = still _ h refl n a e
     ppp made is_made (inr (live, outs, cause, x', beside', drives, h)) n a e =
         elim (last_with s m x' n a (after _ h n a e)) [
           | inl here ↦ elim (drives_last r (at_of s d.entry) (beside_of s d.entry) x (hears r d.entry octets) outs cause x' beside' drives here.1 here.2) [
             | inl new ↦
-                let lives : drives.made.ended ≡ false = ap (λ (k : Made). k.ended) (same_made x.service drives.made made drives.is_made is_made) ∙ live in
+                let lives : drives.made.ended ≡ false = ap (λ (k : LinkService). k.ended) (same_made x.service drives.made made drives.is_made is_made) ∙ live in
                 inr (subst (λ (i : ℕ). IsAskedBy r s d i a) (sym here.0) (asked_by outs cause x' beside' drives lives (ap (λ (g : Deed). g.next.asked) h) here.1 new.0 new.1 new.2 a here.3))
             | inr before ↦
                 inl (ap (λ (i : ℕ). last_asking_at s i) here.0 ∙ last_there s m x at drives.made drives.is_made here.1 before
@@ -363,9 +363,9 @@ module _ (r : Rules) (s : State) (limited : Bool) (d : Deed) where
 
     control : (v : Service) (x : Session) → session_of s number p.src p.session ≡ Some x → x.service ≡ v → HearsControl v r s d.entry x p d → Heard
     control (Provisioned l) x at is h = still _ h refl
-    control (Discovered made) x at is (inl (padt, inl (gone, h))) = still _ h refl
-    control (Discovered made) x at is (inl (padt, inr (live, h))) = keeping _ h (over_keeps s p.session x (at_number number p.src (value_at s.sessions p.session) x at))
-    control (Discovered made) x at is (inr (data_frame, h)) = ppp sound p.session p.payload x (at_number number p.src (value_at s.sessions p.session) x at) (carries_at x data_frame at) made is h
+    control (Linked made) x at is (inl (padt, inl (gone, h))) = still _ h refl
+    control (Linked made) x at is (inl (padt, inr (live, h))) = keeping _ h (over_keeps s p.session x (at_number number p.src (value_at s.sessions p.session) x at))
+    control (Linked made) x at is (inr (data_frame, h)) = ppp sound p.session p.payload x (at_number number p.src (value_at s.sessions p.session) x at) (carries_at x data_frame at) made is h
 
     named : (found : Option Session) → session_of s number p.src p.session ≡ found → HearsIn found r s d.entry p d → Heard
     named None is h = still _ h refl

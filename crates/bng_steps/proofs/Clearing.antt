@@ -24,7 +24,7 @@ use Rattle.bng_sessions.proofs.SessionLaws.{value_at-with_value, value_at-with_o
 use Rattle.bng_steps.specs.declared.rules.Rules.{Rules}
 use Rattle.bng_steps.specs.declared.session.Lease.{Lease}
 use Rattle.bng_steps.specs.declared.session.Service.{Service}
-use Rattle.bng_steps.specs.declared.session.Service.TheVariants.{Provisioned, Discovered}
+use Rattle.bng_steps.specs.declared.session.Service.TheVariants.{Provisioned, Linked}
 use Rattle.bng_steps.specs.declared.session.Session.{Session}
 use Rattle.bng_steps.specs.Cutting.{Clears, cut_at, cut_if, cut_of, cut_off, cut_told, is_cut, is_lost, lost, loses_term, numbers_most}
 use Rattle.bng_steps.specs.Datagrams.{HearsAnswer, HearsMessage, HearsTunnel, TakesStep, heard_by}
@@ -63,7 +63,7 @@ among_shard shard m is = among_range (shard * 1024 + 1) numbers_most m is.0 (bel
 
 dead : (v : Service) → lives_in (ended_service v) ≡ false
 dead (Provisioned over) = refl
-dead (Discovered m) = refl
+dead (Linked m) = refl
 
 module _ (tunnel : ℕ) where
   -- what stands at a number once its session has ended, where that is a call that lived

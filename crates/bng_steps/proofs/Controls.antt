@@ -9,22 +9,22 @@ use Rattle.bng_base.specs.declared.item.Entry.{Entry}
 use Rattle.bng_base.specs.declared.item.Item.{Item}
 use Rattle.bng_base.specs.declared.item.OutRecord.{OutRecord}
 use Rattle.bng_base.specs.PppoeGrammar.{PppoeFrame}
-use Rattle.bng_ppp.specs.PppRelation.{PppSaid}
-use Rattle.bng_ppp.specs.PppState.{PppState}
+use Rattle.bng_ppp.specs.LinkRelation.{LinkSaid}
+use Rattle.bng_ppp.specs.LinkState.{LinkState}
 use Rattle.bng_sessions.specs.Sessions.{value_at}
 use Rattle.bng_l2tp_wire.specs.Messages.{DataMessage}
 use Rattle.bng_base.specs.declared.address.Peer.{Peer}
 use Rattle.std.proofs.lemmas.Bool.{and_parts}
 use Rattle.bng_steps.proofs.Naming.{call_number}
 use Rattle.bng_steps.specs.Datagrams.{HearsFor, HearsOver}
-use Rattle.bng_steps.specs.declared.frames.Control.TheVariants.{Unknown, Ignored, Heard}
+use Rattle.bng_steps.specs.declared.frames.Reception.TheVariants.{Unknown, Ignored, Heard}
 use Rattle.bng_steps.specs.declared.rules.Rules.{Rules}
 use Rattle.bng_base.specs.declared.item.At.{At}
 use Rattle.bng_steps.specs.declared.session.Service.{Service}
-use Rattle.bng_steps.specs.declared.session.Service.TheVariants.{Provisioned, Discovered}
+use Rattle.bng_steps.specs.declared.session.Service.TheVariants.{Provisioned, Linked}
 use Rattle.bng_steps.specs.declared.session.Session.{Session}
 use Rattle.bng_steps.specs.State.{Beside, State, is_on, session_of, where_on, with_driven, with_ended, beside_at, lives_in, call_of, is_connected}
-use Rattle.bng_steps.specs.Controlling.{IsControl, IsControlOver}
+use Rattle.bng_steps.specs.Controlling.{IsReception, IsControlOver}
 use Rattle.bng_steps.specs.Deed.{at_of, beside_of, dropped, handled, ignored}
 use Rattle.bng_steps.specs.Doing.{DoesWith}
 use Rattle.bng_steps.specs.Driven.{Driven}
@@ -44,15 +44,15 @@ where_some port mac (Some y) x e =
 pub stands_at : (s : State) (port : ℕ) (mac : Mac) (n : ℕ) (x : Session) → session_of s port mac n ≡ Some x → value_at s.sessions n ≡ Some x
 stands_at s port mac n x e = where_some port mac (value_at s.sessions n) x e
 
-unknown_is : (o : Option Session) → IsControl o Unknown → o ≡ None
+unknown_is : (o : Option Session) → IsReception o Unknown → o ≡ None
 unknown_is None h = refl
 unknown_is (Some x) h = absurd h
 
-ignored_is : (o : Option Session) → IsControl o Ignored → (x : Session) × (o ≡ Some x) × (lives_in x.service ≡ false)
+ignored_is : (o : Option Session) → IsReception o Ignored → (x : Session) × (o ≡ Some x) × (lives_in x.service ≡ false)
 ignored_is None h = absurd (let never : ⊥ = cc in never)
 ignored_is (Some x) h = (x, refl, h)
 
-pub heard_is : (o : Option Session) → IsControl o Heard → (x : Session) × (o ≡ Some x) × (lives_in x.service ≡ true)
+pub heard_is : (o : Option Session) → IsReception o Heard → (x : Session) × (o ≡ Some x) × (lives_in x.service ≡ true)
 heard_is None h = absurd (let never : ⊥ = cc in never)
 heard_is (Some x) h = (x, refl, h)
 
@@ -68,7 +68,7 @@ module _ (r : Rules) (s : State) (a : At) (item : Item) (outs : List OutRecord) 
   abbrev its : Option Session
   its = session_of s number p.src p.session
 
-  pub no_session : IsControl its Unknown → (now : ℕ) → DoesWith (λ e d. HearsIn its r s e p d) 5 s s outs outs a now item (Dropped NoSession)
+  pub no_session : IsReception its Unknown → (now : ℕ) → DoesWith (λ e d. HearsIn its r s e p d) 5 s s outs outs a now item (Dropped NoSession)
   no_session h =
       nothing_done r s a item outs here (λ e d. HearsIn its r s e p d) 5 (Dropped NoSession)
       (λ moment. let e = entry_of a.seat a.place moment item in subst (λ (o : Option Session). HearsIn o r s e p (dropped s e NoSession)) (sym (unknown_is its h)) refl)
@@ -76,14 +76,14 @@ module _ (r : Rules) (s : State) (a : At) (item : Item) (outs : List OutRecord) 
   -- a session that has ended does nothing
   idle : (e : Entry) (x : Session) (v : Service) → lives_in v ≡ false → HearsControl v r s e x p (ignored s e)
   idle e x (Provisioned l) h = refl
-  idle e x (Discovered m) h =
+  idle e x (Linked m) h =
       let done : m.ended ≡ true = over m.ended h in
-      (elim (p.discovery) as (λ b. p.discovery ≡ b → HearsControl (Discovered m) r s e x p (ignored s e)) [
+      (elim (p.discovery) as (λ b. p.discovery ≡ b → HearsControl (Linked m) r s e x p (ignored s e)) [
         | true ↦ (λ d. inl (d, inl (done, refl)))
         | false ↦ (λ d. inr (d, inl (done, refl)))
       ]) refl
 
-  pub stays_idle : IsControl its Ignored → (now : ℕ) → DoesWith (λ e d. HearsIn its r s e p d) 5 s s outs outs a now item Consumed
+  pub stays_idle : IsReception its Ignored → (now : ℕ) → DoesWith (λ e d. HearsIn its r s e p d) 5 s s outs outs a now item Consumed
   stays_idle h =
       let is = ignored_is its h in
       nothing_done r s a item outs here (λ e d. HearsIn its r s e p d) 5 Consumed
@@ -92,10 +92,10 @@ module _ (r : Rules) (s : State) (a : At) (item : Item) (outs : List OutRecord) 
 
   ends_so : (e : Entry) (x : Session) (v : Service) → lives_in v ≡ true → p.discovery ≡ true → HearsControl v r s e x p (handled s e [] (with_ended s p.session x.lease user_request (ended x)))
   ends_so e x (Provisioned l) h d = absurd (let never : ⊥ = cc in never)
-  ends_so e x (Discovered m) h d = inl (d, inr (going m.ended h, refl))
+  ends_so e x (Linked m) h d = inl (d, inr (going m.ended h, refl))
 
   -- a PADT ends one that lives
-  pub ends_it : IsControl its Heard → p.discovery ≡ true → (s' : State) → ((x : Session) → value_at s.sessions p.session ≡ Some x → s' ≡ with_ended s p.session x.lease user_request (ended x))
+  pub ends_it : IsReception its Heard → p.discovery ≡ true → (s' : State) → ((x : Session) → value_at s.sessions p.session ≡ Some x → s' ≡ with_ended s p.session x.lease user_request (ended x))
       → (now : ℕ) → DoesWith (λ e d. HearsIn its r s e p d) 5 s s' outs outs a now item Consumed
   ends_it h d s' next now =
       let is = heard_is its h in
@@ -113,11 +113,11 @@ module _ (r : Rules) (s : State) (a : At) (item : Item) (outs : List OutRecord) 
   hears_so : (e : Entry) (x x' : Session) (cause : Option ℕ) (beside' : Beside) (v : Service) (sent : List OutRecord) → x.service ≡ v → lives_in v ≡ true → p.discovery ≡ false → Drives r (at_of s e) (beside_of s e) x (hears r e p.payload) sent cause x' beside'
       → HearsControl v r s e x p (handled s e sent (with_driven s p.session x.lease cause x' beside'))
   hears_so e x x' cause beside' (Provisioned l) sent is h d step = absurd (let never : ⊥ = cc in never)
-  hears_so e x x' cause beside' (Discovered m) sent is h d step = inr (d, inr (going m.ended h, sent, cause, x', beside', step, refl))
+  hears_so e x x' cause beside' (Linked m) sent is h d step = inr (d, inr (going m.ended h, sent, cause, x', beside', step, refl))
 
   -- the link of one that lives hears another frame
-  pub hears_it : (Steps : LinkStep) (now : ℕ) → ((old : PppState) (says : PppSaid) (new : PppState) → Steps old says new → HearsPppFrame r.link p.payload now item.random old says new)
-      → IsControl its Heard → p.discovery ≡ false → (s' : State) (outs' : List OutRecord)
+  pub hears_it : (Steps : LinkStep) (now : ℕ) → ((old : LinkState) (says : LinkSaid) (new : LinkState) → Steps old says new → HearsPppFrame r.link p.payload now item.random old says new)
+      → IsReception its Heard → p.discovery ≡ false → (s' : State) (outs' : List OutRecord)
       → ((x : Session) → value_at s.sessions p.session ≡ Some x → (x' : Session) × (cause : Option ℕ) × (beside' : Beside) × Driven r a Steps (beside_at now s.asked s.tunnels) x cause x' beside' outs outs' × (s' ≡ with_driven s p.session x.lease cause x' beside'))
       → length outs' ≤ length outs + 5 → DoesWith (λ e d. HearsIn its r s e p d) 5 s s' outs outs' a now item Consumed
   hears_it Steps now turn h d s' outs' driven few =
@@ -172,8 +172,8 @@ module _ (r : Rules) (s : State) (a : At) (item : Item) (outs : List OutRecord) 
   -- one that has ended, or is not established, does nothing
   call_idle : (e : Entry) (x : Session) (v : Service) (b : Bool) → is_connected x.way ≡ b → (lives_in v && b) ≡ false → HearsOver v r s e x p (ignored s e)
   call_idle e x (Provisioned over) b is h = refl
-  call_idle e x (Discovered m) true is h = inl (is, inl (over m.ended (alone (not m.ended) h), refl))
-  call_idle e x (Discovered m) false is h = inr (is, refl)
+  call_idle e x (Linked m) true is h = inl (is, inl (over m.ended (alone (not m.ended) h), refl))
+  call_idle e x (Linked m) false is h = inr (is, refl)
 
   pub call_stays_idle : IsControlOver its_call Ignored → (now : ℕ) → DoesWith (λ e d. HearsFor its_call r s e p d) 5 s s outs outs a now item Consumed
   call_stays_idle h =
@@ -185,10 +185,10 @@ module _ (r : Rules) (s : State) (a : At) (item : Item) (outs : List OutRecord) 
   call_hears : (e : Entry) (x x' : Session) (cause : Option ℕ) (beside' : Beside) (v : Service) (sent : List OutRecord) → lives_in v ≡ true → is_connected x.way ≡ true
       → Drives r (at_of s e) (beside_of s e) x (hears r e p.ppp) sent cause x' beside' → HearsOver v r s e x p (handled s e sent (with_driven s p.session x.lease cause x' beside'))
   call_hears e x x' cause beside' (Provisioned over) sent lives up step = absurd (let never : ⊥ = cc in never)
-  call_hears e x x' cause beside' (Discovered m) sent lives up step = inl (up, inr (going m.ended lives, sent, cause, x', beside', step, refl))
+  call_hears e x x' cause beside' (Linked m) sent lives up step = inl (up, inr (going m.ended lives, sent, cause, x', beside', step, refl))
 
   -- the link of one that lives and is established hears the frame
-  pub call_hears_it : (Steps : LinkStep) (now : ℕ) → ((old : PppState) (says : PppSaid) (new : PppState) → Steps old says new → HearsPppFrame r.link p.ppp now item.random old says new)
+  pub call_hears_it : (Steps : LinkStep) (now : ℕ) → ((old : LinkState) (says : LinkSaid) (new : LinkState) → Steps old says new → HearsPppFrame r.link p.ppp now item.random old says new)
       → IsControlOver its_call Heard → (s' : State) (outs' : List OutRecord)
       → ((x : Session) → value_at s.sessions p.session ≡ Some x → (x' : Session) × (cause : Option ℕ) × (beside' : Beside) × Driven r a Steps (beside_at now s.asked s.tunnels) x cause x' beside' outs outs' × (s' ≡ with_driven s p.session x.lease cause x' beside'))
       → length outs' ≤ length outs + 5 → DoesWith (λ e d. HearsFor its_call r s e p d) 5 s s' outs outs' a now item Consumed

@@ -14,8 +14,8 @@ use Rattle.bng_discovery.specs.declared.port.PortRules.{PortRules}
 use Rattle.bng_discovery.specs.Reply.{pads_of}
 use Rattle.bng_pppoe_wire.proofs.TagLaws.{one_tags}
 use Rattle.bng_pppoe_wire.specs.declared.code.TheConstants.{PADR}
-use Rattle.bng_ppp.specs.declared.whole_input.WholeInput.TheVariants.{Start}
-use Rattle.bng_ppp.specs.PppRelation.{PppSteps}
+use Rattle.bng_ppp.specs.declared.input.Input.TheVariants.{Start}
+use Rattle.bng_ppp.specs.LinkRelation.{LinkSteps}
 use Rattle.bng_steps.specs.declared.rules.Rules.{Rules}
 use Rattle.bng_base.specs.declared.item.At.{At}
 use Rattle.bng_steps.specs.declared.session.Session.{Session}
@@ -120,11 +120,11 @@ module _ (r : Rules) (s : State) (a : At) (now : ℕ) (item : Item) (number : �
   -- a session was made, and its PADS stands before what its link says
   pub session_made : (session : ℕ) (new x : Session) (cause : Option ℕ) (beside' : Beside) (first all : List OutRecord) (s' : State) → IsAnswer s number offers p tags (Some session) answer.Make
       → IsNewSession session number p.src (host_uniq_of tags) item.random new → first ≡ outs ++ frame_at a (pads_of offers p.src session tags) → length first ≤ length outs + 1
-      → Driven r a (PppSteps r.link Start now item.random) (beside_at now s.asked s.tunnels) new cause x beside' first all → length all ≤ length first + 5 → s' ≡ with_driven s session None cause x beside' → DoesThis s' all
+      → Driven r a (LinkSteps r.link Start now item.random) (beside_at now s.asked s.tunnels) new cause x beside' first all → length all ≤ length first + 5 → s' ≡ with_driven s session None cause x beside' → DoesThis s' all
   session_made session new x cause beside' first all s' row is sent short d few_more next =
       let f = pads_of offers p.src session tags in
       let starts : Drives r (at_of s entry) (beside_of s entry) (new_session session number p.src (host_uniq_of tags) is.0) (told r entry Start) d.more cause x beside' =
-      subst (λ (y : Session). Drives r (at_of s entry) (beside_of s entry) y (told r entry Start) d.more cause x beside') is.2 (drives r s a now item first all new x (PppSteps r.link Start now item.random) (beside_of s entry) cause beside' here d) in
+      subst (λ (y : Session). Drives r (at_of s entry) (beside_of s entry) y (told r entry Start) d.more cause x beside') is.2 (drives r s a now item first all new x (LinkSteps r.link Start now item.random) (beside_of s entry) cause beside' here d) in
       let outs_are : all ≡ outs ++ (frame_at (at_of s entry) f ++ d.more) =
       d.outs_are ∙ ap (λ (o : List OutRecord). o ++ d.more) (sent_there f first sent) ∙ append_assoc outs (frame_at (at_of s entry) f) d.more in
       let deed = handled s entry (frame_at (at_of s entry) f ++ d.more) (with_driven s session None cause x beside') in

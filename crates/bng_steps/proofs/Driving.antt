@@ -6,13 +6,13 @@ use Rattle.bng_base.specs.declared.address.SessionNo.{SessionNo}
 use Rattle.bng_base.specs.declared.item.OutRecord.{OutRecord}
 use Rattle.bng_base.specs.declared.settings.AccessPort.{AccessPort}
 use Rattle.bng_discovery.specs.declared.port.PortRules.{PortRules}
-use Rattle.bng_ppp.specs.PppRelation.{PppSaid}
-use Rattle.bng_ppp.specs.PppState.{PppState}
+use Rattle.bng_ppp.specs.LinkRelation.{LinkSaid}
+use Rattle.bng_ppp.specs.LinkState.{LinkState}
 use Rattle.bng_lns.specs.Tunnels.{TunnelsState}
-use Rattle.bng_steps.specs.Made.{Made}
+use Rattle.bng_steps.specs.LinkService.{LinkService}
 use Rattle.bng_steps.specs.declared.rules.Rules.{Rules}
 use Rattle.bng_base.specs.declared.item.At.{At}
-use Rattle.bng_steps.specs.declared.session.Service.TheVariants.{Discovered}
+use Rattle.bng_steps.specs.declared.session.Service.TheVariants.{Linked}
 use Rattle.bng_steps.specs.declared.session.Session.{Session}
 use Rattle.bng_steps.specs.State.{port_at, offers_at, Beside, beside_at}
 use Rattle.bng_steps.specs.Link.{LinkStep, asked_after, with_link, IsParted, PartsOn, SaysOn, after_link, parted_way, way_after}
@@ -36,7 +36,7 @@ beside false ports offers i port same is = there offers i (omega (arith, slice_g
 pub offered : (r : Rules) (n : ℕ) (port : AccessPort) → length r.offers ≡ length r.access → port_at r.access n ≡ Some port → (o : PortRules) × (offers_at r.offers n ≡ Some o)
 offered r n port same is = beside (n == 0) r.access r.offers (n - 1) port same is
 
-module _ (r : Rules) (a : At) (Steps : LinkStep) (beside : Beside) (x : Session) (made : Made) (is_made : x.service ≡ Discovered made) (says : PppSaid) (l : PppState) (steps : Steps made.link says l)
+module _ (r : Rules) (a : At) (Steps : LinkStep) (beside : Beside) (x : Session) (made : LinkService) (is_made : x.service ≡ Linked made) (says : LinkSaid) (l : LinkState) (steps : Steps made.link says l)
     (outs sent first : List OutRecord) (tells : SaysOn x.way r a x.number says.outs first) (sent_are : sent ≡ outs ++ first) where
   -- the session once it has ended on its way, and where it has not
   pub finished_link : says.finished ≡ true → (let y : Session = record (with_link x made beside.asked says l) { way = parted_way x.way } in y) ≡ after_link x made beside.asked says l

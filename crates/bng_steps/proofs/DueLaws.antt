@@ -4,7 +4,7 @@ use Rattle.std.specs.Option.{option_and_then}
 use Rattle.bng_sessions.specs.Sessions.{value_at}
 use Rattle.bng_steps.specs.declared.session.Lease.{Lease}
 use Rattle.bng_steps.specs.declared.session.Service.{Service}
-use Rattle.bng_steps.specs.declared.session.Service.TheVariants.{Provisioned, Discovered}
+use Rattle.bng_steps.specs.declared.session.Service.TheVariants.{Provisioned, Linked}
 use Rattle.bng_steps.specs.declared.session.Session.{Session}
 use Rattle.bng_steps.specs.State.{State, leaves_in}
 use Rattle.bng_steps.specs.Timers.{deadline_in, deadline_of, deadline_unless, due_at, does_stay, stays_at}
@@ -20,7 +20,7 @@ not_over false o d e = refl
 
 due_stays_in : (v : Service) (lease : Option Lease) (d : ℕ) → deadline_in v lease ≡ Some d → not (leaves_in v) ≡ true
 due_stays_in (Provisioned over) lease d e = not_over over _ d e
-due_stays_in (Discovered m) lease d e = not_over m.ended _ d e
+due_stays_in (Linked m) lease d e = not_over m.ended _ d e
 
 -- the session that has a deadline stays
 pub due_stays : (s : State) (n d : ℕ) → due_at s n ≡ Some d → stays_at s n ≡ true

@@ -1,6 +1,6 @@
 -- The earliest deadline of a shard's sessions.
 use Rattle.std.proofs.Common.{◌≡◌, ◌⊎◌, ℕ, zero, suc, ◌<◌, ◌≤◌, min, List, [], ◌∷◌, Option, Some, None, Contains, fold, option_and_then, inl, inr, refl, sym, ap, ◌∙◌, arith}
-use Rattle.bng_ppp.specs.LinkRelation.{earliest}
+use Rattle.bng_ppp.specs.LcpRelation.{earliest}
 use Rattle.bng_sessions.specs.Sessions.{IsEarliest, read_at, value_at}
 use Rattle.bng_sessions.specs.Listed.{values}
 use Rattle.bng_steps.specs.declared.session.Session.{Session}

@@ -29,25 +29,25 @@ use Rattle.bng_ppp.specs.declared.authentication.Authentication.{Authentication}
 use Rattle.bng_ppp.specs.declared.authentication.Authentication.TheVariants as auth
 use Rattle.bng_ppp.specs.declared.rules.LinkRules.{LinkRules}
 use Rattle.bng_ppp_wire.specs.declared.protocol.TheConstants as protocol
-use Rattle.bng_ppp.specs.declared.whole_input.WholeInput.TheVariants as told
+use Rattle.bng_ppp.specs.declared.input.Input.TheVariants as told
 use Rattle.bng_ppp.specs.Automaton.{Doing, Follows, Moves, Why, acted, all_acted}
 use Rattle.bng_ppp.specs.Encapsulation.{sent_some}
 use Rattle.bng_ppp.specs.IpcpAutomaton.{IpcpDoing, IpcpWhy, all_ipcp_acted, ipcp_acted}
 use Rattle.bng_ppp.specs.Layers.{Above, IpcpMoves, LcpCloses, Turn, authenticates, begun, ipcp_of, leaves, silenced, with_auth_until, with_lcp}
-use Rattle.bng_ppp.specs.LinkState.{LinkState, unused}
+use Rattle.bng_ppp.specs.LcpState.{LcpState, unused}
 use Rattle.bng_ppp.specs.LowerLayer.{Loses, Starts}
-use Rattle.bng_ppp.specs.PppRelation.{PppSaid, PppSteps}
-use Rattle.bng_ppp.specs.PppState.{PppState}
+use Rattle.bng_ppp.specs.LinkRelation.{LinkSaid, LinkSteps}
+use Rattle.bng_ppp.specs.LinkState.{LinkState}
 use Rattle.bng_ppp.specs.Said.{Said, quiet}
 use Rattle.bng_ppp.specs.Timers.{Reminds}
-use Rattle.bng_ppp.specs.WholeTimers.{AboveReminds, AuthReminds}
+use Rattle.bng_ppp.specs.LinkTimers.{AboveReminds, AuthReminds}
 use Rattle.bng_steps.specs.declared.rules.Rules.{Rules}
 use Rattle.bng_base.specs.declared.item.At.{At}
 use Rattle.bng_steps.specs.declared.session.Lease.{Lease}
 use Rattle.bng_steps.specs.declared.session.Session.{Session}
-use Rattle.bng_steps.specs.Made.{Made}
-use Rattle.bng_steps.specs.declared.session.Service.TheVariants.{Discovered}
-use Rattle.bng_steps.specs.declared.way.Called.{Called}
+use Rattle.bng_steps.specs.LinkService.{LinkService}
+use Rattle.bng_steps.specs.declared.session.Service.TheVariants.{Linked}
+use Rattle.bng_steps.specs.declared.way.TunnelCall.{TunnelCall}
 use Rattle.bng_steps.specs.declared.way.Way.{Way}
 use Rattle.bng_steps.specs.declared.way.Way.TheVariants.{Port, Call}
 use Rattle.bng_steps.specs.State.{Beside}
@@ -229,13 +229,13 @@ opens_free c echo now before after f is =
     let done = ap (λ (d : Doing). cost d.said) f.done in
     omega (arith, most, all, done)
 
-starts_cost : (auth : List AuthKind) (random : List ℕ) (echo now : ℕ) (old : LinkState) (says : Said) (new : LinkState) → old.lcp ≡ unused → Starts auth random echo now old says new → cost says ≤ 1
+starts_cost : (auth : List AuthKind) (random : List ℕ) (echo now : ℕ) (old : LcpState) (says : Said) (new : LcpState) → old.lcp ≡ unused → Starts auth random echo now old says new → cost says ≤ 1
 starts_cost auth random echo now old says new fresh h =
     let first = opens_free _ echo now (record { link = record old { ask = h.ask }; said = quiet }) h.opened h.on_open (ap (λ (m : Machine). eqb (column m.state) 0) fresh) in
     let next = follows_costs Up _ echo now h.opened (record { link = new; said = says }) h.on_up in
     omega (arith, first, next)
 
-moves_cost : (event : Event) (c : Why) (echo now : ℕ) (old : LinkState) (says : Said) (new : LinkState) → Moves event c echo now old says new → cost says ≤ costs_most event
+moves_cost : (event : Event) (c : Why) (echo now : ℕ) (old : LcpState) (says : Said) (new : LcpState) → Moves event c echo now old says new → cost says ≤ costs_most event
 moves_cost event c echo now old says new m =
     let all = follows_costs event c echo now (record { link = old; said = quiet }) (record { link = new; said = says }) m in
     omega (arith, all)
@@ -277,13 +277,13 @@ closes_cost r now random t after h =
 
 -- Timers ----------------------------------------------------------------------------------------------------------------
 
-loses_cost : (echo now : ℕ) (old : LinkState) (says : Said) (new : LinkState) → Loses echo now old says new → cost says ≤ 0
+loses_cost : (echo now : ℕ) (old : LcpState) (says : Said) (new : LcpState) → Loses echo now old says new → cost says ≤ 0
 loses_cost echo now old says new h =
     let down = follows_costs Down _ echo now (record { link = old; said = quiet }) h.down h.follows in
     let done = ap (λ (d : Doing). cost d.said) h.done in
     omega (arith, down, done)
 
-reminds_cost : (echo now : ℕ) (old : LinkState) (says : Said) (new : LinkState) → Reminds echo now old says new → cost says ≤ 1
+reminds_cost : (echo now : ℕ) (old : LcpState) (says : Said) (new : LcpState) → Reminds echo now old says new → cost says ≤ 1
 reminds_cost echo now old says new (inl (out, some, m)) = moves_cost ToPlus _ echo now old says new m
 reminds_cost echo now old says new (inr (inl (out, none, m))) =
     let most = moves_cost ToMinus _ echo now old says new m in
@@ -318,10 +318,10 @@ above_reminds_cost r now random t after (inr (inr (inr (early, runs, is)))) =
 
 -- Steps of a link -------------------------------------------------------------------------------------------------------
 
-module _ (r : LinkRules) (now : ℕ) (random : List ℕ) (old : PppState) (says : PppSaid) (new : PppState) where
-  pub few_by_timer : PppSteps r told.Timer now random old says new → length says.outs ≤ 2
+module _ (r : LinkRules) (now : ℕ) (random : List ℕ) (old : LinkState) (says : LinkSaid) (new : LinkState) where
+  pub few_by_timer : LinkSteps r told.Timer now random old says new → length says.outs ≤ 2
   few_by_timer h =
-      let said = ap (λ (s : PppSaid). length s.outs) h.said in
+      let said = ap (λ (s : LinkSaid). length s.outs) h.said in
       let reminds = h.goes.0 in
       let lcp = reminds.steps in
       let first = reminds_cost r.echo now old.lcp lcp.says lcp.lcp lcp.steps in
@@ -329,17 +329,17 @@ module _ (r : LinkRules) (now : ℕ) (random : List ℕ) (old : PppState) (says 
       let last = above_reminds_cost r now random reminds.lcp h.turn reminds.above in
       omega (arith, said, first, next, last)
 
-  pub few_by_close : PppSteps r told.Close now random old says new → length says.outs ≤ 1
+  pub few_by_close : LinkSteps r told.Close now random old says new → length says.outs ≤ 1
   few_by_close h =
-      let said = ap (λ (s : PppSaid). length s.outs) h.said in
+      let said = ap (λ (s : LinkSaid). length s.outs) h.said in
       let lcp = h.goes.0 in
       let first = moves_cost Close _ r.echo now old.lcp lcp.says lcp.lcp lcp.steps in
       let next = above_costs lcp.says.opened (leaves old.lcp lcp.lcp) r now random (with_lcp (begun old) (record { link = lcp.lcp; said = lcp.says })) h.turn lcp.above in
       omega (arith, said, first, next)
 
-  pub few_by_start : old.lcp.lcp ≡ unused → PppSteps r told.Start now random old says new → length says.outs ≤ 1
+  pub few_by_start : old.lcp.lcp ≡ unused → LinkSteps r told.Start now random old says new → length says.outs ≤ 1
   few_by_start fresh h =
-      let said = ap (λ (s : PppSaid). length s.outs) h.said in
+      let said = ap (λ (s : LinkSaid). length s.outs) h.said in
       let lcp = h.goes.0 in
       let first = starts_cost r.auth.items random r.echo now old.lcp lcp.says lcp.lcp fresh lcp.steps in
       let next = above_costs lcp.says.opened (leaves old.lcp lcp.lcp) r now random (with_lcp (begun old) (record { link = lcp.lcp; said = lcp.says })) h.turn lcp.above in
@@ -363,7 +363,7 @@ frames_cost a number mac n port (f ∷ frames) =
     let rest = frames_cost a number mac n port frames in
     omega (arith, both, one, rest)
 
-calls_cost : (a : At) (c : Called) (frames : List (List ℕ)) → length (call_outs a c frames) ≤ length frames
+calls_cost : (a : At) (c : TunnelCall) (frames : List (List ℕ)) → length (call_outs a c frames) ≤ length frames
 calls_cost a c [] = omega arith
 calls_cost a c (f ∷ frames) =
     let first = data_outs a c f in
@@ -391,7 +391,7 @@ module _ (r : Rules) (a : At) (now : ℕ) (random : List ℕ) (beside : Beside) 
       omega (arith, said, none, both, ap length d.outs_are)
 
   -- where one datagram at most says that the session has ended
-  pub drives_by_timer : (d : Drives r a beside x (PppSteps r.link told.Timer now random) outs cause x' beside') → length d.last ≤ 1 → length outs ≤ 3
+  pub drives_by_timer : (d : Drives r a beside x (LinkSteps r.link told.Timer now random) outs cause x' beside') → length d.last ≤ 1 → length outs ≤ 3
   drives_by_timer d few =
       let frames = few_by_timer r.link now random d.made.link d.says d.link d.steps in
       let said = says_costs x.way r a x.number d.says.outs d.first d.tells in
@@ -399,23 +399,23 @@ module _ (r : Rules) (a : At) (now : ℕ) (random : List ℕ) (beside : Beside) 
       omega (arith, frames, said, few, both, ap length d.outs_are)
 
   -- where the session still has a lease
-  pub leased_by_timer : Drives r a beside x (PppSteps r.link told.Timer now random) outs cause x' beside' → KeepsLease x'.service x'.lease → IsSome x'.lease → length outs ≤ 2
+  pub leased_by_timer : Drives r a beside x (LinkSteps r.link told.Timer now random) outs cause x' beside' → KeepsLease x'.service x'.lease → IsSome x'.lease → length outs ≤ 2
   leased_by_timer d keeps some =
       let frames = few_by_timer r.link now random d.made.link d.says d.link d.steps in
-      let said = unfinished_costs (PppSteps r.link told.Timer now random) d (leased_unfinished r a now random beside x outs cause x' beside' told.Timer d keeps some) in
+      let said = unfinished_costs (LinkSteps r.link told.Timer now random) d (leased_unfinished r a now random beside x outs cause x' beside' told.Timer d keeps some) in
       omega (arith, frames, said)
 
   -- where it had one before
-  pub leased_by_close : Drives r a beside x (PppSteps r.link told.Close now random) outs cause x' beside' → (lease : Option Lease) → KeepsLease x.service lease → IsSome lease → length outs ≤ 1
+  pub leased_by_close : Drives r a beside x (LinkSteps r.link told.Close now random) outs cause x' beside' → (lease : Option Lease) → KeepsLease x.service lease → IsSome lease → length outs ≤ 1
   leased_by_close d lease keeps some =
       let frames = few_by_close r.link now random d.made.link d.says d.link d.steps in
-      let said = unfinished_costs (PppSteps r.link told.Close now random) d (closed_unfinished r a now random beside x outs cause x' beside' d lease keeps some) in
+      let said = unfinished_costs (LinkSteps r.link told.Close now random) d (closed_unfinished r a now random beside x outs cause x' beside' d lease keeps some) in
       omega (arith, frames, said)
 
   -- where the link was told nothing before
-  pub new_by_start : Drives r a beside x (PppSteps r.link told.Start now random) outs cause x' beside' → (made : Made) → x.service ≡ Discovered made → made.link.lcp.lcp ≡ unused → length outs ≤ 1
+  pub new_by_start : Drives r a beside x (LinkSteps r.link told.Start now random) outs cause x' beside' → (made : LinkService) → x.service ≡ Linked made → made.link.lcp.lcp ≡ unused → length outs ≤ 1
   new_by_start d made is new =
-      let fresh : d.made.link.lcp.lcp ≡ unused = ap (λ (m : Made). m.link.lcp.lcp) (same_made x.service d.made made d.is_made is) ∙ new in
+      let fresh : d.made.link.lcp.lcp ≡ unused = ap (λ (m : LinkService). m.link.lcp.lcp) (same_made x.service d.made made d.is_made is) ∙ new in
       let frames = few_by_start r.link now random d.made.link d.says d.link fresh d.steps in
-      let said = unfinished_costs (PppSteps r.link told.Start now random) d (start_stays r.link now random d.made.link d.says d.link d.steps) in
+      let said = unfinished_costs (LinkSteps r.link told.Start now random) d (start_stays r.link now random d.made.link d.says d.link d.steps) in
       omega (arith, frames, said)

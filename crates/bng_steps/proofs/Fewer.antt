@@ -10,7 +10,7 @@ use Rattle.bng_engine.specs.Lists.{one_if}
 use Rattle.bng_sessions.specs.Listed.{values}
 use Rattle.bng_steps.specs.declared.rules.Rules.{Rules}
 use Rattle.bng_steps.specs.declared.session.Service.{Service}
-use Rattle.bng_steps.specs.declared.session.Service.TheVariants.{Provisioned, Discovered}
+use Rattle.bng_steps.specs.declared.session.Service.TheVariants.{Provisioned, Linked}
 use Rattle.bng_steps.specs.declared.session.Session.{Session}
 use Rattle.bng_steps.specs.State.{State, count_in, with_ended, with_tunnels, leaves, leaves_in, settled}
 use Rattle.bng_steps.specs.Deed.{Deed}
@@ -35,7 +35,7 @@ none_staying s h =
 
 over : (v : Service) → leaves_in (ended_service v) ≡ true
 over (Provisioned p) = refl
-over (Discovered m) = refl
+over (Linked m) = refl
 
 pub ends_fewer : (n : ℕ) (r : Rules) (e : Entry) (s : State) (outs : List OutRecord) (s' : State) → Ends n r e s outs s' → (staying_in s' ≡ 0) ⊎ (staying_in s' + n ≡ staying_in s)
 ends_fewer zero r e s outs s' h = inr (omega (arith, ap staying_in h.1))

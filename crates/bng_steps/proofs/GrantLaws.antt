@@ -36,28 +36,28 @@ use Rattle.bng_lns.specs.Timed.{Telling, reminded, stopped}
 use Rattle.bng_lns.specs.Tunnels.{TunnelsState}
 use Rattle.bng_ppp.specs.declared.authentication.Authentication.{Authentication}
 use Rattle.bng_ppp.specs.declared.authentication.Authentication.TheVariants as auth
-use Rattle.bng_ppp.specs.declared.whole_input.WholeInput.{WholeInput}
-use Rattle.bng_ppp.specs.declared.whole_input.WholeInput.TheVariants.{Start, Timer, Close}
+use Rattle.bng_ppp.specs.declared.input.Input.{Input}
+use Rattle.bng_ppp.specs.declared.input.Input.TheVariants.{Start, Timer, Close}
 use Rattle.bng_ppp.specs.Claims.{Claim}
 use Rattle.bng_ppp.specs.Granting.{IsYes, MayAccept, is_frame, is_yes_verdict}
 use Rattle.bng_ppp.specs.Phases.{is_begun}
-use Rattle.bng_ppp.specs.PppRelation.{PppSaid, PppSteps}
-use Rattle.bng_ppp.specs.PppState.{PppState, is_accepted, is_open}
-use Rattle.bng_ppp.proofs.WholeOuts.{ppp_steps_grant}
-use Rattle.bng_ppp.proofs.WholePhases.{accepted_begun, open_unsettled}
-use Rattle.bng_ppp.proofs.WholeQuestions.{accepted_by_verdict, asked_is_open, only_frames_ask, open_was_asked}
+use Rattle.bng_ppp.specs.LinkRelation.{LinkSaid, LinkSteps}
+use Rattle.bng_ppp.specs.LinkState.{LinkState, is_accepted, is_open}
+use Rattle.bng_ppp.proofs.LinkOuts.{link_steps_grant}
+use Rattle.bng_ppp.proofs.LinkPhases.{accepted_begun, open_unsettled}
+use Rattle.bng_ppp.proofs.LinkQuestions.{accepted_by_verdict, asked_is_open, only_frames_ask, open_was_asked}
 use Rattle.bng_sessions.specs.Sessions.{IsNumberOf, value_at, with_value}
 use Rattle.bng_sessions.proofs.SessionLaws.{value_at-with_value, value_at-with_other}
 use Rattle.bng_verdict.specs.Verdicts.{Saying, IsVerdict}
-use Rattle.bng_steps.specs.Made.{Made, Question}
+use Rattle.bng_steps.specs.LinkService.{LinkService, Question}
 use Rattle.bng_steps.specs.declared.meters.Meters.{Meters}
 use Rattle.bng_steps.specs.declared.rules.Rules.{Rules}
 use Rattle.bng_base.specs.declared.item.At.{At}
 use Rattle.bng_steps.specs.declared.session.Lease.{Lease}
 use Rattle.bng_steps.specs.declared.session.Service.{Service}
-use Rattle.bng_steps.specs.declared.session.Service.TheVariants.{Provisioned, Discovered}
+use Rattle.bng_steps.specs.declared.session.Service.TheVariants.{Provisioned, Linked}
 use Rattle.bng_steps.specs.declared.session.Session.{Session}
-use Rattle.bng_steps.specs.declared.way.Called.{Called}
+use Rattle.bng_steps.specs.declared.way.TunnelCall.{TunnelCall}
 use Rattle.bng_steps.specs.declared.way.Way.{Way}
 use Rattle.bng_steps.specs.declared.way.Way.TheVariants.{Port, Call}
 use Rattle.bng_steps.specs.State.{Beside, State, beside_at, call_of, circuit_in, leaves, session_of, settled, with_session, with_driven, with_ended, with_tunnels}
@@ -136,10 +136,10 @@ last_with s n y m a e =
       | inr before ↦ inr before
     ]
 
-module _ (s : State) (n : ℕ) (x : Session) (at : value_at s.sessions n ≡ Some x) (made : Made) (is_made : x.service ≡ Discovered made) (q : Question) (is : made.question ≡ Some q) where
+module _ (s : State) (n : ℕ) (x : Session) (at : value_at s.sessions n ≡ Some x) (made : LinkService) (is_made : x.service ≡ Linked made) (q : Question) (is : made.question ≡ Some q) where
   accepted_there : is_accepted made.link.auth ≡ true → accepted_ask_at s n ≡ Some q.ask
   accepted_there tells =
-      let inside : accepted_in (Discovered made) ≡ Some q = ap (λ (b : Bool). if b then made.question else None) tells ∙ is in
+      let inside : accepted_in (Linked made) ≡ Some q = ap (λ (b : Bool). if b then made.question else None) tells ∙ is in
       ap (λ (o : Option Session). option_map (λ (p : Question). p.ask) (option_and_then ask_in o)) at
       ∙ ap (λ (v : Service). option_map (λ (p : Question). p.ask) (accepted_in v)) is_made
       ∙ ap (option_map (λ (p : Question). p.ask)) inside
@@ -189,25 +189,25 @@ decided_yes r limited octets claim t (inr (inr (v, says, allows, g, grant, answe
 -- Calls of sessions -------------------------------------------------------------------------------------------------------
 
 -- two calls are of one tunnel of one peer, and what goes out over them goes to the same numbers
-record SameCall (c d : Called) : Type 0 where
+record SameCall (c d : TunnelCall) : Type 0 where
   peer : c.peer ≡ d.peer
   tunnel : c.tunnel ≡ d.tunnel
   octets : (f : List ℕ) → call_octets c f ≡ call_octets d f
 
-own_call : (c : Called) → SameCall c c
+own_call : (c : TunnelCall) → SameCall c c
 own_call c = record { peer = refl; tunnel = refl; octets = λ f. refl }
 
 -- a way that is a call was the same one before
 abbrev Stays : Way → Way → Type 0
-Stays old new = (d : Called) → new ≡ Call d → (c : Called) × (old ≡ Call c) × SameCall c d
+Stays old new = (d : TunnelCall) → new ≡ Call d → (c : TunnelCall) × (old ≡ Call c) × SameCall c d
 
 same_stays : (way : Way) → Stays way way
 same_stays way d is = (d, is, own_call d)
 
-no_call : (port : ℕ) (mac : Mac) (c : Called) → Port port mac ≡ Call c → ⊥
+no_call : (port : ℕ) (mac : Mac) (c : TunnelCall) → Port port mac ≡ Call c → ⊥
 no_call port mac c e = cc
 
-one_call : (c d : Called) → Call c ≡ Call d → c ≡ d
+one_call : (c d : TunnelCall) → Call c ≡ Call d → c ≡ d
 one_call c d e = cc
 
 -- a call that the gateway ends keeps the peer's number
@@ -216,7 +216,7 @@ unfolding end_step
 ends_to_peer s =
     elim (stands s.phase) as (λ (b : Bool). to_peer (if b then call.ends (call.tells s (cdn (to_peer s) s.session administrative)) else call.nothing s).after ≡ to_peer s) [ true ↦ refl | false ↦ refl ]
 
-ended_call : (c : Called) → SameCall c (record c { call = (end_step c.call).after })
+ended_call : (c : TunnelCall) → SameCall c (record c { call = (end_step c.call).after })
 ended_call c = record { peer = refl; tunnel = refl; octets = λ f. ap (λ (n : ℕ). data_text (call_message c.far n f)) (sym (ends_to_peer c.call)) }
 
 stays_after : (finished : Bool) (way : Way) → Stays way (way_after finished way)
@@ -228,16 +228,16 @@ stays_after true (Call c) d is = (c, refl, subst (SameCall c) (one_call (record 
 
 -- the out goes over the call that is this way
 record TellsOver (way : Way) (o : OutRecord) : Type 0 where
-  called : Called
+  called : TunnelCall
   way_is : way ≡ Call called
   peer : called.peer ≡ o.to
   frame : List ℕ
   sent : o.frame ≡ call_octets called frame
 
 -- what a step of a session's link does to its question and its way, and what it sends
-record Drove (what : WholeInput) (asked : ℕ) (x : Session) (outs : List OutRecord) (x' : Session) (beside' : Beside) : Type 0 where
-  made : Made
-  is_made : x.service ≡ Discovered made
+record Drove (what : Input) (asked : ℕ) (x : Session) (outs : List OutRecord) (x' : Session) (beside' : Beside) : Type 0 where
+  made : LinkService
+  is_made : x.service ≡ Linked made
   number : x'.number ≡ x.number
   asking : (q : Question) → asking_of x' q ≡ asking_of x q
   way : Stays x.way x'.way
@@ -250,9 +250,9 @@ record Drove (what : WholeInput) (asked : ℕ) (x : Session) (outs : List OutRec
       → (x.way ≡ Port port mac) × (n ≡ x.number.0) × MayAccept what made.link.auth
   over : (o : OutRecord) → Contains outs o → IsYesOver o.role o.frame → TellsOver x.way o × MayAccept what made.link.auth
 
-module _ (r : Rules) (e : Entry) (a : At) (Steps : LinkStep) (what : WholeInput) (to : (old : PppState) (says : PppSaid) (new : PppState) → Steps old says new → PppSteps r.link what e.moment e.item.random old says new)
+module _ (r : Rules) (e : Entry) (a : At) (Steps : LinkStep) (what : Input) (to : (old : LinkState) (says : LinkSaid) (new : LinkState) → Steps old says new → LinkSteps r.link what e.moment e.item.random old says new)
     (beside : Beside) (x : Session) (outs : List OutRecord) (cause : Option ℕ) (x' : Session) (beside' : Beside) (h : Drives r a beside x Steps outs cause x' beside') where
-  steps : PppSteps r.link what e.moment e.item.random h.made.link h.says h.link
+  steps : LinkSteps r.link what e.moment e.item.random h.made.link h.says h.link
   steps = to h.made.link h.says h.link h.steps
 
   drove_accepted : (q : Question) → accepted_in x'.service ≡ Some q → (h.made.question ≡ Some q) × MayAccept what h.made.link.auth
@@ -295,7 +295,7 @@ module _ (r : Rules) (e : Entry) (a : At) (Steps : LinkStep) (what : WholeInput)
   -- a frame of the link that tells yes
   granted_frame : (f : List ℕ) → Contains h.says.outs f → IsYes f → MayAccept what h.made.link.auth
   granted_frame f among tells =
-      All-contains (λ (g : List ℕ). IsYes g → MayAccept what h.made.link.auth) h.says.outs f (ppp_steps_grant r.link e.moment e.item.random what h.made.link h.says h.link steps) among tells
+      All-contains (λ (g : List ℕ). IsYes g → MayAccept what h.made.link.auth) h.says.outs f (link_steps_grant r.link e.moment e.item.random what h.made.link h.says h.link steps) among tells
 
   -- what goes out is what the link says, and how the session is told that it has ended
   either_out : (o : OutRecord) → Contains outs o → Contains h.first o ⊎ Contains h.last o
@@ -340,7 +340,7 @@ module _ (r : Rules) (e : Entry) (a : At) (Steps : LinkStep) (what : WholeInput)
   }
 
 -- whatever the session leases after the step
-abbrev leased : (what : WholeInput) (asked : ℕ) (x : Session) (outs : List OutRecord) (x' : Session) (beside' : Beside) (lease : Option Lease)
+abbrev leased : (what : Input) (asked : ℕ) (x : Session) (outs : List OutRecord) (x' : Session) (beside' : Beside) (lease : Option Lease)
     → Drove what asked x outs x' beside' → Drove what asked x outs (record x' { lease = lease }) beside'
 leased what asked x outs x' beside' lease d = record {
   made = d.made;
@@ -358,7 +358,7 @@ leased what asked x outs x' beside' lease d = record {
 }
 
 -- or leased before it
-abbrev before_lapse : (what : WholeInput) (asked : ℕ) (x : Session) (outs : List OutRecord) (x' : Session) (beside' : Beside) → Drove what asked (lapsed x) outs x' beside' → Drove what asked x outs x' beside'
+abbrev before_lapse : (what : Input) (asked : ℕ) (x : Session) (outs : List OutRecord) (x' : Session) (beside' : Beside) → Drove what asked (lapsed x) outs x' beside' → Drove what asked x outs x' beside'
 before_lapse what asked x outs x' beside' d = record {
   made = d.made;
   is_made = d.is_made;
@@ -420,7 +420,7 @@ record GrantedOver (s : State) (Is : ℕ → ℕ → Type 0) (to : Peer) (octets
   session : SessionNo
   x : Session
   found : value_at s.sessions session.0 ≡ Some x
-  called : Called
+  called : TunnelCall
   way_is : x.way ≡ Call called
   peer : called.peer ≡ to
   frame : List ℕ
@@ -463,16 +463,16 @@ record Kept (s s' : State) : Type 0 where
   asked : s'.asked ≡ s.asked
 
 -- the session with this number was a call, this one
-record WasCall (s : State) (n : ℕ) (d : Called) : Type 0 where
+record WasCall (s : State) (n : ℕ) (d : TunnelCall) : Type 0 where
   x : Session
   found : value_at s.sessions n ≡ Some x
-  called : Called
+  called : TunnelCall
   way_is : x.way ≡ Call called
   same : SameCall called d
 
 -- each session that is a call was so before
 abbrev CallsStay : State → State → Type 0
-CallsStay s s' = (n : ℕ) (y : Session) (d : Called) → value_at s'.sessions n ≡ Some y → y.way ≡ Call d → WasCall s n d
+CallsStay s s' = (n : ℕ) (y : Session) (d : TunnelCall) → value_at s'.sessions n ≡ Some y → y.way ≡ Call d → WasCall s n d
 
 -- nothing is asked, what is granted was so before, and no call came
 record Still (s : State) (outs : List OutRecord) (s' : State) : Type 0 where
@@ -566,7 +566,7 @@ chain_kept s s' s'' g h = record {
 }
 
 -- the later call is that of the earlier
-then_call : (s : State) (n : ℕ) (c d : Called) → WasCall s n c → SameCall c d → WasCall s n d
+then_call : (s : State) (n : ℕ) (c d : TunnelCall) → WasCall s n c → SameCall c d → WasCall s n d
 then_call s n c d was same = record {
   x = was.x;
   found = was.found;
@@ -678,26 +678,26 @@ changed_still s n x l meters at =
 -- one that ends does
 has_ended : (v : Service) → HasQuestion v → HasQuestion (ended_service v)
 has_ended (Provisioned l) h = h
-has_ended (Discovered m) h = h
+has_ended (Linked m) h = h
 
 same_accepted : (v : Service) → accepted_in v ≡ accepted_in (ended_service v)
 same_accepted (Provisioned l) = refl
-same_accepted (Discovered m) = refl
+same_accepted (Linked m) = refl
 
 same_last : (v : Service) → last_in v ≡ last_in (ended_service v)
 same_last (Provisioned l) = refl
-same_last (Discovered m) = refl
+same_last (Linked m) = refl
 
 over_still : (s : State) (n : ℕ) (x : Session) (outs : List OutRecord) (terms : List Tenure) → value_at s.sessions n ≡ Some x → NoYes outs → Still s outs (state_with s n (ended x) (own_beside s) s.begun terms s.news s.meters)
 over_still s n x outs terms at none =
     kept_still s n x (ended x) outs terms at refl (has_ended x.service) (same_accepted x.service) (same_last x.service) (λ q. refl) (same_stays x.way) none
 
 -- and so does one whose call is another one, whether it ends or not
-turned_kept : (s : State) (n : ℕ) (x : Session) (c : Called) (after : CallState) → value_at s.sessions n ≡ Some x → x.way ≡ Call c → Kept s (state_with s n (turned x c after) (own_beside s) s.begun s.terms s.news s.meters)
+turned_kept : (s : State) (n : ℕ) (x : Session) (c : TunnelCall) (after : CallState) → value_at s.sessions n ≡ Some x → x.way ≡ Call c → Kept s (state_with s n (turned x c after) (own_beside s) s.begun s.terms s.news s.meters)
 turned_kept s n x c after at way =
     kept_one s n x (turned x c after) s.terms at refl (λ h. h) refl refl (λ q. sym (asks_same x (turned x c after) q refl (call_stays x c after way)))
 
-parted_kept : (s : State) (n : ℕ) (x : Session) (c : Called) (after : CallState) (terms : List Tenure) → value_at s.sessions n ≡ Some x → x.way ≡ Call c
+parted_kept : (s : State) (n : ℕ) (x : Session) (c : TunnelCall) (after : CallState) (terms : List Tenure) → value_at s.sessions n ≡ Some x → x.way ≡ Call c
     → Kept s (state_with s n (ended (turned x c after)) (own_beside s) s.begun terms s.news s.meters)
 parted_kept s n x c after terms at way =
     kept_one s n x (ended (turned x c after)) terms at refl (has_ended x.service) (same_accepted x.service) (same_last x.service) (λ q. sym (asks_same x (turned x c after) q refl (call_stays x c after way)))
@@ -728,7 +728,7 @@ cut_told_still : (o : Option Telling) (s : State) → Still s [] (cut_told o s)
 cut_told_still None s = same_still s s [] refl none_yes
 cut_told_still (Some t) s = cut_if_still t.said.cleared t.number s
 
-module _ (s : State) (n : ℕ) (x : Session) (outs : List OutRecord) (x' : Session) (beside' : Beside) (what : WholeInput) (at : value_at s.sessions n ≡ Some x) (d : Drove what s.asked x outs x' beside')
+module _ (s : State) (n : ℕ) (x : Session) (outs : List OutRecord) (x' : Session) (beside' : Beside) (what : Input) (at : value_at s.sessions n ≡ Some x) (d : Drove what s.asked x outs x' beside')
     (begun : ℕ) (terms news : List Tenure) (meters : List Meters) where
   drove_sound : IsSound s → IsSound (state_with s n x' beside' begun terms news meters)
   drove_sound h =
@@ -854,13 +854,13 @@ reminds_still (suc n) k a now s outs s' (first, next, one, rest, more, are) =
     equal_still s (first ++ rest) outs s' are (chain_still s next s' first rest (subst (Still s first) (sym one.after) here) (reminds_still n (k + 1) a now next rest s' more))
 
 module _ (r : Rules) (e : Entry) where
-  told_is : (what : WholeInput) (old : PppState) (says : PppSaid) (new : PppState) → told r e what old says new → PppSteps r.link what e.moment e.item.random old says new
+  told_is : (what : Input) (old : LinkState) (says : LinkSaid) (new : LinkState) → told r e what old says new → LinkSteps r.link what e.moment e.item.random old says new
   told_is what old says new h = h
 
-  hears_is : (octets : List ℕ) (old : PppState) (says : PppSaid) (new : PppState) → hears r e octets old says new → PppSteps r.link (frame_of octets) e.moment e.item.random old says new
+  hears_is : (octets : List ℕ) (old : LinkState) (says : LinkSaid) (new : LinkState) → hears r e octets old says new → LinkSteps r.link (frame_of octets) e.moment e.item.random old says new
   hears_is octets old says new h = frame_steps r.link e.moment e.item.random old says new octets h
 
-  settles_is : (t : Told) (old : PppState) (says : PppSaid) (new : PppState) → settles r e t old says new → PppSteps r.link (verdict_of t) e.moment e.item.random old says new
+  settles_is : (t : Told) (old : LinkState) (says : LinkSaid) (new : LinkState) → settles r e t old says new → LinkSteps r.link (verdict_of t) e.moment e.item.random old says new
   settles_is t old says new h = verdict_steps r.link e.moment e.item.random old says new t h
 
   empty_no_yes : (outs : List OutRecord) → outs ≡ [] → NoYes outs
@@ -870,7 +870,7 @@ module _ (r : Rules) (e : Entry) where
   loses_still : (v : Service) (cause : ℕ) (s : State) (n : ℕ) (x : Session) (outs : List OutRecord) (s' : State) → value_at s.sessions n ≡ Some x → LosesTerm v cause r e s n x outs s' → Still s outs s'
   loses_still (Provisioned over) cause s n x outs s' at (none, next) =
       equal_still s [] outs s' none (subst (Still s []) (sym next) (leased_still s n x None (closed x.lease (Some cause) s.terms) at))
-  loses_still (Discovered m) cause s n x outs s' at (y, none, beside', drives, next) =
+  loses_still (Linked m) cause s n x outs s' at (y, none, beside', drives, next) =
       let d = before_lapse Close s.asked x outs y beside' (drove r e (at_of s e) (told r e Close) Close (told_is Close) (beside_of s e) (lapsed x) outs none y beside' drives) in
       subst (Still s outs) (sym next) (drove_still s n x outs y beside' Close at d s.begun (closed x.lease (Some cause) s.terms) s.news s.meters refl refl)
 
@@ -881,7 +881,7 @@ module _ (r : Rules) (e : Entry) where
 
   times_still : (v : Service) (s : State) (n : ℕ) (x : Session) (outs : List OutRecord) (s' : State) → value_at s.sessions n ≡ Some x → TimesIn v r e s n x outs s' → Still s outs s'
   times_still (Provisioned over) s n x outs s' at h = looks_still (cause_at (passed_at s.passed x.number) x.lease e.moment) s n x outs s' at h
-  times_still (Discovered m) s n x outs s' at h =
+  times_still (Linked m) s n x outs s' at h =
       let d = drove r e (at_of s e) (told r e Timer) Timer (told_is Timer) (beside_of s e) x h.first h.cause h.after h.beside h.drives in
       let next = with_driven s n x.lease h.cause h.after h.beside in
       equal_still s (h.first ++ h.then) outs s' h.outs_are
@@ -909,19 +909,19 @@ module _ (r : Rules) (e : Entry) where
 
 auth_in : Authentication → Service → Authentication
 auth_in a (Provisioned l) = a
-auth_in a (Discovered m) = m.link.auth
+auth_in a (Linked m) = m.link.auth
 
 question_in : Service → Option Question
 question_in (Provisioned l) = None
-question_in (Discovered m) = m.question
+question_in (Linked m) = m.question
 
 -- a link that has asked nothing has no question to have
-idle_has : (m : Made) → m.link.auth ≡ auth.Idle → HasQuestion (Discovered m)
+idle_has : (m : LinkService) → m.link.auth ≡ auth.Idle → HasQuestion (Linked m)
 idle_has m idle (inl opened) = absurd (false≢true (sym (ap is_open idle) ∙ opened))
 idle_has m idle (inr accepted) = absurd (false≢true (sym (ap is_accepted idle) ∙ accepted))
 
 -- such a session comes, which is told nothing
-comes_grants : (s : State) (e : Entry) (n : ℕ) (y : Session) (m : Made) (outs : List OutRecord) (t : TunnelsState) → y.service ≡ Discovered m → m.link.auth ≡ auth.Idle → m.question ≡ None
+comes_grants : (s : State) (e : Entry) (n : ℕ) (y : Session) (m : LinkService) (outs : List OutRecord) (t : TunnelsState) → y.service ≡ Linked m → m.link.auth ≡ auth.Idle → m.question ≡ None
     → y.number.0 ≡ n → IsNumberOf s.sessions.shard n → NoYes outs → Grants s (IsGranted s e) outs (with_session (with_tunnels s t) n y)
 comes_grants s e n y m outs t is idle silent number of_shard none = record {
   sound = λ h. sound_driven s n y (beside_at 0 s.asked t) s.begun s.terms s.news s.meters (sound_with s n y h number of_shard (subst (λ (v : Service). HasQuestion v) (sym is) (idle_has m idle)));
@@ -941,7 +941,7 @@ comes_grants s e n y m outs t is idle silent number of_shard none = record {
 }
 
 -- such a session is told Start, at a number that is the shard's
-module _ (r : Rules) (s : State) (e : Entry) (a : At) (beside : Beside) (asked : beside.asked ≡ s.asked) (n : ℕ) (y : Session) (m : Made) (is : y.service ≡ Discovered m) (idle : m.link.auth ≡ auth.Idle) (silent : m.question ≡ None)
+module _ (r : Rules) (s : State) (e : Entry) (a : At) (beside : Beside) (asked : beside.asked ≡ s.asked) (n : ℕ) (y : Session) (m : LinkService) (is : y.service ≡ Linked m) (idle : m.link.auth ≡ auth.Idle) (silent : m.question ≡ None)
     (number : IsSound s → y.number.0 ≡ n) (outs : List OutRecord) (cause : Option ℕ) (x' : Session) (beside' : Beside) (h : Drives r a beside y (told r e Start) outs cause x' beside') where
   started : Drove Start s.asked y outs x' beside'
   started = subst (λ (k : ℕ). Drove Start k y outs x' beside') asked (drove r e a (told r e Start) Start (told_is r e Start) beside y outs cause x' beside' h)
@@ -1007,7 +1007,7 @@ module _ (r : Rules) (s : State) (limited : Bool) (e : Entry) (d : Deed) where
   makes_grants : (number : ℕ) (port : AccessPort) (offers : PortRules) (p : PppoeFrame) (tags : List PppoeTag) → Makes r s e number port offers p tags d → Deeds
   makes_grants number port offers p tags h =
       let fresh = new_session h.session number p.src (host_uniq_of tags) h.link in
-      let made : Made = record { host_uniq = host_uniq_of tags; link = h.link; question = None; ended = false } in
+      let made : LinkService = record { host_uniq = host_uniq_of tags; link = h.link; question = None; ended = false } in
       deed _ h.done
       (starts_grants r s e (at_of s e) (beside_of s e) refl h.session fresh made refl h.new.auth refl (λ sound. refl) h.outs h.cause h.x h.beside h.starts
       (frame_outs (at_of s e) number port (pads_of offers p.src h.session tags)) s.begun (closed None h.cause s.terms) s.news s.meters (λ sound. h.vacant.of_shard) (discovery_no_yes (at_of s e) number port (pads_of offers p.src h.session tags) refl))
@@ -1026,7 +1026,7 @@ module _ (r : Rules) (s : State) (limited : Bool) (e : Entry) (d : Deed) where
   packets found info (fate, is, inr (stays, h)) = quiet _ h refl none_yes
 
   -- the link of a session hears a frame
-  ppp : (n : ℕ) (x : Session) (made : Made) (octets : List ℕ) → value_at s.sessions n ≡ Some x → HearsPpp r s e n x made octets d → Deeds
+  ppp : (n : ℕ) (x : Session) (made : LinkService) (octets : List ℕ) → value_at s.sessions n ≡ Some x → HearsPpp r s e n x made octets d → Deeds
   ppp n x made octets at (inl (gone, h)) = quiet _ h refl none_yes
   ppp n x made octets at (inr (live, outs, cause, x', beside', drives, h)) =
       let heard = drove r e (at_of s e) (hears r e octets) (frame_of octets) (hears_is r e octets) (beside_of s e) x outs cause x' beside' drives in
@@ -1037,9 +1037,9 @@ module _ (r : Rules) (s : State) (limited : Bool) (e : Entry) (d : Deed) where
 
   control : (v : Service) (x : Session) (p : PppoeFrame) → value_at s.sessions p.session ≡ Some x → HearsControl v r s e x p d → Deeds
   control (Provisioned l) x p at h = quiet _ h refl none_yes
-  control (Discovered made) x p at (inl (padt, inl (gone, h))) = quiet _ h refl none_yes
-  control (Discovered made) x p at (inl (padt, inr (live, h))) = still _ h (over_still s p.session x [] (closed x.lease (Some user_request) s.terms) at none_yes)
-  control (Discovered made) x p at (inr (data_frame, h)) = ppp p.session x made p.payload at h
+  control (Linked made) x p at (inl (padt, inl (gone, h))) = quiet _ h refl none_yes
+  control (Linked made) x p at (inl (padt, inr (live, h))) = still _ h (over_still s p.session x [] (closed x.lease (Some user_request) s.terms) at none_yes)
+  control (Linked made) x p at (inr (data_frame, h)) = ppp p.session x made p.payload at h
 
   named : (number : ℕ) (p : PppoeFrame) (found : Option Session) → session_of s number p.src p.session ≡ found → HearsIn found r s e p d → Deeds
   named number p None is h = quiet _ h refl none_yes
@@ -1061,9 +1061,9 @@ module _ (r : Rules) (s : State) (limited : Bool) (e : Entry) (d : Deed) where
   core (inr (v, is, (fate, decides, inr (stays, h)))) = quiet _ h refl none_yes
 
   -- the session's open question is the last one
-  open_last : (x : Session) (made : Made) (q : Question) → x.service ≡ Discovered made → made.question ≡ Some q → option_map (λ (p : Question). p.ask) (open_of x) ≡ Some e.item.ask → q.ask ≡ e.item.ask
+  open_last : (x : Session) (made : LinkService) (q : Question) → x.service ≡ Linked made → made.question ≡ Some q → option_map (λ (p : Question). p.ask) (open_of x) ≡ Some e.item.ask → q.ask ≡ e.item.ask
   open_last x made q is_made is e' =
-      let found = mapped (λ (p : Question). p.ask) (open_in (Discovered made)) e.item.ask (ap (λ (v : Service). option_map (λ (p : Question). p.ask) (open_in v)) (sym is_made) ∙ e') in
+      let found = mapped (λ (p : Question). p.ask) (open_in (Linked made)) e.item.ask (ap (λ (v : Service). option_map (λ (p : Question). p.ask) (open_in v)) (sym is_made) ∙ e') in
       let inside = if_some (not made.ended && is_open made.link.auth) made.question found.0 found.1 in
       ap (λ (p : Question). p.ask) (same_some q found.0 (sym is ∙ inside.1)) ∙ found.2
 
@@ -1119,7 +1119,7 @@ module _ (r : Rules) (s : State) (limited : Bool) (e : Entry) (d : Deed) where
   says_no frames spelled = tunnel_no_yes (at_of s e) e.item.from frames spelled
 
   -- the link of a call is made anew
-  connects_grants : (frames : List (List ℕ)) (t : TunnelsState) (n : ℕ) (x x' : Session) (c : Called) (after : CallState) (link : PppState) (outs : List OutRecord) (none : Option ℕ) (beside' : Beside)
+  connects_grants : (frames : List (List ℕ)) (t : TunnelsState) (n : ℕ) (x x' : Session) (c : TunnelCall) (after : CallState) (link : LinkState) (outs : List OutRecord) (none : Option ℕ) (beside' : Beside)
       → AllByRecursion IsSpelled frames → value_at s.sessions n ≡ Some x → IsNewLink 1500 e.item.random link
       → Drives r (at_of s e) (beside_of (with_tunnels s t) e) (linked_anew (turned x c after) link) (told r e Start) outs none x' beside'
       → Grants s (IsGranted s e) (answers_to s e frames ++ outs) (with_driven (with_tunnels s t) n x.lease (Some lost_carrier) x' beside')

@@ -33,9 +33,9 @@ use Rattle.bng_pppoe_wire.proofs.Spelled.{six, laid_text, length-pppoe_text}
 use Rattle.bng_base.specs.declared.item.At.{At}
 use Rattle.bng_steps.specs.declared.rules.Rules.{Rules}
 use Rattle.bng_steps.specs.declared.session.Service.{Service}
-use Rattle.bng_steps.specs.declared.session.Service.TheVariants.{Provisioned, Discovered}
+use Rattle.bng_steps.specs.declared.session.Service.TheVariants.{Provisioned, Linked}
 use Rattle.bng_steps.specs.declared.session.Session.{Session}
-use Rattle.bng_steps.specs.declared.way.Called.{Called}
+use Rattle.bng_steps.specs.declared.way.TunnelCall.{TunnelCall}
 use Rattle.bng_steps.specs.declared.way.Way.{Way}
 use Rattle.bng_steps.specs.declared.way.Way.TheVariants.{Port, Call}
 use Rattle.bng_steps.specs.Deed.{frame_outs, out, tunnel_outs}
@@ -206,7 +206,7 @@ tunnel_no_yes a to [] h = none_yes
 tunnel_no_yes a to (f ∷ frames) h =
     both_no_yes (out a Tunnel to f None ∷ []) (tunnel_outs a to frames) (one_no_yes (out a Tunnel to f None) (spelled_no_yes a to f h.0)) (tunnel_no_yes a to frames h.1)
 
-hangs_no_yes : (o : Option TunnelState) (c : Called) (a : At) (now : ℕ) (t : TunnelsState) (outs : List OutRecord) (t' : TunnelsState) → HangsUp o c a now t outs t' → NoYes outs
+hangs_no_yes : (o : Option TunnelState) (c : TunnelCall) (a : At) (now : ℕ) (t : TunnelsState) (outs : List OutRecord) (t' : TunnelsState) → HangsUp o c a now t outs t' → NoYes outs
 hangs_no_yes None c a now t outs t' h = same_no_yes [] outs h.0 none_yes
 hangs_no_yes (Some tunnel) c a now t outs t' h = same_no_yes (tunnel_outs a c.peer (parted tunnel c.call now).said.outs) outs h.1 (tunnel_no_yes a c.peer (parted tunnel c.call now).said.outs h.0)
 
@@ -225,7 +225,7 @@ on_no_yes (Call c) r a x outs h = same_no_yes [] outs h none_yes
 
 pub tells_no_yes : (v : Service) (r : Rules) (a : At) (x : Session) (outs : List OutRecord) → TellsEnd v r a x outs → NoYes outs
 tells_no_yes (Provisioned p) r a x outs h = same_no_yes [] outs h none_yes
-tells_no_yes (Discovered m) r a x outs h = on_no_yes x.way r a x outs h
+tells_no_yes (Linked m) r a x outs h = on_no_yes x.way r a x outs h
 
 -- Data of calls -----------------------------------------------------------------------------------------------------------
 
@@ -238,7 +238,7 @@ data_ppp d m is =
 -- A datagram is to the peer of a call, and a data message to the peer's numbers for its tunnel and the call, with this PPP frame. It is among
 -- those that the call's link says, and tells yes.
 pub record SaidOver (way : Way) (frames : List (List ℕ)) (to : Peer) (octets : List ℕ) : Type 0 where
-  pub called : Called
+  pub called : TunnelCall
   pub way_is : way ≡ Call called
   pub peer : called.peer ≡ to
   pub frame : List ℕ
@@ -250,10 +250,10 @@ short_is : (b : Bool) (o o' : OutRecord) → Contains (if b then o ∷ [] else [
 short_is true o o' c = only_one o o' c
 short_is false o o' (k, l, is) = absurd (omega arith)
 
-data_is : (a : At) (c : Called) (f : List ℕ) (o : OutRecord) → Contains (data_outs a c f) o → out a Tunnel c.peer (call_octets c f) None ≡ o
+data_is : (a : At) (c : TunnelCall) (f : List ℕ) (o : OutRecord) → Contains (data_outs a c f) o → out a Tunnel c.peer (call_octets c f) None ≡ o
 data_is a c f o h = short_is (nat_le (length (call_octets c f)) LONGEST) (out a Tunnel c.peer (call_octets c f) None) o h
 
-call_yes : (a : At) (c : Called) (frames : List (List ℕ)) (o : OutRecord) → Contains (call_outs a c frames) o → IsYesOver o.role o.frame → SaidOver (Call c) frames o.to o.frame
+call_yes : (a : At) (c : TunnelCall) (frames : List (List ℕ)) (o : OutRecord) → Contains (call_outs a c frames) o → IsYesOver o.role o.frame → SaidOver (Call c) frames o.to o.frame
 call_yes a c frames o h tells =
     let found = held (λ f. data_outs a c f) frames o h in
     let f = found.0 in
@@ -278,7 +278,7 @@ not_at a number mac n port frames o c tells =
     let is = framed a number port (session_frame mac port.mac n.0 found.0) o found.2 in
     not_tunnel number (sym tells.role_is ∙ is.role)
 
-not_over : (a : At) (c : Called) (frames : List (List ℕ)) (o : OutRecord) → Contains (call_outs a c frames) o → (port : ℕ) (mac : Mac) (n : ℕ) → IsYesOn port mac n o.role o.frame → ⊥
+not_over : (a : At) (c : TunnelCall) (frames : List (List ℕ)) (o : OutRecord) → Contains (call_outs a c frames) o → (port : ℕ) (mac : Mac) (n : ℕ) → IsYesOn port mac n o.role o.frame → ⊥
 not_over a c frames o h port mac n tells =
     let found = held (λ f. data_outs a c f) frames o h in
     let role = ap (λ (x : OutRecord). x.role) (data_is a c found.0 o found.2) in

@@ -11,7 +11,7 @@ use Rattle.bng_engine.proofs.Everywhere.{all_weaker}
 use Rattle.bng_sessions.specs.Listed.{values}
 use Rattle.bng_steps.specs.declared.session.Lease.{Lease}
 use Rattle.bng_steps.specs.declared.session.Service.{Service}
-use Rattle.bng_steps.specs.declared.session.Service.TheVariants.{Provisioned, Discovered}
+use Rattle.bng_steps.specs.declared.session.Service.TheVariants.{Provisioned, Linked}
 use Rattle.bng_steps.specs.declared.session.Session.{Session}
 use Rattle.bng_steps.specs.Lasting.{AreHoused, HasPhases, KeepsTerm}
 use Rattle.bng_steps.specs.Opening.{in_order, lease_from, numbered_after, opened_slots, provisioned, tenures_after}
@@ -27,7 +27,7 @@ use Rattle.bng_steps.proofs.Values.{behind, first, first_found, kept_from, secon
 -- a session whose term is live stays
 stays_in : (v : Service) → KeepsTerm v → leaves_in v ≡ false
 stays_in (Provisioned over) h = h
-stays_in (Discovered m) h = h.1
+stays_in (Linked m) h = h.1
 
 stays : (s : State) → AreHoused s → (t : Tenure) → Housed s t → Housed (settled s) t
 stays s h t housed live =

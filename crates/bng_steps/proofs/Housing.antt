@@ -13,15 +13,15 @@ use Rattle.bng_base.specs.declared.settings.NamedRange.{NamedRange}
 use Rattle.bng_grant.specs.Grants.{Gift}
 use Rattle.bng_ppp.proofs.FinishLaws.{finished_down}
 use Rattle.bng_ppp.proofs.TermLaws.{lasts, settled_live}
-use Rattle.bng_ppp.proofs.WholePhases.{phases_kept, term_while_opened}
+use Rattle.bng_ppp.proofs.LinkPhases.{phases_kept, term_while_opened}
 use Rattle.bng_ppp.specs.declared.rules.LinkRules.{LinkRules}
-use Rattle.bng_ppp.specs.declared.whole_input.WholeInput.{WholeInput}
-use Rattle.bng_ppp.specs.declared.whole_input.WholeInput.TheVariants.{Start, Timer, Close}
+use Rattle.bng_ppp.specs.declared.input.Input.{Input}
+use Rattle.bng_ppp.specs.declared.input.Input.TheVariants.{Start, Timer, Close}
 use Rattle.bng_ppp.specs.Granting.{goes_by_itself}
-use Rattle.bng_ppp.specs.LinkState.{is_down, is_opened}
+use Rattle.bng_ppp.specs.LcpState.{is_down, is_opened}
 use Rattle.bng_ppp.specs.Phases.{KeepsPhases, is_begun}
-use Rattle.bng_ppp.specs.PppRelation.{PppSaid, PppSteps}
-use Rattle.bng_ppp.specs.PppState.{PppState, is_open}
+use Rattle.bng_ppp.specs.LinkRelation.{LinkSaid, LinkSteps}
+use Rattle.bng_ppp.specs.LinkState.{LinkState, is_open}
 use Rattle.bng_ppp.specs.Verdict.{Settles}
 use Rattle.bng_sessions.specs.Sessions.{value_at, with_value}
 use Rattle.bng_sessions.proofs.SessionLaws.{value_at-with_value, value_at-with_other}
@@ -31,7 +31,7 @@ use Rattle.bng_steps.specs.declared.rules.Rules.{Rules}
 use Rattle.bng_base.specs.declared.item.At.{At}
 use Rattle.bng_steps.specs.declared.session.Lease.{Lease}
 use Rattle.bng_steps.specs.declared.session.Service.{Service}
-use Rattle.bng_steps.specs.declared.session.Service.TheVariants.{Provisioned, Discovered}
+use Rattle.bng_steps.specs.declared.session.Service.TheVariants.{Provisioned, Linked}
 use Rattle.bng_steps.specs.declared.session.Session.{Session}
 use Rattle.bng_steps.specs.Deed.{Deed, at_of, beside_of}
 use Rattle.bng_steps.specs.Discovery.{IsNewLink, new_session}
@@ -42,7 +42,7 @@ use Rattle.bng_steps.specs.Changes.{Found, changed_by, found_by, lease_after, pl
 use Rattle.bng_steps.specs.Lasting.{AreHoused, HasPhases, IsHousedIn, KeepsTerm}
 use Rattle.bng_steps.specs.Link.{Drives, LinkStep, Told, ended, ended_service, hears, nas_request, settles, told, lost_carrier}
 use Rattle.bng_steps.specs.Metered.{meters_of, plan_for}
-use Rattle.bng_steps.specs.Made.{Made}
+use Rattle.bng_steps.specs.LinkService.{LinkService}
 use Rattle.bng_steps.specs.Passing.{lapsed, looked, looked_on}
 use Rattle.bng_steps.specs.Questions.{open_in}
 use Rattle.bng_steps.specs.State.{Beside, State, with_driven, with_ended, with_session, beside_at}
@@ -68,12 +68,12 @@ none_kept (Some cause) = refl
 -- Links ------------------------------------------------------------------------------------------------------------------
 
 -- a step of a link keeps its phases, a live term lasts until the step tells its end, and LCP that finished is not Opened
-record LinkKeeps (old : PppState) (says : PppSaid) (new : PppState) : Type 0 where
+record LinkKeeps (old : LinkState) (says : LinkSaid) (new : LinkState) : Type 0 where
   phases : KeepsPhases old → KeepsPhases new
   lasting : old.live ≡ true → says.term_ended ≡ None → new.live ≡ true
   finished : says.finished ≡ true → is_opened new.lcp.lcp.state ≡ false
 
-by_itself : (r : LinkRules) (what : WholeInput) (now : ℕ) (random : List ℕ) (old : PppState) (says : PppSaid) (new : PppState) → goes_by_itself what ≡ true → PppSteps r what now random old says new → LinkKeeps old says new
+by_itself : (r : LinkRules) (what : Input) (now : ℕ) (random : List ℕ) (old : LinkState) (says : LinkSaid) (new : LinkState) → goes_by_itself what ≡ true → LinkSteps r what now random old says new → LinkKeeps old says new
 by_itself r what now random old says new itself h = record {
   phases = λ keeps. phases_kept r now random what old says new keeps h;
   lasting = lasts r now random what old says new h itself;
@@ -81,14 +81,14 @@ by_itself r what now random old says new itself h = record {
 }
 
 -- a link on which a term is live has not finished
-unfinished : (says : PppSaid) (new : PppState) → (says.finished ≡ true → is_opened new.lcp.lcp.state ≡ false) → KeepsPhases new → new.live ≡ true → says.finished ≡ false
+unfinished : (says : LinkSaid) (new : LinkState) → (says.finished ≡ true → is_opened new.lcp.lcp.state ≡ false) → KeepsPhases new → new.live ≡ true → says.finished ≡ false
 unfinished says new shut keeps live =
     elim says.finished as (λ (b : Bool). says.finished ≡ b → b ≡ false) [
       | true ↦ λ e. not_both (is_opened new.lcp.lcp.state) (term_while_opened new keeps live) (shut e)
       | false ↦ λ e. refl
     ] refl
 
-new_phases : (limit : ℕ) (random : List ℕ) (l : PppState) → IsNewLink limit random l → KeepsPhases l
+new_phases : (limit : ℕ) (random : List ℕ) (l : LinkState) → IsNewLink limit random l → KeepsPhases l
 new_phases limit random l h =
     let idle : is_begun l.auth ≡ false = ap is_begun h.auth in
     let initial : is_opened l.lcp.lcp.state ≡ false = ap (λ m. is_opened m.state) h.lcp in
@@ -109,7 +109,7 @@ record SessionKeeps (x : Session) : Type 0 where
 kept_at : (s : State) (n : ℕ) (x : Session) → value_at s.sessions n ≡ Some x → AreHoused s → SessionKeeps x
 kept_at s n x at h = record { phases = h.phases n x at; lasting = λ l leased. h.lasting n x l at leased }
 
-lasting_in : (v : Service) (m : Made) → v ≡ Discovered m → KeepsTerm v → (m.link.live ≡ true) × (m.ended ≡ false)
+lasting_in : (v : Service) (m : LinkService) → v ≡ Linked m → KeepsTerm v → (m.link.live ≡ true) × (m.ended ≡ false)
 lasting_in v m is h = subst KeepsTerm is h
 
 module _ (r : Rules) (a : At) (beside : Beside) (x x' : Session) (outs : List OutRecord) (cause : Option ℕ) (beside' : Beside) (Steps : LinkStep) (h : Drives r a beside x Steps outs cause x' beside') where
@@ -142,7 +142,7 @@ module _ (r : Rules) (a : At) (beside : Beside) (x x' : Session) (outs : List Ou
 
 ended_phases : (v : Service) → HasPhases v → HasPhases (ended_service v)
 ended_phases (Provisioned over) h = tt
-ended_phases (Discovered m) h = h
+ended_phases (Linked m) h = h
 
 ended_keeps : (x : Session) → SessionKeeps x → SessionKeeps (ended x)
 ended_keeps x h = record { phases = ended_phases x.service h.phases; lasting = λ l leased. absurd (none_some l leased) }
@@ -428,7 +428,7 @@ module _ (r : Rules) (s : State) (limited : Bool) (d : Deed) (t : Told) (h : Jud
       subst (λ (o : Option Ip4). Settles true true r.link o t.text d.entry.moment d.entry.item.random old turn) leased
       (subst (λ (b : Bool). Settles true b r.link t.lease t.text d.entry.moment d.entry.item.random old turn) accepted
       (subst (λ (b : Bool). Settles b t.yes r.link t.lease t.text d.entry.moment d.entry.item.random old turn) asks h.drives.steps.settles)) in
-      ap (λ (l : PppState). l.live) h.drives.steps.state ∙ settled_live r.link a t.text d.entry.moment d.entry.item.random old turn told_so
+      ap (λ (l : LinkState). l.live) h.drives.steps.state ∙ settled_live r.link a t.text d.entry.moment d.entry.item.random old turn told_so
 
   -- the session with its new term
   begun_keeps : (a : Ip4) (l : Lease) → t.yes ≡ true → t.lease ≡ Some a → AreHoused s → SessionKeeps (record h.after { lease = Some l })

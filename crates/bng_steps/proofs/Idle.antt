@@ -7,11 +7,11 @@ use Rattle.bng_base.specs.declared.address.SessionNo.{SessionNo}
 use Rattle.bng_sessions.specs.Sessions.{Sessions, value_at}
 use Rattle.bng_sessions.specs.Listed.{values}
 use Rattle.bng_steps.specs.declared.session.Session.{Session}
-use Rattle.bng_steps.specs.declared.terms.Running.{Running}
+use Rattle.bng_steps.specs.declared.terms.TermRow.{TermRow}
 use Rattle.bng_steps.specs.Listing.{does_pass, passing_in}
-use Rattle.bng_steps.specs.Made.{Question}
+use Rattle.bng_steps.specs.LinkService.{Question}
 use Rattle.bng_steps.specs.Questions.{does_wait, open_of}
-use Rattle.bng_steps.specs.Running.{TermsView, has_ended, tenures_in, whole}
+use Rattle.bng_steps.specs.TermRows.{TermsView, has_ended, tenures_in, whole}
 use Rattle.bng_steps.specs.Serving.{AreAsking, AreLeaving, asks}
 use Rattle.bng_steps.specs.State.{State, leaves, reaped}
 use Rattle.bng_steps.proofs.Circuits.{no_length}
@@ -35,11 +35,11 @@ is_something xs false e h none = false≢true (e ∙ eq-eqb (length xs) 0 none)
 -- Terms ------------------------------------------------------------------------------------------------------------------
 
 -- none is counted among those that ended where none of them is there
-pub none_over_counted : (rows : List Running) → filter has_ended rows ≡ [] → count_by has_ended rows ≡ 0
+pub none_over_counted : (rows : List TermRow) → filter has_ended rows ≡ [] → count_by has_ended rows ≡ 0
 none_over_counted rows none = sym (length-filter has_ended rows) ∙ ap length none
 
 -- the engine's terms of rows have ended where the rows' have
-pub rows_none_over : (rows : List Running) → ended_from rows ≡ [] → filter has_ended rows ≡ []
+pub rows_none_over : (rows : List TermRow) → ended_from rows ≡ [] → filter has_ended rows ≡ []
 rows_none_over [] e = refl
 rows_none_over (r ∷ rows) e =
     elim (has_ended r) as (λ b. has_ended r ≡ b → cond b (r ∷ filter has_ended rows) (filter has_ended rows) ≡ []) [
@@ -47,7 +47,7 @@ rows_none_over (r ∷ rows) e =
       | false ↦ λ over. rows_none_over rows (let rest : ended_from rows ≡ [] = cc in rest)
     ] refl
 
-pub no_rows : (rows : List Running) → tenures_in rows ≡ [] → rows ≡ []
+pub no_rows : (rows : List TermRow) → tenures_in rows ≡ [] → rows ≡ []
 no_rows [] e = refl
 no_rows (r ∷ rows) e = absurd (let never : ⊥ = cc in never)
 

@@ -10,10 +10,10 @@ use Rattle.std.proofs.lemmas.List.Sums.{sum_by-cons}
 use Rattle.bng_engine.specs.Lists.{one_if}
 use Rattle.bng_engine.specs.Terms.{Key, keys}
 use Rattle.bng_engine.specs.Views.{Row, new_row}
-use Rattle.bng_steps.specs.declared.terms.Running.{Running}
+use Rattle.bng_steps.specs.declared.terms.TermRow.{TermRow}
 use Rattle.bng_steps.specs.Opening.{circuit_at, tenure_from, tenures_after}
 use Rattle.bng_steps.specs.Protocol.{key_in, term_in}
-use Rattle.bng_steps.specs.Running.{AreRising, has_ended, row_from, rows_in, tenure_in, tenures_in}
+use Rattle.bng_steps.specs.TermRows.{AreRising, has_ended, row_from, rows_in, tenure_in, tenures_in}
 use Rattle.bng_steps.specs.Tenures.{Tenure, is_over}
 use Rattle.bng_steps.proofs.RowSums.{KeysRise, rows_rise}
 use Rattle.bng_steps.proofs.SameKeys.{keys_of_tenures, over_count}
@@ -27,12 +27,12 @@ next circuits found n k k' e at =
     ap (circuits_from circuits n) e ∙ flat_map-cons (circuit_at circuits) n (range_with_len (n + 1) k') ∙ ap (λ (cs : List Static). cs ++ circuits_from circuits (n + 1) k') at
 
 -- a number that no circuit has
-pub none_next : (now serial : ℕ) (circuits : List Static) (n k k' : ℕ) (rows : List Running) (all : List Tenure) → k ≡ suc k' → circuit_at circuits n ≡ [] → tenures_in rows ++ tenures_after now serial (circuits_from circuits n k) ≡ all
+pub none_next : (now serial : ℕ) (circuits : List Static) (n k k' : ℕ) (rows : List TermRow) (all : List Tenure) → k ≡ suc k' → circuit_at circuits n ≡ [] → tenures_in rows ++ tenures_after now serial (circuits_from circuits n k) ≡ all
     → tenures_in rows ++ tenures_after now serial (circuits_from circuits (n + 1) k') ≡ all
 none_next now serial circuits n k k' rows all e at so_far = ap (λ (cs : List Static). tenures_in rows ++ tenures_after now serial cs) (sym (next circuits [] n k k' e at)) ∙ so_far
 
 -- and one that a circuit has
-pub one_next : (now serial : ℕ) (circuits : List Static) (n k k' : ℕ) (rows : List Running) (all : List Tenure) (c : Static) (r : Running) → k ≡ suc k' → circuit_at circuits n ≡ c ∷ [] → tenure_in r ≡ tenure_from now c (serial + 1)
+pub one_next : (now serial : ℕ) (circuits : List Static) (n k k' : ℕ) (rows : List TermRow) (all : List Tenure) (c : Static) (r : TermRow) → k ≡ suc k' → circuit_at circuits n ≡ c ∷ [] → tenure_in r ≡ tenure_from now c (serial + 1)
     → tenures_in rows ++ tenures_after now serial (circuits_from circuits n k) ≡ all → tenures_in (rows ++ r ∷ []) ++ tenures_after now (serial + 1) (circuits_from circuits (n + 1) k') ≡ all
 one_next now serial circuits n k k' rows all c r e at is so_far =
     let rest = tenures_after now (serial + 1) (circuits_from circuits (n + 1) k') in
@@ -43,14 +43,14 @@ one_next now serial circuits n k k' rows all c r e at is so_far =
     ∙ so_far
 
 -- nothing was carried for a term that begins
-abbrev pub AreNew : List Running → Type 0
-AreNew rows = AllByRecursion (λ (r : Running). r.carried ≡ empty_book) rows
+abbrev pub AreNew : List TermRow → Type 0
+AreNew rows = AllByRecursion (λ (r : TermRow). r.carried ≡ empty_book) rows
 
-pub new_more : (rows : List Running) (r : Running) → AreNew rows → r.carried ≡ empty_book → AreNew (rows ++ r ∷ [])
+pub new_more : (rows : List TermRow) (r : TermRow) → AreNew rows → r.carried ≡ empty_book → AreNew (rows ++ r ∷ [])
 new_more [] r h is = (is, tt)
 new_more (q ∷ rows) r h is = (h.0, new_more rows r h.1 is)
 
-pub new_rows : (rows : List Running) → AreNew rows → rows_in rows ≡ map new_row (keys (map term_in (tenures_in rows)))
+pub new_rows : (rows : List TermRow) → AreNew rows → rows_in rows ≡ map new_row (keys (map term_in (tenures_in rows)))
 new_rows [] h = refl
 new_rows (r ∷ rows) h =
     ap (λ b. let row : Row = record { key = (row_from r).key; carried = b } in row ∷ rows_in rows) h.0
@@ -66,12 +66,12 @@ rise : (now n : ℕ) (cs : List Static) → KeysRise (map key_in (tenures_after 
 rise now n [] = tt
 rise now n (c ∷ cs) = (above now (n + 1) (n + 1) cs (omega arith), rise now (n + 1) cs)
 
-pub circuits_rise : (now n : ℕ) (cs : List Static) (rows : List Running) → tenures_in rows ≡ tenures_after now n cs → AreRising rows
+pub circuits_rise : (now n : ℕ) (cs : List Static) (rows : List TermRow) → tenures_in rows ≡ tenures_after now n cs → AreRising rows
 circuits_rise now n cs rows e = rows_rise rows (subst KeysRise (sym (keys_of_tenures rows ∙ ap (λ (ts : List Tenure). map key_in ts) e)) (rise now n cs))
 
 all_live : (now n : ℕ) (cs : List Static) → count_by is_over (tenures_after now n cs) ≡ 0
 all_live now n [] = refl
 all_live now n (c ∷ cs) = omega (arith, sum_by-cons (λ (t : Tenure). one_if (is_over t)) (tenure_from now c (n + 1)) (tenures_after now (n + 1) cs), all_live now (n + 1) cs)
 
-pub circuits_live : (now n : ℕ) (cs : List Static) (rows : List Running) → tenures_in rows ≡ tenures_after now n cs → 0 ≡ count_by has_ended rows
+pub circuits_live : (now n : ℕ) (cs : List Static) (rows : List TermRow) → tenures_in rows ≡ tenures_after now n cs → 0 ≡ count_by has_ended rows
 circuits_live now n cs rows e = sym (over_count rows ∙ ap (count_by is_over) e ∙ all_live now n cs)

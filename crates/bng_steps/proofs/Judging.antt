@@ -7,12 +7,12 @@ use Rattle.bng_discovery.specs.declared.answers.Answer.TheVariants as answer
 use Rattle.bng_discovery.specs.declared.answers.ErrorTag.TheVariants.{AcSystemError}
 use Rattle.bng_discovery.specs.declared.port.PortRules.{PortRules}
 use Rattle.bng_discovery.specs.Table.{table, first_row}
-use Rattle.bng_steps.specs.declared.answering.Reply.{Reply}
-use Rattle.bng_steps.specs.declared.answering.Reply.TheVariants.{Make, Refuse}
+use Rattle.bng_steps.specs.declared.answering.DiscoveryReply.{DiscoveryReply}
+use Rattle.bng_steps.specs.declared.answering.DiscoveryReply.TheVariants.{Make, Refuse}
 use Rattle.bng_steps.specs.declared.session.Session.{Session}
 use Rattle.bng_steps.specs.State.{State}
 use Rattle.bng_steps.specs.Discovery.{IsVacancy, repeated, host_uniq_of}
-use Rattle.bng_steps.specs.Replying.{IsAnswer, IsReply}
+use Rattle.bng_steps.specs.Replying.{IsAnswer, IsDiscoveryReply}
 use Rattle.bng_steps.proofs.Rows.{other_answer, refused, again_if_known}
 use Rattle.bng_steps.proofs.Vacating.{vacancy_of}
 use Rattle.bng_steps.proofs.Values.{none_some, same_some}
@@ -40,12 +40,12 @@ module _ (s : State) (number : ℕ) (offers : PortRules) (p : PppoeFrame) (tags 
       (v, (is, other_answer offers p tags a known (is_some v) (row_known a row) not_make))
 
   -- a new session, or none where there may be none more
-  pub make_or_refuse : (reply : Reply) → Some answer.Make ≡ first_row (table offers p tags (is_some found) true) → ((n : SessionNo) → reply ≡ Make n → IsVacancy s (Some n.0))
-      → ((reply ≡ Refuse AcSystemError) × IsVacancy s None) ⊎ ((n : SessionNo) × (reply ≡ Make n)) → IsReply reply s number offers p tags
+  pub make_or_refuse : (reply : DiscoveryReply) → Some answer.Make ≡ first_row (table offers p tags (is_some found) true) → ((n : SessionNo) → reply ≡ Make n → IsVacancy s (Some n.0))
+      → ((reply ≡ Refuse AcSystemError) × IsVacancy s None) ⊎ ((n : SessionNo) × (reply ≡ Make n)) → IsDiscoveryReply reply s number offers p tags
   make_or_refuse reply row make (inl (is, full)) =
-      subst (λ (x : Reply). IsReply x s number offers p tags) (sym is) (None, (full, refused offers p tags known (row_known answer.Make row)))
+      subst (λ (x : DiscoveryReply). IsDiscoveryReply x s number offers p tags) (sym is) (None, (full, refused offers p tags known (row_known answer.Make row)))
   make_or_refuse reply row make (inr (n, is)) =
-      subst (λ (x : Reply). IsReply x s number offers p tags) (sym is) (make n is, row_known answer.Make row)
+      subst (λ (x : DiscoveryReply). IsDiscoveryReply x s number offers p tags) (sym is) (make n is, row_known answer.Make row)
 
   -- the PADS is sent again only where there is a session
   pub never_again : Some answer.Again ≡ first_row (table offers p tags (is_some found) true) → found ≡ None → ⊥

@@ -3,12 +3,12 @@ use Rattle.std.proofs.Common.{◌≡◌, inl, inr, ℕ, Bool, true, false, List,
 use Rattle.bng_base.specs.declared.item.Entry.{Entry}
 use Rattle.bng_base.specs.declared.item.OutRecord.{OutRecord}
 use Rattle.bng_ppp.specs.declared.rules.LinkRules.{LinkRules}
-use Rattle.bng_ppp.specs.declared.whole_input.WholeInput.{WholeInput}
-use Rattle.bng_ppp.specs.declared.whole_input.WholeInput.TheVariants.{Start, Frame, Timer, Verdict, Close, Lost}
+use Rattle.bng_ppp.specs.declared.input.Input.{Input}
+use Rattle.bng_ppp.specs.declared.input.Input.TheVariants.{Start, Frame, Timer, Verdict, Close, Lost}
 use Rattle.bng_ppp.specs.Layers.{Turn}
-use Rattle.bng_ppp.specs.PppRelation.{PppGoes, PppSaid, PppSteps, ended_by}
-use Rattle.bng_ppp.specs.PppState.{PppState}
-use Rattle.bng_ppp.specs.WholeTimers.{IsLossCause}
+use Rattle.bng_ppp.specs.LinkRelation.{LinkGoes, LinkSaid, LinkSteps, ended_by}
+use Rattle.bng_ppp.specs.LinkState.{LinkState}
+use Rattle.bng_ppp.specs.LinkTimers.{IsLossCause}
 use Rattle.bng_term.specs.Lifetimes.{is_over}
 use Rattle.bng_steps.specs.State.{Beside}
 use Rattle.bng_steps.specs.declared.rules.Rules.{Rules}
@@ -32,18 +32,18 @@ ended_known true true ended cause is = is
 ended_known true false true cause is = inl refl
 ended_known true false false cause is = tt
 
-loss_known : (old : PppState) (now cause : ℕ) → IsLossCause old now cause → IsCause cause
+loss_known : (old : LinkState) (now cause : ℕ) → IsLossCause old now cause → IsCause cause
 loss_known old now cause (inl (finishes, is)) = inl is
 loss_known old now cause (inr (goes_on, is)) = inr (inl is)
 
-module _ (r : LinkRules) (now : ℕ) (random : List ℕ) (old : PppState) (t : Turn) (cause : Option ℕ) where
+module _ (r : LinkRules) (now : ℕ) (random : List ℕ) (old : LinkState) (t : Turn) (cause : Option ℕ) where
   none_known : cause ≡ None → IsKnown cause
   none_known is = subst IsKnown (sym is) tt
 
   by_known : (n : ℕ) → IsCause n → cause ≡ ended_by t.link.live t.left t.ended n → IsKnown cause
   by_known n known is = subst IsKnown (sym is) (ended_known t.link.live t.left t.ended n known)
 
-  goes_known : (what : WholeInput) → PppGoes r what now random old t cause → IsKnown cause
+  goes_known : (what : Input) → LinkGoes r what now random old t cause → IsKnown cause
   goes_known Start (steps, is) = none_known is
   goes_known (Frame octets) (frame, is) = by_known 1 (inl refl) is
   goes_known Timer (reminds, (n, loss, is)) = by_known n (loss_known old now n loss) is
@@ -51,13 +51,13 @@ module _ (r : LinkRules) (now : ℕ) (random : List ℕ) (old : PppState) (t : T
   goes_known Close (steps, is) = none_known is
   goes_known Lost (steps, is) = none_known is
 
-steps_known : (r : LinkRules) (what : WholeInput) (now : ℕ) (random : List ℕ) (old : PppState) (says : PppSaid) (new : PppState) → PppSteps r what now random old says new → IsKnown says.term_ended
-steps_known r what now random old says new h = subst IsKnown (sym (ap (λ (x : PppSaid). x.term_ended) h.said)) (goes_known r now random old h.turn h.cause what h.goes)
+steps_known : (r : LinkRules) (what : Input) (now : ℕ) (random : List ℕ) (old : LinkState) (says : LinkSaid) (new : LinkState) → LinkSteps r what now random old says new → IsKnown says.term_ended
+steps_known r what now random old says new h = subst IsKnown (sym (ap (λ (x : LinkSaid). x.term_ended) h.said)) (goes_known r now random old h.turn h.cause what h.goes)
 
 module _ (r : Rules) (e : Entry) where
   module _ (a : At) (beside : Beside) (x x' : Session) (outs : List OutRecord) (cause : Option ℕ) (beside' : Beside) where
     -- a step of a link that was told this, and of one that hears these octets
-    pub told_known : (what : WholeInput) → Drives r a beside x (told r e what) outs cause x' beside' → IfSome cause IsCause
+    pub told_known : (what : Input) → Drives r a beside x (told r e what) outs cause x' beside' → IfSome cause IsCause
     told_known what h = subst IsKnown (sym h.closes) (steps_known r.link what e.moment e.item.random h.made.link h.says h.link h.steps)
 
     pub heard_known : (octets : List ℕ) → Drives r a beside x (hears r e octets) outs cause x' beside' → IfSome cause IsCause

@@ -5,12 +5,12 @@ use Rattle.std.proofs.lemmas.List.Elements.{All-contains, filter_passes}
 use Rattle.std.proofs.lemmas.List.Filters.{length-filter_both, sum_by-filter_both}
 use Rattle.std.proofs.lemmas.List.Sums.{length-filter, sum_by-cons, sum_by_push}
 use Rattle.bng_base.specs.declared.address.SessionNo.{SessionNo}
-use Rattle.bng_ppp.specs.PppState.{is_open}
+use Rattle.bng_ppp.specs.LinkState.{is_open}
 use Rattle.bng_sessions.specs.Sessions.{Sessions, value_at, with_value, without}
 use Rattle.bng_sessions.specs.Listed.{values}
 use Rattle.bng_sessions.proofs.SessionLaws.{value_at-with_value, value_at-with_other, value_at-without, value_at-without_other, sum-with_value, sum-without}
 use Rattle.bng_steps.specs.declared.session.Service.{Service}
-use Rattle.bng_steps.specs.declared.session.Service.TheVariants.{Provisioned, Discovered}
+use Rattle.bng_steps.specs.declared.session.Service.TheVariants.{Provisioned, Linked}
 use Rattle.bng_steps.specs.declared.session.Session.{Session}
 use Rattle.bng_steps.specs.Listing.{AreListed, IsLowestPassing, does_pass, passing_in, with_listed, without_listed}
 use Rattle.bng_steps.specs.Questions.{open_in}
@@ -166,7 +166,7 @@ module _ (test : Session → Bool) (s : Sessions Session) (x : Session) (numbers
 -- a session that has ended asks nothing
 ended_asks : (v : Service) → leaves_in v ≡ true → is_some (open_in v) ≡ false
 ended_asks (Provisioned p) h = refl
-ended_asks (Discovered m) h = ap (λ (b : Bool). is_some (cond (not b && is_open m.link.auth) m.question None)) h
+ended_asks (Linked m) h = ap (λ (b : Bool). is_some (cond (not b && is_open m.link.auth) m.question None)) h
 
 pub leaves_asks : (x : Session) → leaves x ≡ true → asks x ≡ false
 leaves_asks x h = ended_asks x.service h
@@ -174,7 +174,7 @@ leaves_asks x h = ended_asks x.service h
 -- and is not young
 ended_young : (v : Service) → leaves_in v ≡ true → is_young_in v ≡ false
 ended_young (Provisioned p) h = refl
-ended_young (Discovered m) h = ap (λ (b : Bool). not b && not m.link.lcp.kept.was_opened) h
+ended_young (Linked m) h = ap (λ (b : Bool). not b && not m.link.lcp.kept.was_opened) h
 
 not_young : (b : Bool) → (b && false) ≡ false
 not_young true = refl

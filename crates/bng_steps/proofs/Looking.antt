@@ -5,9 +5,9 @@ use Rattle.std.specs.FinMap.{get, same_map, nat_cmp-IsAntisymmetric}
 use Rattle.std.proofs.lemmas.Bool.{cases_eq, false≢true}
 use Rattle.bng_base.specs.declared.item.Entry.{Entry}
 use Rattle.bng_base.specs.declared.item.OutRecord.{OutRecord}
-use Rattle.bng_ppp.specs.declared.whole_input.WholeInput.{WholeInput}
-use Rattle.bng_ppp.specs.declared.whole_input.WholeInput.TheVariants.{Timer, Close}
-use Rattle.bng_ppp.specs.PppRelation.{PppSteps}
+use Rattle.bng_ppp.specs.declared.input.Input.{Input}
+use Rattle.bng_ppp.specs.declared.input.Input.TheVariants.{Timer, Close}
+use Rattle.bng_ppp.specs.LinkRelation.{LinkSteps}
 use Rattle.bng_sessions.specs.Sessions.{NoneShares, Sessions, value_at, with_value}
 use Rattle.bng_sessions.proofs.SessionLaws.{value_at-with_value, value_at-with_other}
 use Rattle.bng_lns.specs.Tunnels.{TunnelsState}
@@ -16,14 +16,14 @@ use Rattle.bng_steps.specs.declared.rules.Rules.{Rules}
 use Rattle.bng_base.specs.declared.item.At.{At}
 use Rattle.bng_steps.specs.declared.session.Lease.{Lease}
 use Rattle.bng_steps.specs.declared.session.Service.{Service}
-use Rattle.bng_steps.specs.declared.session.Service.TheVariants.{Provisioned, Discovered}
+use Rattle.bng_steps.specs.declared.session.Service.TheVariants.{Provisioned, Linked}
 use Rattle.bng_steps.specs.declared.session.Session.{Session}
 use Rattle.bng_steps.specs.Deed.{at_of}
 use Rattle.bng_steps.specs.Driven.{Driven}
 use Rattle.bng_steps.specs.Indexed.{address_of}
 use Rattle.bng_steps.specs.Link.{Drives, told}
 use Rattle.bng_steps.specs.Passing.{cause_at, lapsed, looked, looked_on, passed_at}
-use Rattle.bng_steps.specs.Running.{KeepSums, TermsView, closed_rows, whole}
+use Rattle.bng_steps.specs.TermRows.{KeepSums, TermsView, closed_rows, whole}
 use Rattle.bng_steps.specs.Serving.{KeepsLease}
 use Rattle.bng_steps.specs.State.{Beside, State, beside_at, made_one, with_driven, with_session}
 use Rattle.bng_steps.specs.Timed.{ClosedLink, LookedOnce, LostTerm, RemindedOnce}
@@ -38,8 +38,8 @@ use Rattle.bng_steps.proofs.Timing.{more_sent}
 -- A session's term -----------------------------------------------------------------------------------------------------
 
 -- a step of its link leaves a session where it is
-driven_placed : (r : Rules) (a : At) (now : ℕ) (random : List ℕ) (what : WholeInput) (beside : Beside) (x x' : Session) (beside' : Beside) (outs outs' : List OutRecord) (cause : Option ℕ)
-    → Driven r a (PppSteps r.link what now random) beside x cause x' beside' outs outs' → IsPlaced r x.way → IsPlaced r x'.way
+driven_placed : (r : Rules) (a : At) (now : ℕ) (random : List ℕ) (what : Input) (beside : Beside) (x x' : Session) (beside' : Beside) (outs outs' : List OutRecord) (cause : Option ℕ)
+    → Driven r a (LinkSteps r.link what now random) beside x cause x' beside' outs outs' → IsPlaced r x.way → IsPlaced r x'.way
 driven_placed r a now random what beside x x' beside' outs outs' cause d there =
     subst (λ (y : Session). IsPlaced r y.way) (sym d.drives.session) (way_placed r d.drives.says.finished x.way there)
 
@@ -47,43 +47,43 @@ driven_placed r a now random what beside x x' beside' outs outs' cause d there =
 module _ (r : Rules) (a : At) (now : ℕ) (random : List ℕ) (beside : Beside) (x x' : Session) (beside' : Beside) (outs outs' : List OutRecord) where
   closed_placed : (v : Service) → ClosedLink v r a now random beside x x' beside' outs outs' → IsPlaced r x.way → IsPlaced r x'.way
   closed_placed (Provisioned over) h there = subst (λ (y : Session). IsPlaced r y.way) (sym h.0) there
-  closed_placed (Discovered m) (o, d) there = driven_placed r a now random Close beside x x' beside' outs outs' o d there
+  closed_placed (Linked m) (o, d) there = driven_placed r a now random Close beside x x' beside' outs outs' o d there
 
   closed_bare : (v : Service) → ClosedLink v r a now random beside x x' beside' outs outs' → x.lease ≡ None → x'.lease ≡ None
   closed_bare (Provisioned over) h bare = ap (λ (y : Session). y.lease) h.0 ∙ bare
-  closed_bare (Discovered m) (o, d) bare = ap (λ (y : Session). y.lease) d.drives.session ∙ ap (kept_lease d.drives.says.term_ended) bare ∙ none_kept d.drives.says.term_ended
+  closed_bare (Linked m) (o, d) bare = ap (λ (y : Session). y.lease) d.drives.session ∙ ap (kept_lease d.drives.says.term_ended) bare ∙ none_kept d.drives.says.term_ended
 
 -- where there is a link, what it did is this; where there is none, nothing was done
 module _ (r : Rules) (a : At) (now : ℕ) (random : List ℕ) (beside : Beside) (x x' : Session) (beside' : Beside) (outs outs' : List OutRecord) where
-  pub link_closed : (v : Service) → made_one v ≡ 1 → (o : Option ℕ) → Driven r a (PppSteps r.link Close now random) beside x o x' beside' outs outs' → ClosedLink v r a now random beside x x' beside' outs outs'
+  pub link_closed : (v : Service) → made_one v ≡ 1 → (o : Option ℕ) → Driven r a (LinkSteps r.link Close now random) beside x o x' beside' outs outs' → ClosedLink v r a now random beside x x' beside' outs outs'
   link_closed (Provisioned over) made o d = absurd (omega (arith, made))
-  link_closed (Discovered m) made o d = (o, d)
+  link_closed (Linked m) made o d = (o, d)
 
   -- and it sent one frame at most, where a term had been live
   pub closed_few : (v : Service) → KeepsLease x.service x.lease → IsSome x.lease → ClosedLink v r a now random beside (lapsed x) x' beside' outs outs' → length outs' ≤ length outs + 1
   closed_few (Provisioned over) keeps some h = omega (arith, ap length h.2)
-  closed_few (Discovered m) keeps some (none, d) =
+  closed_few (Linked m) keeps some (none, d) =
       let most = leased_by_close r a now random beside (lapsed x) d.more none x' beside' d.drives x.lease keeps some in
       omega (arith, most, length-append outs d.more, ap length d.outs_are)
 
-  pub link_reminded : (t t' : TermsView) (v : Service) → made_one v ≡ 1 → (cause : Option ℕ) × Driven r a (PppSteps r.link Timer now random) beside x cause x' beside' outs outs' × (t' ≡ record t { rows = closed_rows x.lease cause t.rows })
+  pub link_reminded : (t t' : TermsView) (v : Service) → made_one v ≡ 1 → (cause : Option ℕ) × Driven r a (LinkSteps r.link Timer now random) beside x cause x' beside' outs outs' × (t' ≡ record t { rows = closed_rows x.lease cause t.rows })
       → RemindedOnce v r a now random beside x x' beside' t t' outs outs'
   link_reminded t t' (Provisioned over) made h = absurd (omega (arith, made))
-  link_reminded t t' (Discovered m) made h = h
+  link_reminded t t' (Linked m) made h = h
 
 module _ (r : Rules) (a : At) (now : ℕ) (random : List ℕ) (beside : Beside) (x : Session) where
   pub none_closed : (outs : List OutRecord) (v : Service) → made_one v ≡ 0 → ClosedLink v r a now random beside x x beside outs outs
   none_closed outs (Provisioned over) none = (refl, refl, refl)
-  none_closed outs (Discovered m) none = absurd (omega (arith, none))
+  none_closed outs (Linked m) none = absurd (omega (arith, none))
 
   pub none_reminded : (t : TermsView) (outs : List OutRecord) (v : Service) → made_one v ≡ 0 → RemindedOnce v r a now random beside x x beside t t outs outs
   none_reminded t outs (Provisioned over) none = (refl, refl, refl, refl)
-  none_reminded t outs (Discovered m) none = absurd (omega (arith, none))
+  none_reminded t outs (Linked m) none = absurd (omega (arith, none))
 
 -- a session that lapses keeps its link, and needs no lease for it
 pub keeps_lapsed : (v : Service) (lease : Option Lease) → KeepsLease v lease → KeepsLease v None
 keeps_lapsed (Provisioned over) lease keeps = tt
-keeps_lapsed (Discovered m) lease keeps = (keeps.0, λ some. absurd (false≢true some))
+keeps_lapsed (Linked m) lease keeps = (keeps.0, λ some. absurd (false≢true some))
 
 -- a term that ended leaves the session where it is, and the address with nobody
 module _ (r : Rules) (a : At) (now : ℕ) (random : List ℕ) (beside : Beside) (x x' : Session) (beside' : Beside) (t t' : TermsView) (outs outs' : List OutRecord) (cause : ℕ) where
@@ -128,15 +128,15 @@ module _ (r : Rules) (a : At) (now : ℕ) (random : List ℕ) (passed : ℕ) (be
 module _ (r : Rules) (a : At) (now : ℕ) (random : List ℕ) (beside : Beside) (x x' : Session) (beside' : Beside) (t t' : TermsView) (outs outs' : List OutRecord) where
   pub reminded_placed : (v : Service) → RemindedOnce v r a now random beside x x' beside' t t' outs outs' → IsPlaced r x.way → IsPlaced r x'.way
   reminded_placed (Provisioned over) h there = subst (λ (y : Session). IsPlaced r y.way) (sym h.0) there
-  reminded_placed (Discovered m) (cause, d, closes) there = driven_placed r a now random Timer beside x x' beside' outs outs' cause d there
+  reminded_placed (Linked m) (cause, d, closes) there = driven_placed r a now random Timer beside x x' beside' outs outs' cause d there
 
   pub reminded_apart : (v : Service) (ss : Sessions Session) → RemindedOnce v r a now random beside x x' beside' t t' outs outs' → NoneShares address_of ss x → NoneShares address_of ss x'
   reminded_apart (Provisioned over) ss h alone = shares_as ss x x' (ap address_of h.0) alone
-  reminded_apart (Discovered m) ss (cause, d, closes) alone = shares_kept ss x x' d.drives.says.term_ended (ap (λ (y : Session). y.lease) d.drives.session) alone
+  reminded_apart (Linked m) ss (cause, d, closes) alone = shares_kept ss x x' d.drives.says.term_ended (ap (λ (y : Session). y.lease) d.drives.session) alone
 
   pub reminded_sums : (v : Service) → RemindedOnce v r a now random beside x x' beside' t t' outs outs' → KeepSums t t'
   reminded_sums (Provisioned over) h = subst (λ (u : TermsView). KeepSums t u) (sym h.2) (keeps_same t)
-  reminded_sums (Discovered m) (cause, d, closes) = closed_keeps t t' x.lease cause closes
+  reminded_sums (Linked m) (cause, d, closes) = closed_keeps t t' x.lease cause closes
 
 -- The state then -------------------------------------------------------------------------------------------------------
 
@@ -153,13 +153,13 @@ with_twice ss n x y =
     ap (λ m. record { shard = ss.shard; by_number = m }) (same_map nat_cmp_total nat_cmp-IsAntisymmetric (with_value (with_value ss n x) n y).by_number (with_value ss n y).by_number each)
 
 -- a step at another moment that is the same, of an entry
-pub drives_from : (r : Rules) (e : Entry) (a b : At) (what : WholeInput) (now : ℕ) (random : List ℕ) (asked : ℕ) (u : TunnelsState) (x x' : Session) (cause : Option ℕ) (asked' : ℕ) (u' : TunnelsState) (outs outs' : List OutRecord)
-    (d : Driven r a (PppSteps r.link what now random) (beside_at now asked u) x cause x' (beside_at now asked' u') outs outs')
+pub drives_from : (r : Rules) (e : Entry) (a b : At) (what : Input) (now : ℕ) (random : List ℕ) (asked : ℕ) (u : TunnelsState) (x x' : Session) (cause : Option ℕ) (asked' : ℕ) (u' : TunnelsState) (outs outs' : List OutRecord)
+    (d : Driven r a (LinkSteps r.link what now random) (beside_at now asked u) x cause x' (beside_at now asked' u') outs outs')
     → e.moment ≡ now → e.item.random ≡ random → b ≡ a → Drives r b (beside_at e.moment asked u) x (told r e what) d.more cause x' (beside_at e.moment asked' u')
 drives_from r e a b what now random asked u x x' cause asked' u' outs outs' d moment octets same =
     subst (λ (c : At). Drives r c (beside_at e.moment asked u) x (told r e what) d.more cause x' (beside_at e.moment asked' u')) (sym same)
-    (subst (λ (m : ℕ). Drives r a (beside_at m asked u) x (PppSteps r.link what m e.item.random) d.more cause x' (beside_at m asked' u')) (sym moment)
-    (subst (λ (o : List ℕ). Drives r a (beside_at now asked u) x (PppSteps r.link what now o) d.more cause x' (beside_at now asked' u')) (sym octets) d.drives))
+    (subst (λ (m : ℕ). Drives r a (beside_at m asked u) x (LinkSteps r.link what m e.item.random) d.more cause x' (beside_at m asked' u')) (sym moment)
+    (subst (λ (o : List ℕ). Drives r a (beside_at now asked u) x (LinkSteps r.link what now o) d.more cause x' (beside_at now asked' u')) (sym octets) d.drives))
 
 -- the live term of a session that stands there ended
 module _ (r : Rules) (a : At) (now : ℕ) (random : List ℕ) (s s' : State) (t t' : TermsView) (n : ℕ) (x x' : Session) (asked' : ℕ) (u' : TunnelsState) (outs outs' : List OutRecord)
@@ -178,7 +178,7 @@ module _ (r : Rules) (a : At) (now : ℕ) (random : List ℕ) (s s' : State) (t 
       ∙ ap (λ (y : Session). with_driven (whole s t) n x.lease (Some cause) y behind) same
       ∙ ap (λ (b : Beside). with_driven (whole s t) n x.lease (Some cause) (lapsed x) b) count in
       ([], λ e moment octets at. (refl, state), still ∙ sym (append-nil outs))
-  loses (Discovered m) cause ((none, d), closes) =
+  loses (Linked m) cause ((none, d), closes) =
       let state = whole_driven s s' n x x' x.lease t t' refl (Some cause) behind next closes in (
         d.more,
         λ e moment octets at. (
@@ -205,7 +205,7 @@ module _ (r : Rules) (a : At) (now : ℕ) (random : List ℕ) (s s' : State) (t 
   looks_there (Some cause) h = loses x.service cause h
 
 module _ (r : Rules) (a : At) (now : ℕ) (random : List ℕ) (s s' : State) (t t₁ t₂ : TermsView) (n : ℕ) (x x₁ x₂ : Session) (cause : Option ℕ) (asked₁ asked₂ : ℕ) (u₁ u₂ : TunnelsState) (outs outs₁ outs₂ : List OutRecord)
-    (driven : Driven r a (PppSteps r.link Timer now random) (beside_at now s.asked s.tunnels) x cause x₁ (beside_at now asked₁ u₁) outs outs₁) (closes : t₁ ≡ record t { rows = closed_rows x.lease cause t.rows })
+    (driven : Driven r a (LinkSteps r.link Timer now random) (beside_at now s.asked s.tunnels) x cause x₁ (beside_at now asked₁ u₁) outs outs₁) (closes : t₁ ≡ record t { rows = closed_rows x.lease cause t.rows })
     (next : s' ≡ record (with_session s n x₂) { asked = asked₂; tunnels = u₂ }) where
   -- once the link has taken Timer
   abbrev reminded : State
@@ -251,7 +251,7 @@ module _ (r : Rules) (a : At) (now : ℕ) (random : List ℕ) (s s' : State) (t 
   pub timed : (v : Service) → RemindedOnce v r a now random (beside_at now s.asked s.tunnels) x x₁ (beside_at now asked₁ u₁) t t₁ outs outs₁
       → LookedOnce (cause_at (passed_at s.passed x₁.number) x₁.lease now) r a now random (passed_at s.passed x₁.number) (beside_at now asked₁ u₁) x₁ x₂ (beside_at now asked₂ u₂) t₁ t₂ outs₁ outs₂
       → (more : List OutRecord) × ((e : Entry) → e.moment ≡ now → e.item.random ≡ random → at_of (whole s t) e ≡ a → TimesIn v r e (whole s t) n x more (whole s' t₂)) × (outs₂ ≡ outs ++ more)
-  timed (Discovered m) (cause, driven, closes) once = times r a now random s s' t t₁ t₂ n x x₁ x₂ cause asked₁ asked₂ u₁ u₂ outs outs₁ outs₂ driven closes next once
+  timed (Linked m) (cause, driven, closes) once = times r a now random s s' t t₁ t₂ n x x₁ x₂ cause asked₁ asked₂ u₁ u₂ outs outs₁ outs₂ driven closes next once
   timed (Provisioned over) (same, count, stay, still) once =
       let by_session = subst (λ (z : Session). LookedOnce (cause_at (passed_at s.passed z.number) z.lease now) r a now random (passed_at s.passed z.number) (beside_at now asked₁ u₁) z x₂ (beside_at now asked₂ u₂) t₁ t₂ outs₁ outs₂) same once in
       let by_count = subst (λ (b : Beside). LookedOnce (cause_at (passed_at s.passed x.number) x.lease now) r a now random (passed_at s.passed x.number) b x x₂ (beside_at now asked₂ u₂) t₁ t₂ outs₁ outs₂) count by_session in

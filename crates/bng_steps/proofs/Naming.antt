@@ -4,11 +4,11 @@ use Rattle.bng_base.specs.declared.address.Mac.{Mac}
 use Rattle.bng_base.specs.declared.address.Peer.{Peer}
 use Rattle.bng_base.specs.declared.address.SessionNo.{SessionNo}
 use Rattle.bng_l2tp_call.specs.CallState.{CallState}
-use Rattle.bng_steps.specs.Made.{Made}
+use Rattle.bng_steps.specs.LinkService.{LinkService}
 use Rattle.bng_steps.specs.declared.session.Service.{Service}
-use Rattle.bng_steps.specs.declared.session.Service.TheVariants.{Provisioned, Discovered}
+use Rattle.bng_steps.specs.declared.session.Service.TheVariants.{Provisioned, Linked}
 use Rattle.bng_steps.specs.declared.session.Session.{Session}
-use Rattle.bng_steps.specs.declared.way.Called.{Called}
+use Rattle.bng_steps.specs.declared.way.TunnelCall.{TunnelCall}
 use Rattle.bng_steps.specs.declared.way.Way.{Way}
 use Rattle.bng_steps.specs.declared.way.Way.TheVariants.{Port, Call}
 use Rattle.bng_steps.specs.State.{circuit_in, circuit_of, is_call_of, is_on, lives_in, where_on, where_over}
@@ -29,9 +29,9 @@ call_number peer tunnel (Some y) x is =
     elim (is_call_of peer tunnel y) as (λ b. cond b (Some y) None ≡ Some x → Some y ≡ Some x) [ true ↦ λ e. e | false ↦ λ e. absurd (cc) ] is
 
 -- a session that lives has a link
-pub living : (v : Service) → lives_in v ≡ true → (m : Made) × (v ≡ Discovered m)
+pub living : (v : Service) → lives_in v ≡ true → (m : LinkService) × (v ≡ Linked m)
 living (Provisioned over) e = absurd (cc)
-living (Discovered m) e = (m, refl)
+living (Linked m) e = (m, refl)
 
 -- the circuit of a session stays, whether it has ended on its way or not
 pub way_stays : (b : Bool) (way : Way) (n : SessionNo) → circuit_in (way_after b way) n ≡ circuit_in way n
@@ -40,15 +40,15 @@ way_stays true (Port number mac) n = refl
 way_stays true (Call c) n = refl
 
 -- and that of a call
-pub call_stays : (x : Session) (c : Called) (call : CallState) → x.way ≡ Call c → circuit_of (turned x c call) ≡ circuit_of x
+pub call_stays : (x : Session) (c : TunnelCall) (call : CallState) → x.way ≡ Call c → circuit_of (turned x c call) ≡ circuit_of x
 call_stays x c call is = ap (λ (w : Way). circuit_in w x.number) (sym is)
 
-made_or : Made → Service → Made
+made_or : LinkService → Service → LinkService
 made_or m (Provisioned over) = m
-made_or m (Discovered n) = n
+made_or m (Linked n) = n
 
 -- what discovery made of a session is one
-pub same_made : (v : Service) (m n : Made) → v ≡ Discovered m → v ≡ Discovered n → m ≡ n
+pub same_made : (v : Service) (m n : LinkService) → v ≡ Linked m → v ≡ Linked n → m ≡ n
 unfolding made_or
 same_made v m n e f = ap (made_or m) (sym e ∙ f)
 

@@ -13,19 +13,19 @@ use Rattle.bng_coa.specs.Admission.{IsRequestIn}
 use Rattle.bng_coa.specs.Wants.{wanted}
 use Rattle.bng_radius_wire.specs.Grammar.{Packet}
 use Rattle.bng_sessions.specs.Sessions.{value_at}
-use Rattle.bng_steps.specs.declared.changes.Answer.{Answer}
+use Rattle.bng_steps.specs.declared.changes.ChangeAnswer.{ChangeAnswer}
 use Rattle.bng_steps.specs.declared.changes.Meant.{Meant}
 use Rattle.bng_steps.specs.declared.rules.Rules.{Rules}
 use Rattle.bng_steps.specs.declared.session.Lease.{Lease}
 use Rattle.bng_steps.specs.declared.session.Service.{Service}
-use Rattle.bng_steps.specs.declared.session.Service.TheVariants.{Provisioned, Discovered}
+use Rattle.bng_steps.specs.declared.session.Service.TheVariants.{Provisioned, Linked}
 use Rattle.bng_steps.specs.declared.session.Session.{Session}
 use Rattle.bng_steps.specs.Changes.{AnswersRequest, Applies, Found, HearsChange, Obeys, answer_to, changed_by, changed_to, found_by, lease_after, meant, meters_after, place_of, recast_by, refusal_of, verdict_by, with_change}
 use Rattle.bng_steps.specs.Deed.{at_of, handled, ignored}
 use Rattle.bng_steps.specs.Doing.{DoesWith}
 use Rattle.bng_steps.specs.Link.{admin_reset}
 use Rattle.bng_steps.specs.Protocol.{entry_of}
-use Rattle.bng_steps.specs.Running.{TermsView, row_recast_by, tenures_in, whole}
+use Rattle.bng_steps.specs.TermRows.{TermsView, row_recast_by, tenures_in, whole}
 use Rattle.bng_steps.specs.Serving.{KeepsLease}
 use Rattle.bng_steps.specs.State.{State, with_session}
 use Rattle.bng_steps.specs.Tenures.{Tenure}
@@ -70,7 +70,7 @@ module _ (r : Rules) (s : State) (p : Packet) (f : Found) (k : Meant) (is : foun
 -- a session keeps its lease as well under another profile
 keeps_any : (v : Service) (l k : Lease) → KeepsLease v (Some l) → KeepsLease v (Some k)
 keeps_any (Provisioned over) l k keeps = keeps
-keeps_any (Discovered m) l k keeps = keeps
+keeps_any (Linked m) l k keeps = keeps
 
 pub keeps_leased : (x : Session) (l k : Lease) → x.lease ≡ Some l → KeepsLease x.service x.lease → KeepsLease x.service (Some k)
 keeps_leased x l k leased keeps = keeps_any x.service l k (subst (KeepsLease x.service) leased keeps)
@@ -161,6 +161,6 @@ pub answers_it : (r : Rules) (s : State) (item : Item) (p : Packet) → IsReques
 answers_it r s item p is e same = inr (p, subst (λ (i : Item). IsRequestIn p i.frame.payload) (sym same) is, refl)
 
 -- by the number of the request
-pub its_answer : (r : Rules) (s : State) (item : Item) (p : Packet) (v : ChangeVerdict) → v ≡ verdict_by (refusal_of r p) (found_by r s p.attributes) → (e : Entry) → e.item ≡ item → (let q : Answer = record { ask = item.ask; verdict = v } in q) ≡ answer_to r s e p
+pub its_answer : (r : Rules) (s : State) (item : Item) (p : Packet) (v : ChangeVerdict) → v ≡ verdict_by (refusal_of r p) (found_by r s p.attributes) → (e : Entry) → e.item ≡ item → (let q : ChangeAnswer = record { ask = item.ask; verdict = v } in q) ≡ answer_to r s e p
 its_answer r s item p v is e same =
-    ap (λ (n : ℕ). let q : Answer = record { ask = n; verdict = v } in q) (ap (λ (i : Item). i.ask) (sym same)) ∙ ap (λ (w : ChangeVerdict). let q : Answer = record { ask = e.item.ask; verdict = w } in q) is
+    ap (λ (n : ℕ). let q : ChangeAnswer = record { ask = n; verdict = v } in q) (ap (λ (i : Item). i.ask) (sym same)) ∙ ap (λ (w : ChangeVerdict). let q : ChangeAnswer = record { ask = e.item.ask; verdict = w } in q) is

@@ -40,31 +40,31 @@ use Rattle.bng_l2tp_wire.specs.View.{Said}
 use Rattle.bng_l2tp_wire.specs.Messages.{ControlMessage, DataMessage}
 use Rattle.bng_l2tp_wire.proofs.Exact.{one_control, one_data}
 use Rattle.bng_lcp.specs.Ask.{Ask}
-use Rattle.bng_lcp.specs.declared.configure_request.SentRequest.{SentRequest}
+use Rattle.bng_lcp.specs.declared.configure_request.SentLcpRequest.{SentLcpRequest}
 use Rattle.bng_lns.specs.Framed.{call_frame}
 use Rattle.bng_lns.specs.Timed.{reminded, stopped}
 use Rattle.bng_lns.specs.Tunnels.{Answer as TunnelAnswer, NoTunnel, NoRequest, Steps, TunnelsState, tunnel_at}
-use Rattle.bng_ppp.specs.declared.whole_input.WholeInput.{WholeInput}
-use Rattle.bng_ppp.specs.declared.whole_input.WholeInput.TheVariants.{Start, Timer, Close}
-use Rattle.bng_ppp.specs.LinkState.{IsFirstAsk}
-use Rattle.bng_ppp.specs.PppRelation.{PppSaid}
-use Rattle.bng_ppp.specs.PppState.{PppState}
-use Rattle.bng_ppp.proofs.WholeOutcome.{ppp_steps_one}
+use Rattle.bng_ppp.specs.declared.input.Input.{Input}
+use Rattle.bng_ppp.specs.declared.input.Input.TheVariants.{Start, Timer, Close}
+use Rattle.bng_ppp.specs.LcpState.{IsFirstAsk}
+use Rattle.bng_ppp.specs.LinkRelation.{LinkSaid}
+use Rattle.bng_ppp.specs.LinkState.{LinkState}
+use Rattle.bng_ppp.proofs.LinkOutcome.{link_steps_one}
 use Rattle.bng_pppoe_wire.proofs.TagLaws.{one_tags}
 use Rattle.bng_radius_wire.specs.Grammar.{Packet}
 use Rattle.bng_radius_wire.proofs.Exact.{one_packet}
 use Rattle.bng_sessions.specs.Sessions.{value_at, IsLowestVacant}
 use Rattle.bng_verdict.specs.Verdicts.{Saying, IsVerdict}
 use Rattle.bng_verdict.proofs.One.{one_verdict}
-use Rattle.bng_steps.specs.Made.{Made, Question}
-use Rattle.bng_steps.specs.declared.changes.Answer.{Answer as Answered}
+use Rattle.bng_steps.specs.LinkService.{LinkService, Question}
+use Rattle.bng_steps.specs.declared.changes.ChangeAnswer.{ChangeAnswer as Answered}
 use Rattle.bng_steps.specs.declared.rules.Rules.{Rules}
 use Rattle.bng_base.specs.declared.item.At.{At}
 use Rattle.bng_steps.specs.declared.session.Lease.{Lease}
 use Rattle.bng_steps.specs.declared.session.Service.{Service}
-use Rattle.bng_steps.specs.declared.session.Service.TheVariants.{Provisioned, Discovered}
+use Rattle.bng_steps.specs.declared.session.Service.TheVariants.{Provisioned, Linked}
 use Rattle.bng_steps.specs.declared.session.Session.{Session}
-use Rattle.bng_steps.specs.declared.way.Called.{Called}
+use Rattle.bng_steps.specs.declared.way.TunnelCall.{TunnelCall}
 use Rattle.bng_steps.specs.declared.way.Way.{Way}
 use Rattle.bng_steps.specs.declared.way.Way.TheVariants.{Port, Call}
 use Rattle.bng_steps.specs.State.{Beside, State, beside_at, call_of, lives_in, session_of, with_driven, with_ended, with_session, with_tunnels}
@@ -94,13 +94,13 @@ use Rattle.bng_steps.proofs.Values.{none_some}
 same_found : {X : Type 0} (o : Option X) (x y : X) → o ≡ Some x → o ≡ Some y → x ≡ y
 same_found o x y e f = same_Some x y (sym e ∙ f)
 
-one_call : (c d : Called) → Call c ≡ Call d → c ≡ d
+one_call : (c d : TunnelCall) → Call c ≡ Call d → c ≡ d
 one_call c d e = cc
 
 -- Links -----------------------------------------------------------------------------------------------------------------
 
 abbrev IsOne : LinkStep → Type 0
-IsOne Goes = (old new next : PppState) (says other : PppSaid) → Goes old says new → Goes old other next → (says ≡ other) × (new ≡ next)
+IsOne Goes = (old new next : LinkState) (says other : LinkSaid) → Goes old says new → Goes old other next → (says ≡ other) × (new ≡ next)
 
 -- a session that ends is told so in one way
 ends_with_one : (r : Rules) (a : At) (number : ℕ) (mac : Mac) (n : SessionNo) (outs outs' : List OutRecord) → EndsWith r a number mac n outs → EndsWith r a number mac n outs' → outs ≡ outs'
@@ -109,7 +109,7 @@ ends_with_one r a number mac n outs outs' h k =
     let offers = same_found _ h.offers k.offers h.at.offers_are k.at.offers_are in
     h.outs_are ∙ ap (λ (q : AccessPort). padt_outs a number mac n q h.offers) port ∙ ap (λ (o : PortRules). padt_outs a number mac n k.port o) offers ∙ sym k.outs_are
 
-hangs_one : (o : Option TunnelState) (c : Called) (a : At) (now : ℕ) (t : TunnelsState) (outs outs' : List OutRecord) (u u' : TunnelsState) → HangsUp o c a now t outs u → HangsUp o c a now t outs' u'
+hangs_one : (o : Option TunnelState) (c : TunnelCall) (a : At) (now : ℕ) (t : TunnelsState) (outs outs' : List OutRecord) (u u' : TunnelsState) → HangsUp o c a now t outs u → HangsUp o c a now t outs' u'
     → (outs ≡ outs') × (u ≡ u')
 hangs_one None c a now t outs outs' u u' h k = (h.0 ∙ sym k.0, h.1 ∙ sym k.1)
 hangs_one (Some tunnel) c a now t outs outs' u u' h k = (h.1 ∙ sym k.1, h.2 ∙ sym k.2)
@@ -136,32 +136,32 @@ module _ (r : Rules) (a : At) (beside : Beside) (Goes : LinkStep) (one : IsOne G
   drives_one : Drives r a beside x Goes outs cause x' beside' → Drives r a beside x Goes outs' cause' x'' beside'' → (outs ≡ outs') × (x' ≡ x'') × (beside' ≡ beside'') × (cause ≡ cause')
   drives_one h k =
       let made = same_made x.service h.made k.made h.is_made k.is_made in
-      let steps : Goes h.made.link k.says k.link = subst (λ (m : Made). Goes m.link k.says k.link) (sym made) k.steps in
+      let steps : Goes h.made.link k.says k.link = subst (λ (m : LinkService). Goes m.link k.says k.link) (sym made) k.steps in
       let says = one h.made.link h.link k.link h.says k.says h.steps steps in
-      let first = says_one x.way r a x.number h.says.outs k.says.outs h.first k.first (ap (λ (s : PppSaid). s.outs) says.0) h.tells k.tells in
+      let first = says_one x.way r a x.number h.says.outs k.says.outs h.first k.first (ap (λ (s : LinkSaid). s.outs) says.0) h.tells k.tells in
       let parts : IsParted h.says.finished x.way r a beside.moment x.number beside.tunnels k.last k.tunnels =
-      subst (λ (s : PppSaid). IsParted s.finished x.way r a beside.moment x.number beside.tunnels k.last k.tunnels) (sym says.0) k.parts in
+      subst (λ (s : LinkSaid). IsParted s.finished x.way r a beside.moment x.number beside.tunnels k.last k.tunnels) (sym says.0) k.parts in
       let last = parted_one h.says.finished x.way r a beside.moment x.number beside.tunnels h.last k.last h.tunnels k.tunnels h.parts parts in (
         h.outs_are ∙ ap (λ (os : List OutRecord). os ++ h.last) first ∙ ap (λ (os : List OutRecord). k.first ++ os) last.0 ∙ sym k.outs_are,
-        h.session ∙ ap (λ (m : Made). after_link x m beside.asked h.says h.link) made ∙ ap (λ (l : PppState). after_link x k.made beside.asked h.says l) says.1
-            ∙ ap (λ (s : PppSaid). after_link x k.made beside.asked s k.link) says.0 ∙ sym k.session,
-        h.count ∙ ap (λ (s : PppSaid). beside_at beside.moment (asked_after beside.asked s.asked) h.tunnels) says.0
+        h.session ∙ ap (λ (m : LinkService). after_link x m beside.asked h.says h.link) made ∙ ap (λ (l : LinkState). after_link x k.made beside.asked h.says l) says.1
+            ∙ ap (λ (s : LinkSaid). after_link x k.made beside.asked s k.link) says.0 ∙ sym k.session,
+        h.count ∙ ap (λ (s : LinkSaid). beside_at beside.moment (asked_after beside.asked s.asked) h.tunnels) says.0
             ∙ ap (λ (t : TunnelsState). beside_at beside.moment (asked_after beside.asked k.says.asked) t) last.1 ∙ sym k.count,
-        h.closes ∙ ap (λ (s : PppSaid). s.term_ended) says.0 ∙ sym k.closes,
+        h.closes ∙ ap (λ (s : LinkSaid). s.term_ended) says.0 ∙ sym k.closes,
       )
 
-told_is_one : (r : Rules) (e : Entry) (input : WholeInput) → IsOne (told r e input)
-told_is_one r e input old new next says other h k = ppp_steps_one r.link e.moment e.item.random input old says other new next h k
+told_is_one : (r : Rules) (e : Entry) (input : Input) → IsOne (told r e input)
+told_is_one r e input old new next says other h k = link_steps_one r.link e.moment e.item.random input old says other new next h k
 
 frame_is_one : (r : Rules) (e : Entry) (octets : List ℕ) → IsOne (hears r e octets)
 frame_is_one r e octets old new next says other h k =
-    ppp_steps_one r.link e.moment e.item.random (frame_of octets) old says other new next
+    link_steps_one r.link e.moment e.item.random (frame_of octets) old says other new next
     (frame_steps r.link e.moment e.item.random old says new octets h)
     (frame_steps r.link e.moment e.item.random old other next octets k)
 
 verdict_is_one : (r : Rules) (e : Entry) (v : Told) → IsOne (settles r e v)
 verdict_is_one r e v old new next says other h k =
-    ppp_steps_one r.link e.moment e.item.random (verdict_of v) old says other new next
+    link_steps_one r.link e.moment e.item.random (verdict_of v) old says other new next
     (verdict_steps r.link e.moment e.item.random old says new v h)
     (verdict_steps r.link e.moment e.item.random old other next v k)
 
@@ -171,7 +171,7 @@ on_one (Call c) r a x outs outs' h k = h ∙ sym k
 
 tells_one : (v : Service) (r : Rules) (a : At) (x : Session) (outs outs' : List OutRecord) → TellsEnd v r a x outs → TellsEnd v r a x outs' → outs ≡ outs'
 tells_one (Provisioned p) r a x outs outs' h k = h ∙ sym k
-tells_one (Discovered m) r a x outs outs' h k = on_one x.way r a x outs outs' h k
+tells_one (Linked m) r a x outs outs' h k = on_one x.way r a x outs outs' h k
 
 -- Ticks and Ends --------------------------------------------------------------------------------------------------------
 
@@ -213,7 +213,7 @@ driven_equal s n lease cause cause' x y beside beside' causes same besides =
 -- a session's live term ends in one way
 loses_one : (v : Service) (cause : ℕ) (r : Rules) (e : Entry) (s : State) (n : ℕ) (x : Session) (outs outs' : List OutRecord) (s' s'' : State) → LosesTerm v cause r e s n x outs s' → LosesTerm v cause r e s n x outs' s'' → (outs ≡ outs') × (s' ≡ s'')
 loses_one (Provisioned over) cause r e s n x outs outs' s' s'' h k = (h.0 ∙ sym k.0, h.1 ∙ sym k.1)
-loses_one (Discovered m) cause r e s n x outs outs' s' s'' (after, none, beside, drives, is) (after', none', beside', drives', is') =
+loses_one (Linked m) cause r e s n x outs outs' s' s'' (after, none, beside, drives, is) (after', none', beside', drives', is') =
     let one = drives_one r (at_of s e) (beside_of s e) (told r e Close) (told_is_one r e Close) (lapsed x) outs outs' none none' after after' beside beside' drives drives' in
     (one.0, is ∙ driven_equal s n x.lease (Some cause) (Some cause) after after' beside beside' refl one.1 one.2 ∙ sym is')
 
@@ -226,7 +226,7 @@ module _ (r : Rules) (e : Entry) where
   -- and so is a deadline handled
   times_one : (v : Service) (s : State) (n : ℕ) (x : Session) (outs outs' : List OutRecord) (s' s'' : State) → TimesIn v r e s n x outs s' → TimesIn v r e s n x outs' s'' → (outs ≡ outs') × (s' ≡ s'')
   times_one (Provisioned over) s n x outs outs' s' s'' h k = looks_one (cause_at (passed_at s.passed x.number) x.lease e.moment) r e s n x outs outs' s' s'' h k
-  times_one (Discovered m) s n x outs outs' s' s'' h k =
+  times_one (Linked m) s n x outs outs' s' s'' h k =
       let one = drives_one r (at_of s e) (beside_of s e) (told r e Timer) (told_is_one r e Timer) x h.first k.first h.cause k.cause h.after k.after h.beside k.beside h.drives k.drives in
       let driven : with_driven s n x.lease h.cause h.after h.beside ≡ with_driven s n x.lease k.cause k.after k.beside =
       driven_equal s n x.lease h.cause k.cause h.after k.after h.beside k.beside one.3 one.1 one.2 in
@@ -315,10 +315,10 @@ vacancy_one s None (Some n) a b = absurd (not_vacant s n (a n b.of_shard) b.vaca
 vacancy_one s (Some n) None a b = absurd (not_vacant s n (b n a.of_shard) a.vacant)
 vacancy_one s (Some n) (Some m) a b = ap (λ (k : ℕ). Some k) (vacant_one s n m a b)
 
-ask_made : ℕ → List AuthKind → Option ℕ → AuthKind → Option ℕ → Option SentRequest → Ask
+ask_made : ℕ → List AuthKind → Option ℕ → AuthKind → Option ℕ → Option SentLcpRequest → Ask
 ask_made limit allowed mru auth magic sent = record { limit = limit; allowed = allowed; wanted = record { mru = mru; auth = auth; magic = magic }; sent = sent }
 
-asks_equal : (l m : ℕ) (xs ys : List AuthKind) (u v : Option ℕ) (a b : AuthKind) (g h : Option ℕ) (s t : Option SentRequest) → l ≡ m → xs ≡ ys → u ≡ v → a ≡ b → g ≡ h → s ≡ t → ask_made l xs u a g s ≡ ask_made m ys v b h t
+asks_equal : (l m : ℕ) (xs ys : List AuthKind) (u v : Option ℕ) (a b : AuthKind) (g h : Option ℕ) (s t : Option SentLcpRequest) → l ≡ m → xs ≡ ys → u ≡ v → a ≡ b → g ≡ h → s ≡ t → ask_made l xs u a g s ≡ ask_made m ys v b h t
 asks_equal l m xs ys u v a b g h s t p q r w x y = cc
 
 -- LCP's first Configure-Request asks for one thing
@@ -328,7 +328,7 @@ ask_one limit auth random a b x y =
     asks_equal a.limit b.limit a.allowed b.allowed a.wanted.mru b.wanted.mru a.wanted.auth b.wanted.auth a.wanted.magic b.wanted.magic a.sent b.sent
     (x.limited ∙ sym y.limited) (x.allowed ∙ sym y.allowed) (x.mru ∙ sym y.mru) (same_found (slice_get auth 0) a.wanted.auth b.wanted.auth x.first y.first) (x.magic ∙ sym y.magic) (x.unsent ∙ sym y.unsent)
 
-link_one : (limit : ℕ) (random : List ℕ) (a b : PppState) → IsNewLink limit random a → IsNewLink limit random b → a ≡ b
+link_one : (limit : ℕ) (random : List ℕ) (a b : LinkState) → IsNewLink limit random a → IsNewLink limit random b → a ≡ b
 link_one limit random a b x y =
     let lcp = x.lcp ∙ sym y.lcp in
     let ask = ask_one limit (Chap ∷ []) random a.lcp.ask b.lcp.ask x.ask y.ask in
@@ -439,7 +439,7 @@ module _ (r : Rules) (s : State) (e : Entry) (d d' : Deed) where
       let session = vacant_one s h.session k.session h.vacant k.vacant in
       let link = link_one 1492 e.item.random h.link k.link h.new k.new in
       let fresh : new_session h.session number p.src (host_uniq_of tags) h.link ≡ new_session k.session number p.src (host_uniq_of tags) k.link =
-      ap (λ (n : ℕ). new_session n number p.src (host_uniq_of tags) h.link) session ∙ ap (λ (l : PppState). new_session k.session number p.src (host_uniq_of tags) l) link in
+      ap (λ (n : ℕ). new_session n number p.src (host_uniq_of tags) h.link) session ∙ ap (λ (l : LinkState). new_session k.session number p.src (host_uniq_of tags) l) link in
       let starts : Drives r (at_of s e) (beside_of s e) (new_session h.session number p.src (host_uniq_of tags) h.link) (told r e Start) k.outs k.cause k.x k.beside =
       subst (λ (y : Session). Drives r (at_of s e) (beside_of s e) y (told r e Start) k.outs k.cause k.x k.beside) (sym fresh) k.starts in
       let one = drives_one r (at_of s e) (beside_of s e) (told r e Start) (told_is_one r e Start) (new_session h.session number p.src (host_uniq_of tags) h.link) h.outs k.outs h.cause k.cause h.x k.x h.beside k.beside h.starts starts in
@@ -489,7 +489,7 @@ module _ (r : Rules) (s : State) (e : Entry) (d d' : Deed) where
   data_one found info (fate, is, inr (stays, h)) (fate', is', inl (goes', k)) = absurd (stays (up_once (found_up s found) e.moment info fate fate' is is' ∙ goes'))
   data_one found info (fate, is, inr (stays, h)) (fate', is', inr (stays', k)) = only_one fate fate' (up_once (found_up s found) e.moment info fate fate' is is') h k
 
-  ppp_one : (n : ℕ) (x : Session) (made : Made) (octets : List ℕ) → HearsPpp r s e n x made octets d → HearsPpp r s e n x made octets d' → d ≡ d'
+  ppp_one : (n : ℕ) (x : Session) (made : LinkService) (octets : List ℕ) → HearsPpp r s e n x made octets d → HearsPpp r s e n x made octets d' → d ≡ d'
   ppp_one n x made octets (inl (over, h)) (inl (over', k)) = same_deed _ h k
   ppp_one n x made octets (inl (over, h)) (inr (live', outs', cause', x'', beside'', drives', k)) = absurd (false≢true (sym live' ∙ over))
   ppp_one n x made octets (inr (live, outs, cause, x', beside', drives, h)) (inl (over', k)) = absurd (false≢true (sym live ∙ over'))
@@ -498,7 +498,7 @@ module _ (r : Rules) (s : State) (e : Entry) (d d' : Deed) where
       same_handled outs outs' (with_driven s n x.lease cause x' beside') (with_driven s n x.lease cause' x'' beside'')
       (one.0, driven_equal s n x.lease cause cause' x' x'' beside' beside'' one.3 one.1 one.2) h k
 
-  padt_one : (x : Session) (made : Made) (p : PppoeFrame) → HearsPadt s e x made p d → HearsPadt s e x made p d' → d ≡ d'
+  padt_one : (x : Session) (made : LinkService) (p : PppoeFrame) → HearsPadt s e x made p d → HearsPadt s e x made p d' → d ≡ d'
   padt_one x made p (inl (over, h)) (inl (over', k)) = same_deed _ h k
   padt_one x made p (inl (over, h)) (inr (live', k)) = absurd (false≢true (sym live' ∙ over))
   padt_one x made p (inr (live, h)) (inl (over', k)) = absurd (false≢true (sym live ∙ over'))
@@ -506,10 +506,10 @@ module _ (r : Rules) (s : State) (e : Entry) (d d' : Deed) where
 
   control_one : (v : Service) (x : Session) (p : PppoeFrame) → HearsControl v r s e x p d → HearsControl v r s e x p d' → d ≡ d'
   control_one (Provisioned l) x p h k = same_deed _ h k
-  control_one (Discovered made) x p (inl (padt, h)) (inl (padt', k)) = padt_one x made p h k
-  control_one (Discovered made) x p (inl (padt, h)) (inr (other', k)) = absurd (false≢true (sym other' ∙ padt))
-  control_one (Discovered made) x p (inr (other, h)) (inl (padt', k)) = absurd (false≢true (sym other ∙ padt'))
-  control_one (Discovered made) x p (inr (other, h)) (inr (other', k)) = ppp_one p.session x made p.payload h k
+  control_one (Linked made) x p (inl (padt, h)) (inl (padt', k)) = padt_one x made p h k
+  control_one (Linked made) x p (inl (padt, h)) (inr (other', k)) = absurd (false≢true (sym other' ∙ padt))
+  control_one (Linked made) x p (inr (other, h)) (inl (padt', k)) = absurd (false≢true (sym other ∙ padt'))
+  control_one (Linked made) x p (inr (other, h)) (inr (other', k)) = ppp_one p.session x made p.payload h k
 
   named_one : (found : Option Session) (p : PppoeFrame) → HearsIn found r s e p d → HearsIn found r s e p d' → d ≡ d'
   named_one None p h k = same_deed _ h k
@@ -597,20 +597,20 @@ module _ (r : Rules) (s : State) (e : Entry) (d d' : Deed) where
       h k
 
   -- the call that an ICRQ asks for
-  makes_session_one : (v : Option ℕ) (unmade : Bool) (c : Called) (u next next' : State) → MakesSession v unmade c e.item.random u next → MakesSession v unmade c e.item.random u next' → next ≡ next'
+  makes_session_one : (v : Option ℕ) (unmade : Bool) (c : TunnelCall) (u next next' : State) → MakesSession v unmade c e.item.random u next → MakesSession v unmade c e.item.random u next' → next ≡ next'
   makes_session_one None unmade c u next next' h k = h ∙ sym k
   makes_session_one (Some n) true c u next next' h k = h ∙ sym k
   makes_session_one (Some n) false c u next next' (link, new, is) (link', new', is') =
-      is ∙ ap (λ (l : PppState). with_session u n (session_over n c l)) (link_one 1500 e.item.random link link' new new') ∙ sym is'
+      is ∙ ap (λ (l : LinkState). with_session u n (session_over n c l)) (link_one 1500 e.item.random link link' new new') ∙ sym is'
 
   -- what a message does to its call
-  turns_one : (opened over : Bool) (n : ℕ) (x : Session) (c : Called) (after : CallState) (u : State) (outs outs' : List OutRecord) (next next' : State)
+  turns_one : (opened over : Bool) (n : ℕ) (x : Session) (c : TunnelCall) (after : CallState) (u : State) (outs outs' : List OutRecord) (next next' : State)
       → TurnsCall opened over n x c after r u e outs next → TurnsCall opened over n x c after r u e outs' next' → (outs ≡ outs') × (next ≡ next')
   turns_one true over n x c after u outs outs' next next' h k =
       let link = link_one 1500 e.item.random h.link k.link h.new k.new in
-      let y : PppState → Session = λ l. linked_anew (turned x c after) l in
+      let y : LinkState → Session = λ l. linked_anew (turned x c after) l in
       let starts : Drives r (at_of u e) (beside_of u e) (y h.link) (told r e Start) outs' k.none k.connected k.beside =
-      subst (λ (l : PppState). Drives r (at_of u e) (beside_of u e) (y l) (told r e Start) outs' k.none k.connected k.beside) (sym link) k.starts in
+      subst (λ (l : LinkState). Drives r (at_of u e) (beside_of u e) (y l) (told r e Start) outs' k.none k.connected k.beside) (sym link) k.starts in
       let one = drives_one r (at_of u e) (beside_of u e) (told r e Start) (told_is_one r e Start) (y h.link) outs outs' h.none k.none h.connected k.connected h.beside k.beside h.starts starts in
       (one.0, h.next ∙ driven_equal u n x.lease (Some lost_carrier) (Some lost_carrier) h.connected k.connected h.beside k.beside refl one.1 one.2 ∙ sym k.next)
   turns_one false true n x c after u outs outs' next next' h k = (h.0 ∙ sym k.0, h.1 ∙ sym k.1)
@@ -633,7 +633,7 @@ module _ (r : Rules) (s : State) (e : Entry) (d d' : Deed) where
         let next = makes_session_one h.vacancy (h.step.said.ended || h.step.said.left_out) (called_over e.item.from number h.tunnel (call_after (fresh h.tunnel.secret (number_for h.vacancy)) m)) (stepped u e number h.step) h.next k.next h.makes moved in
         same_handled (step_outs u e h.step) (step_outs u e k.step) h.next k.next (ap (λ (w : TunnelStep). step_outs u e w) step, next) h.done k.done
 
-    abbrev AsTurned : Session → Called → TunnelStep → List OutRecord → State → Type 0
+    abbrev AsTurned : Session → TunnelCall → TunnelStep → List OutRecord → State → Type 0
     AsTurned x c step more next = TurnsCall step.said.opened step.said.ended m.session x c (call_after c.call m) r (stepped u e number step) e more next
 
     takes_one : (x : Session) → TakesForCall number said m x r u e d → TakesForCall number said m x r u e d' → d ≡ d'
@@ -641,9 +641,9 @@ module _ (r : Rules) (s : State) (e : Entry) (d d' : Deed) where
         let tunnel = same_found _ h.tunnel k.tunnel h.stands k.stands in
         let called = one_call h.called k.called (sym h.way_is ∙ k.way_is) in
         let step : h.step ≡ k.step =
-        h.is_step ∙ ap (λ (t : TunnelState). call_step t said h.called.call m e.moment) tunnel ∙ ap (λ (c : Called). call_step k.tunnel said c.call m e.moment) called ∙ sym k.is_step in
+        h.is_step ∙ ap (λ (t : TunnelState). call_step t said h.called.call m e.moment) tunnel ∙ ap (λ (c : TunnelCall). call_step k.tunnel said c.call m e.moment) called ∙ sym k.is_step in
         let moved : AsTurned x h.called h.step k.more k.next =
-        subst (λ (c : Called). AsTurned x c h.step k.more k.next) (sym called) (subst (λ (w : TunnelStep). AsTurned x k.called w k.more k.next) (sym step) k.turns) in
+        subst (λ (c : TunnelCall). AsTurned x c h.step k.more k.next) (sym called) (subst (λ (w : TunnelStep). AsTurned x k.called w k.more k.next) (sym step) k.turns) in
         let one = turns_one h.step.said.opened h.step.said.ended m.session x h.called (call_after h.called.call m) (stepped u e number h.step) h.more k.more h.next k.next h.turns moved in
         same_handled (step_outs u e h.step ++ h.more) (step_outs u e k.step ++ k.more) h.next k.next
         (ap (λ (w : TunnelStep). step_outs u e w ++ h.more) step ∙ ap (λ (os : List OutRecord). step_outs u e k.step ++ os) one.0, one.1) h.done k.done
@@ -681,10 +681,10 @@ module _ (r : Rules) (s : State) (e : Entry) (d d' : Deed) where
 
   over_one : (v : Service) (x : Session) (p : DataMessage) → HearsOver v r s e x p d → HearsOver v r s e x p d' → d ≡ d'
   over_one (Provisioned over) x p h k = same_deed _ h k
-  over_one (Discovered made) x p (inl (connected, h)) (inl (connected', k)) = ppp_one p.session x made p.ppp h k
-  over_one (Discovered made) x p (inl (connected, h)) (inr (waits', k)) = absurd (false≢true (sym waits' ∙ connected))
-  over_one (Discovered made) x p (inr (waits, h)) (inl (connected', k)) = absurd (false≢true (sym waits ∙ connected'))
-  over_one (Discovered made) x p (inr (waits, h)) (inr (waits', k)) = same_deed _ h k
+  over_one (Linked made) x p (inl (connected, h)) (inl (connected', k)) = ppp_one p.session x made p.ppp h k
+  over_one (Linked made) x p (inl (connected, h)) (inr (waits', k)) = absurd (false≢true (sym waits' ∙ connected))
+  over_one (Linked made) x p (inr (waits, h)) (inl (connected', k)) = absurd (false≢true (sym waits ∙ connected'))
+  over_one (Linked made) x p (inr (waits, h)) (inr (waits', k)) = same_deed _ h k
 
   for_one : (found : Option Session) (p : DataMessage) → HearsFor found r s e p d → HearsFor found r s e p d' → d ≡ d'
   for_one None p h k = same_deed _ h k

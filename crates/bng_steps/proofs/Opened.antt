@@ -21,15 +21,15 @@ use Rattle.bng_engine.specs.Views.{Row, ShardView, new_row}
 use Rattle.bng_engine.proofs.Everywhere.{all_mapped}
 use Rattle.bng_sessions.specs.Sessions.{IsNumberOf, Sessions}
 use Rattle.bng_sessions.specs.Listed.{values}
-use Rattle.bng_steps.specs.declared.changes.Answer.{Answer}
+use Rattle.bng_steps.specs.declared.changes.ChangeAnswer.{ChangeAnswer}
 use Rattle.bng_steps.specs.declared.rules.Rules.{Rules}
 use Rattle.bng_steps.specs.declared.session.Lease.{Lease}
 use Rattle.bng_steps.specs.declared.session.Session.{Session}
-use Rattle.bng_steps.specs.declared.terms.Running.{Running}
+use Rattle.bng_steps.specs.declared.terms.TermRow.{TermRow}
 use Rattle.bng_steps.specs.Placed.{ArePlaced, IsPlaced}
 use Rattle.bng_steps.specs.Opening.{in_order, lease_from, numbered_after, opened_slots, provisioned, tenure_from, tenures_after}
 use Rattle.bng_steps.specs.Protocol.{ShardState, opened as opened_shard, term_in}
-use Rattle.bng_steps.specs.Running.{AreTied, TermsView, tenure_in, tenures_in, whole}
+use Rattle.bng_steps.specs.TermRows.{AreTied, TermsView, tenure_in, tenures_in, whole}
 use Rattle.bng_steps.specs.State.{IsTermOf, State, port_at}
 use Rattle.bng_steps.specs.Tenures.{Tenure}
 use Rattle.bng_steps.proofs.Circuits.{ones}
@@ -93,12 +93,12 @@ in_order_count shard cs own =
     let one : Static → ℕ = λ _. 1 in
     sym (ones (in_order shard cs)) ∙ sum_in_order one shard cs (recursion_from_All (λ (c : Static). IsNumberOf shard c.session.0) cs own) ∙ ones cs
 
-pub opened_numbered : (shard now begun : ℕ) (cs : List Static) (rows : List Running) → All (λ c. IsNumberOf shard c.session.0) cs → begun ≡ length cs → tenures_in rows ≡ tenures_after now 0 (in_order shard cs)
-    → All (λ (r : Running). r.term.serial ≤ begun) rows
+pub opened_numbered : (shard now begun : ℕ) (cs : List Static) (rows : List TermRow) → All (λ c. IsNumberOf shard c.session.0) cs → begun ≡ length cs → tenures_in rows ≡ tenures_after now 0 (in_order shard cs)
+    → All (λ (r : TermRow). r.term.serial ≤ begun) rows
 opened_numbered shard now begun cs rows own all are =
     let count = in_order_count shard cs own in
     let low = numbered_up_to now 0 begun (in_order shard cs) (omega (arith, count, all)) in
-    All-from_recursion (λ (r : Running). r.term.serial ≤ begun) rows
+    All-from_recursion (λ (r : TermRow). r.term.serial ≤ begun) rows
     (all_mapped (λ (t : Tenure). t.term.serial ≤ begun) tenure_in rows (subst (AllByRecursion (λ (t : Tenure). t.term.serial ≤ begun)) (sym are) low))
 
 -- Addresses --------------------------------------------------------------------------------------------------------------
@@ -127,7 +127,7 @@ module _ (circuits : List Static) (apart : AllPairs (λ a b. a.address ≢ b.add
       (All-from_recursion (λ (b : Ip4). c.address ≢ b) (addresses cs) (away c all.0 (number c + 1) (omega arith) cs rising.1 all.1))
       (apart_among (number c + 1) cs rising.1 all.1)
 
-leases_of : (rows : List Running) → map (λ (r : Running). r.lease) rows ≡ map (λ (t : Tenure). t.address) (tenures_in rows)
+leases_of : (rows : List TermRow) → map (λ (r : TermRow). r.lease) rows ≡ map (λ (t : Tenure). t.address) (tenures_in rows)
 leases_of [] = refl
 leases_of (r ∷ rows) = ap (λ (bs : List Ip4). r.lease ∷ bs) (leases_of rows)
 
@@ -135,16 +135,16 @@ addresses_after : (now k : ℕ) (cs : List Static) → map (λ (t : Tenure). t.a
 addresses_after now k [] = refl
 addresses_after now k (c ∷ cs) = ap (λ (bs : List Ip4). c.address ∷ bs) (addresses_after now (k + 1) cs)
 
-pub opened_rows_apart : (shard now : ℕ) (cs : List Static) (rows : List Running) → AllPairs (λ a b. a.session ≢ b.session) cs → AllPairs (λ a b. a.address ≢ b.address) cs
-    → tenures_in rows ≡ tenures_after now 0 (in_order shard cs) → AllPairs (λ (b c : Running). b.lease ≢ c.lease) rows
+pub opened_rows_apart : (shard now : ℕ) (cs : List Static) (rows : List TermRow) → AllPairs (λ a b. a.session ≢ b.session) cs → AllPairs (λ a b. a.address ≢ b.address) cs
+    → tenures_in rows ≡ tenures_after now 0 (in_order shard cs) → AllPairs (λ (b c : TermRow). b.lease ≢ c.lease) rows
 opened_rows_apart shard now cs rows sessions apart are i j d lt within = λ same.
-    let leased : map (λ (r : Running). r.lease) rows ≡ addresses (in_order shard cs) =
+    let leased : map (λ (r : TermRow). r.lease) rows ≡ addresses (in_order shard cs) =
     leases_of rows ∙ ap (map (λ (t : Tenure). t.address)) are ∙ addresses_after now 0 (in_order shard cs) in
     let among = all_in_order (Contains cs) shard cs (recursion_from_All (Contains cs) cs (All-contains_itself cs)) in
-    let all : AllPairs (λ (b c : Ip4). b ≢ c) (map (λ (r : Running). r.lease) rows) =
+    let all : AllPairs (λ (b c : Ip4). b ≢ c) (map (λ (r : TermRow). r.lease) rows) =
     subst (AllPairs (λ (b c : Ip4). b ≢ c)) (sym leased) (apart_among cs apart (shard * 1024 + 1) (in_order shard cs) (rising_in_order shard cs (apart_of cs sessions)) among) in
-    let count = length-map rows (λ (r : Running). r.lease) in
-    all i j d.lease lt (omega (arith, within, count)) (get_or-map (λ (r : Running). r.lease) rows i d ∙ same ∙ sym (get_or-map (λ (r : Running). r.lease) rows j d))
+    let count = length-map rows (λ (r : TermRow). r.lease) in
+    all i j d.lease lt (omega (arith, within, count)) (get_or-map (λ (r : TermRow). r.lease) rows i d ∙ same ∙ sym (get_or-map (λ (r : TermRow). r.lease) rows j d))
 
 -- What a caller sees -----------------------------------------------------------------------------------------------------
 
@@ -164,7 +164,7 @@ opened_whole shard now profiles cs s t opened are none = λ i. record {
 
 module _ (r : Rules) (shard : ℕ) (cs : List Static) (now : ℕ) where
   -- the fields of a shard
-  abbrev pub shown : State → List Answer → List Row → List Book → List Entry → List OutRecord → ShardView ShardState Entry
+  abbrev pub shown : State → List ChangeAnswer → List Row → List Book → List Entry → List OutRecord → ShardView ShardState Entry
   shown s changed rows books journal outs = record {
     number = s.sessions.shard;
     state = record { rules = r; slots = s; changed = changed };
@@ -180,6 +180,6 @@ module _ (r : Rules) (shard : ℕ) (cs : List Static) (now : ℕ) where
   }
 
   -- those of one that was opened
-  pub opened_view : (s : State) (changed : List Answer) (rows : List Row) (books : List Book) (journal : List Entry) (outs : List OutRecord) → s ≡ opened_slots shard r.profiles cs now → changed ≡ []
+  pub opened_view : (s : State) (changed : List ChangeAnswer) (rows : List Row) (books : List Book) (journal : List Entry) (outs : List OutRecord) → s ≡ opened_slots shard r.profiles cs now → changed ≡ []
       → rows ≡ map new_row (keys (map term_in (tenures_after now 0 (in_order shard cs)))) → books ≡ replicate (length r.profiles) empty_book → journal ≡ [] → outs ≡ [] → shown s changed rows books journal outs ≡ opened_shard shard r cs now
   opened_view s changed rows books journal outs opened unchanged are nothing none no_outs = λ i. shown (opened i) (unchanged i) (are i) (nothing i) (none i) (no_outs i)

@@ -21,7 +21,7 @@ use Rattle.bng_forward.specs.Fates.{IsFrame, Carries}
 use Rattle.bng_forward.specs.Packets.{IsPassedOn}
 use Rattle.bng_pppoe_wire.proofs.Spelled.{six}
 use Rattle.bng_steps.specs.declared.rules.Rules.{Rules}
-use Rattle.bng_steps.specs.declared.way.Called.{Called}
+use Rattle.bng_steps.specs.declared.way.TunnelCall.{TunnelCall}
 use Rattle.bng_steps.specs.declared.way.Way.{Way}
 use Rattle.bng_steps.specs.declared.way.Way.TheVariants.{Port, Call}
 use Rattle.bng_steps.specs.State.{circuit_in}
@@ -136,7 +136,7 @@ module _ (x : Session) (l : Lease) (v : Ipv4) (before packet : List ℕ) (passed
       }
 
   -- over a call
-  spelled_over : (c : Called) → v.dst ≡ l.address → IsOutputOver c.peer (charge_of x l false v.total) Tunnel c.peer (call_frame c.far (to_peer c.call) packet)
+  spelled_over : (c : TunnelCall) → v.dst ≡ l.address → IsOutputOver c.peer (charge_of x l false v.total) Tunnel c.peer (call_frame c.far (to_peer c.call) packet)
   spelled_over c to = record {
     role_is = refl;
     to_is = refl;

@@ -18,28 +18,28 @@ use Rattle.bng_discovery.specs.declared.answers.Answer.{Answer}
 use Rattle.bng_discovery.specs.declared.answers.Answer.TheVariants.{Offer, Make, Again, Refuse, Ended, NoSession, Ignore}
 use Rattle.bng_discovery.specs.declared.port.PortRules.{PortRules}
 use Rattle.bng_lns.specs.Tunnels.{TunnelsState}
-use Rattle.bng_ppp.specs.declared.whole_input.WholeInput.{WholeInput}
-use Rattle.bng_ppp.specs.declared.whole_input.WholeInput.TheVariants.{Start, Timer, Close}
+use Rattle.bng_ppp.specs.declared.input.Input.{Input}
+use Rattle.bng_ppp.specs.declared.input.Input.TheVariants.{Start, Timer, Close}
 use Rattle.bng_ppp.specs.Claims.{Claim}
 use Rattle.bng_ppp.specs.Granting.{is_frame}
-use Rattle.bng_ppp.specs.LinkRelation.{earliest}
+use Rattle.bng_ppp.specs.LcpRelation.{earliest}
 use Rattle.bng_ppp.specs.Phases.{is_begun}
-use Rattle.bng_ppp.specs.PppRelation.{PppSaid}
-use Rattle.bng_ppp.specs.PppState.{PppState, is_open}
+use Rattle.bng_ppp.specs.LinkRelation.{LinkSaid}
+use Rattle.bng_ppp.specs.LinkState.{LinkState, is_open}
 use Rattle.bng_sessions.specs.Sessions.{Sessions, value_at, with_value}
 use Rattle.bng_sessions.specs.Listed.{values}
 use Rattle.bng_sessions.proofs.SessionLaws.{value_at-with_value, value_at-with_other}
 use Rattle.bng_l2tp_call.specs.CallState.{CallState}
 use Rattle.bng_lns.specs.Timed.{Telling, reminded}
-use Rattle.bng_steps.specs.declared.way.Called.{Called}
+use Rattle.bng_steps.specs.declared.way.TunnelCall.{TunnelCall}
 use Rattle.bng_steps.specs.declared.way.Way.TheVariants.{Call}
-use Rattle.bng_steps.specs.Made.{Made, Question}
+use Rattle.bng_steps.specs.LinkService.{LinkService, Question}
 use Rattle.bng_steps.specs.declared.meters.Meters.{Meters}
 use Rattle.bng_steps.specs.declared.rules.Rules.{Rules}
 use Rattle.bng_base.specs.declared.item.At.{At}
 use Rattle.bng_steps.specs.declared.session.Lease.{Lease}
 use Rattle.bng_steps.specs.declared.session.Service.{Service}
-use Rattle.bng_steps.specs.declared.session.Service.TheVariants.{Provisioned, Discovered}
+use Rattle.bng_steps.specs.declared.session.Service.TheVariants.{Provisioned, Linked}
 use Rattle.bng_steps.specs.declared.session.Session.{Session}
 use Rattle.bng_steps.specs.State.{Beside, State, leaves, leaves_in, session_of, with_session, with_driven, with_ended, with_tunnels, beside_at, call_of, circuit_of}
 use Rattle.bng_steps.specs.Changes.{changed_by, lease_after, place_of}
@@ -57,7 +57,7 @@ use Rattle.bng_steps.specs.Step.{Hears, Step}
 use Rattle.bng_steps.specs.Tenures.{Tenure, closed, kept_lease}
 use Rattle.bng_steps.specs.Timers.{IsFirstDue, IsTimed, LooksAt, LosesTerm, TimesIn, Ticks, Ends, HearsTick, HearsEnd, at_once, deadline_in, deadline_of, deadline_unless, lease_deadline, link_deadline, Reminds}
 use Rattle.bng_steps.specs.Verdicts.{HearsVerdict, Judges, next_lease, next_term, settled_by}
-use Rattle.bng_ppp.proofs.WholeQuestions.{only_frames_ask, open_was_asked}
+use Rattle.bng_ppp.proofs.LinkQuestions.{only_frames_ask, open_was_asked}
 use Rattle.bng_steps.proofs.Changing.{Comes as Requests, change_comes}
 use Rattle.bng_steps.proofs.LinkSteps.{frame_of, verdict_of, frame_steps, verdict_steps}
 use Rattle.bng_steps.proofs.Naming.{at_number, next_of, same_made, call_number, call_stays, way_stays}
@@ -115,7 +115,7 @@ pub asks_same : (x y : Session) (q : Question) → y.number ≡ x.number → cir
 asks_same x y q n c = λ i. record { number = record { session = n i; ask = q.ask }; circuit = c i; claim = q.claim }
 
 -- so does one after a step of its link
-pub link_asks_same : (x : Session) (made : Made) (asked : ℕ) (says : PppSaid) (link : PppState) (q : Question) → asking_of (after_link x made asked says link) q ≡ asking_of x q
+pub link_asks_same : (x : Session) (made : LinkService) (asked : ℕ) (says : LinkSaid) (link : LinkState) (q : Question) → asking_of (after_link x made asked says link) q ≡ asking_of x q
 link_asks_same x made asked says link q = asks_same x (after_link x made asked says link) q refl (way_stays says.finished x.way x.number)
 
 -- then this session stands at the number, and the others stand where they stood
@@ -216,9 +216,9 @@ chained s s' s'' g h = record {
 
 -- a link has an open question only where it asks, or had one
 abbrev OpensByAsking : LinkStep → Type 0
-OpensByAsking Steps = (old : PppState) (says : PppSaid) (new : PppState) → Steps old says new → is_open new.auth ≡ true → (is_some says.asked ≡ true) ⊎ (is_open old.auth ≡ true)
+OpensByAsking Steps = (old : LinkState) (says : LinkSaid) (new : LinkState) → Steps old says new → is_open new.auth ≡ true → (is_some says.asked ≡ true) ⊎ (is_open old.auth ≡ true)
 
-told_opens : (r : Rules) (e : Entry) (what : WholeInput) → OpensByAsking (told r e what)
+told_opens : (r : Rules) (e : Entry) (what : Input) → OpensByAsking (told r e what)
 told_opens r e what old says new h opened = open_was_asked r.link e.moment e.item.random what old says new h opened
 
 hears_opens : (r : Rules) (e : Entry) (octets : List ℕ) → OpensByAsking (hears r e octets)
@@ -246,7 +246,7 @@ new_number n m k e f low = (omega (arith, e, f, low), omega (arith, e, f))
 
 -- what a session asked last, and not yet had a verdict on, is open
 abbrev IsOpenIn : State → Session → Type 0
-IsOpenIn s x = (m : Made) (q : Question) → x.service ≡ Discovered m → m.question ≡ Some q → is_open m.link.auth ≡ true → Contains (questions_of s) (asking_of x q)
+IsOpenIn s x = (m : LinkService) (q : Question) → x.service ≡ Linked m → m.question ≡ Some q → is_open m.link.auth ≡ true → Contains (questions_of s) (asking_of x q)
 
 module _ (r : Rules) (a : At) (moment : ℕ) (s : State) (n : ℕ) (x : Session) (outs : List OutRecord) (cause : Option ℕ) (x' : Session) (beside' : Beside) (Steps : LinkStep) (opens : OpensByAsking Steps) (was : IsOpenIn s x)
     (h : Drives r a (beside_at moment s.asked s.tunnels) x Steps outs cause x' beside') (begun : ℕ) (terms news : List Tenure) (meters : List Meters) where
@@ -279,39 +279,39 @@ module _ (r : Rules) (a : At) (moment : ℕ) (s : State) (n : ℕ) (x : Session)
   leased lease = with_lease (record x' { lease = lease }) lease (ap (λ (z : Session). record z { lease = lease }) h.session)
 
 -- a session that has not ended stands there
-open_in_live : (m : Made) (q : Question) → m.ended ≡ false → m.question ≡ Some q → is_open m.link.auth ≡ true → open_in (Discovered m) ≡ Some q
+open_in_live : (m : LinkService) (q : Question) → m.ended ≡ false → m.question ≡ Some q → is_open m.link.auth ≡ true → open_in (Linked m) ≡ Some q
 open_in_live m q live last still = ap (λ (b : Bool). if not b && is_open m.link.auth then m.question else None) live ∙ ap (λ (b : Bool). if b then m.question else None) still ∙ last
 
-was_open : (s : State) (n : ℕ) (x : Session) → value_at s.sessions n ≡ Some x → ((m : Made) → x.service ≡ Discovered m → m.ended ≡ false) → IsOpenIn s x
+was_open : (s : State) (n : ℕ) (x : Session) → value_at s.sessions n ≡ Some x → ((m : LinkService) → x.service ≡ Linked m → m.ended ≡ false) → IsOpenIn s x
 was_open s n x at live m q is last still = open_there s n x q at (ap open_in is ∙ open_in_live m q (live m is) last still)
 
 -- a session without a question has none that is open
-was_silent : (s : State) (x : Session) (made : Made) → x.service ≡ Discovered made → made.question ≡ None → IsOpenIn s x
-was_silent s x made is none m q is' last still = absurd (none_some q (sym none ∙ ap (λ (k : Made). k.question) (same_made x.service made m is is') ∙ last))
+was_silent : (s : State) (x : Session) (made : LinkService) → x.service ≡ Linked made → made.question ≡ None → IsOpenIn s x
+was_silent s x made is none m q is' last still = absurd (none_some q (sym none ∙ ap (λ (k : LinkService). k.question) (same_made x.service made m is is') ∙ last))
 
 -- a session with a deadline, or with an open question, has not ended
 live_of_deadline : (over : Bool) (deadline : Option ℕ) (t : ℕ) → deadline_unless over deadline ≡ Some t → over ≡ false
 live_of_deadline true deadline t e = absurd (none_some t e)
 live_of_deadline false deadline t e = refl
 
-due_lives : (x : Session) (t : ℕ) → deadline_of x ≡ Some t → (m : Made) → x.service ≡ Discovered m → m.ended ≡ false
+due_lives : (x : Session) (t : ℕ) → deadline_of x ≡ Some t → (m : LinkService) → x.service ≡ Linked m → m.ended ≡ false
 due_lives x t e m is = live_of_deadline m.ended (earliest (link_deadline m.link) (lease_deadline x.lease)) t (ap (λ (v : Service). deadline_in v x.lease) (sym is) ∙ e)
 
 live_of_open : (over still : Bool) (last : Option Question) (n : ℕ) → option_map (λ q. q.ask) (if not over && still then last else None) ≡ Some n → over ≡ false
 live_of_open true still last n e = absurd (none_some n e)
 live_of_open false still last n e = refl
 
-open_lives : (x : Session) (n : ℕ) → option_map (λ q. q.ask) (open_of x) ≡ Some n → (m : Made) → x.service ≡ Discovered m → m.ended ≡ false
+open_lives : (x : Session) (n : ℕ) → option_map (λ q. q.ask) (open_of x) ≡ Some n → (m : LinkService) → x.service ≡ Linked m → m.ended ≡ false
 open_lives x n e m is = live_of_open m.ended (is_open m.link.auth) m.question n (ap (λ (v : Service). option_map (λ q. q.ask) (open_in v)) (sym is) ∙ e)
 
 -- so has one that stays
-staying : (x : Session) → leaves x ≡ false → (m : Made) → x.service ≡ Discovered m → m.ended ≡ false
+staying : (x : Session) → leaves x ≡ false → (m : LinkService) → x.service ≡ Linked m → m.ended ≡ false
 staying x stays m is = sym (ap leaves_in is) ∙ stays
 
 -- a session that ended asks nothing
 ended_silent : (v : Service) → open_in (ended_service v) ≡ None
 ended_silent (Provisioned l) = refl
-ended_silent (Discovered m) = refl
+ended_silent (Linked m) = refl
 
 over : (s : State) (n : ℕ) (x : Session) (terms : List Tenure) → On s (state_with s n (ended x) (own_beside s) s.begun terms s.news s.meters)
 over s n x terms = record {
@@ -338,10 +338,10 @@ module _ (r : Rules) (a : At) (s : State) (beside : Beside) (x : Session) (outs 
   -- what is open of the session after it was open before
   open_stays : IsOpenIn s x → IsOpenIn s x'
   open_stays was m q is last still =
-      let new : Made = record h.made { link = h.link; question = question_after beside.asked h.says.asked (is_begun h.link.auth) h.made.question; ended = h.says.finished } in
+      let new : LinkService = record h.made { link = h.link; question = question_after beside.asked h.says.asked (is_begun h.link.auth) h.made.question; ended = h.says.finished } in
       let same : new ≡ m = same_made x'.service new m (ap (λ (y : Session). y.service) h.session) is in
-      let before : h.made.question ≡ Some q = last_stays beside.asked h.says.asked (is_begun h.link.auth) h.made.question q silent (ap (λ (k : Made). k.question) same ∙ last) in
-      elim (opens h.made.link h.says h.link h.steps (ap (λ (k : Made). is_open k.link.auth) same ∙ still)) [
+      let before : h.made.question ≡ Some q = last_stays beside.asked h.says.asked (is_begun h.link.auth) h.made.question q silent (ap (λ (k : LinkService). k.question) same ∙ last) in
+      elim (opens h.made.link h.says h.link h.steps (ap (λ (k : LinkService). is_open k.link.auth) same ∙ still)) [
         | inl asks_now ↦ absurd (false≢true (sym (ap is_some silent) ∙ asks_now))
         | inr opened ↦ subst (λ (b : Asking). Contains (questions_of s) b) (sym (link_asks_same x h.made beside.asked h.says h.link q) ∙ ap (λ (y : Session). asking_of y q) (sym h.session)) (was h.made q h.is_made before opened)
       ]
@@ -354,7 +354,7 @@ open_within false true last q e = (e, refl)
 -- so is each open question then
 own_was : (s : State) (y : Session) (v : Service) (q : Question) → y.service ≡ v → open_in v ≡ Some q → IsOpenIn s y → Contains (questions_of s) (asking_of y q)
 own_was s y (Provisioned l) q is e was = absurd (none_some q e)
-own_was s y (Discovered m) q is e was =
+own_was s y (Linked m) q is e was =
     let parts = open_within m.ended (is_open m.link.auth) m.question q e in
     was m q is parts.0 parts.1
 
@@ -372,13 +372,13 @@ still_on s s' n y puts was count = record {
 -- Calls -------------------------------------------------------------------------------------------------------------------
 
 -- one whose call goes on has the question that it had
-turned_open : (s : State) (n : ℕ) (x : Session) (c : Called) (call : CallState) (b : Asking) → value_at s.sessions n ≡ Some x → x.way ≡ Call c → Contains (asks (turned x c call)) b → Contains (questions_of s) b
+turned_open : (s : State) (n : ℕ) (x : Session) (c : TunnelCall) (call : CallState) (b : Asking) → value_at s.sessions n ≡ Some x → x.way ≡ Call c → Contains (asks (turned x c call)) b → Contains (questions_of s) b
 turned_open s n x c call b at way there =
     let z = turned x c call in
     let found = the_question z (open_of z) b there in
     subst (λ (k : Asking). Contains (questions_of s) k) (sym (asks_same x z found.0 refl (call_stays x c call way)) ∙ found.2) (open_there s n x found.0 at found.1)
 
-turns_on : (s : State) (n : ℕ) (x : Session) (c : Called) (call : CallState) → value_at s.sessions n ≡ Some x → x.way ≡ Call c → On s (with_session s n (turned x c call))
+turns_on : (s : State) (n : ℕ) (x : Session) (c : TunnelCall) (call : CallState) → value_at s.sessions n ≡ Some x → x.way ≡ Call c → On s (with_session s n (turned x c call))
 turns_on s n x c call at way = record {
   counted = counts_same s.asked s.asked refl;
   asked = λ low b there. elim (among s (with_session s n (turned x c call)) n (turned x c call) b (puts_one s.sessions n (turned x c call)) there) [
@@ -421,7 +421,7 @@ reminds_on (suc n) k a now s outs s' (first, next, one, rest, more, are) =
 
 module _ (r : Rules) (e : Entry) where
   -- the link is told this, by which it asks nothing
-  told_silent : (what : WholeInput) → is_frame what ≡ false → (old : PppState) (says : PppSaid) (new : PppState) → told r e what old says new → says.asked ≡ None
+  told_silent : (what : Input) → is_frame what ≡ false → (old : LinkState) (says : LinkSaid) (new : LinkState) → told r e what old says new → says.asked ≡ None
   told_silent what other old says new h = only_frames_ask r.link e.moment e.item.random what old says new h other
 
   -- The live term of a session ends, and its link takes Close, if it has one: in this state, or in one where the other sessions stand as
@@ -430,7 +430,7 @@ module _ (r : Rules) (e : Entry) where
       → LosesTerm v cause r e t n x outs s' → On s s'
   loses_on (Provisioned over) cause s t n x outs s' puts was count (none, next) =
       subst (On s) (sym next) (still_on s (with_driven t n x.lease (Some cause) (lapsed x) (beside_of t e)) n (lapsed x) (puts (lapsed x)) was count)
-  loses_on (Discovered m) cause s t n x outs s' puts was count (y, none, beside', drives, next) =
+  loses_on (Linked m) cause s t n x outs s' puts was count (y, none, beside', drives, next) =
       let silent = told_silent Close refl drives.made.link drives.says drives.link drives.steps in
       let stays = count_stays r (at_of t e) s (beside_of t e) (lapsed x) outs none y beside' (told r e Close) (told_opens r e Close) drives silent in
       let opened = open_stays r (at_of t e) s (beside_of t e) (lapsed x) outs none y beside' (told r e Close) (told_opens r e Close) drives silent was in
@@ -444,10 +444,10 @@ module _ (r : Rules) (e : Entry) where
       subst (On s) (sym next) (still_on s (with_session t n y) n y (puts y) was count)
   looks_on (Some cause) s t n x outs s' puts was count h = loses_on x.service cause s t n x outs s' puts was count h
 
-  times_on : (v : Service) (s : State) (n : ℕ) (x : Session) (outs : List OutRecord) (s' : State) → value_at s.sessions n ≡ Some x → ((m : Made) → x.service ≡ Discovered m → m.ended ≡ false) → TimesIn v r e s n x outs s' → On s s'
+  times_on : (v : Service) (s : State) (n : ℕ) (x : Session) (outs : List OutRecord) (s' : State) → value_at s.sessions n ≡ Some x → ((m : LinkService) → x.service ≡ Linked m → m.ended ≡ false) → TimesIn v r e s n x outs s' → On s s'
   times_on (Provisioned over) s n x outs s' at lives h =
       looks_on (cause_at (passed_at s.passed x.number) x.lease e.moment) s s n x outs s' (puts_one s.sessions n) (was_open s n x at lives) refl h
-  times_on (Discovered m) s n x outs s' at lives h =
+  times_on (Linked m) s n x outs s' at lives h =
       let silent = told_silent Timer refl h.drives.made.link h.drives.says h.drives.link h.drives.steps in
       let count = count_stays r (at_of s e) s (beside_of s e) x h.first h.cause h.after h.beside (told r e Timer) (told_opens r e Timer) h.drives silent in
       let opened = open_stays r (at_of s e) s (beside_of s e) x h.first h.cause h.after h.beside (told r e Timer) (told_opens r e Timer) h.drives silent (was_open s n x at lives) in
@@ -489,7 +489,7 @@ module _ (r : Rules) (s : State) (limited : Bool) (e : Entry) (d : Deed) where
     where
       question_in : Service → Option Question
       question_in (Provisioned l) = None
-      question_in (Discovered m) = m.question
+      question_in (Linked m) = m.question
 
   answers : (answer : Answer) (number : ℕ) (port : AccessPort) (offers : PortRules) (p : PppoeFrame) (tags : List PppoeTag) → Answers answer r s e number port offers p tags d → On s d.next
   answers Offer number port offers p tags h = kept _ h refl
@@ -506,18 +506,18 @@ module _ (r : Rules) (s : State) (limited : Bool) (e : Entry) (d : Deed) where
       after (with_passed s up.x.number e.moment ms) _ up.done refl (passes_on s up.x.number e.moment ms)
   packets found info (fate, is, inr (stays, h)) = kept _ h refl
 
-  ppp : (n : ℕ) (x : Session) (made : Made) (octets : List ℕ) → value_at s.sessions n ≡ Some x → x.service ≡ Discovered made → HearsPpp r s e n x made octets d → On s d.next
+  ppp : (n : ℕ) (x : Session) (made : LinkService) (octets : List ℕ) → value_at s.sessions n ≡ Some x → x.service ≡ Linked made → HearsPpp r s e n x made octets d → On s d.next
   ppp n x made octets at is (inl (gone, h)) = kept _ h refl
   ppp n x made octets at is (inr (live, outs, cause, x', beside', drives, h)) =
-      let lives : (m : Made) → x.service ≡ Discovered m → m.ended ≡ false = λ m is'. ap (λ (k : Made). k.ended) (same_made x.service m made is' is) ∙ live in
+      let lives : (m : LinkService) → x.service ≡ Linked m → m.ended ≡ false = λ m is'. ap (λ (k : LinkService). k.ended) (same_made x.service m made is' is) ∙ live in
       after (with_driven s n x.lease cause x' beside') _ h refl
       (driven r (at_of s e) e.moment s n x outs cause x' beside' (hears r e octets) (hears_opens r e octets) (was_open s n x at lives) drives s.begun (closed x.lease cause s.terms) s.news s.meters)
 
   control : (v : Service) (x : Session) (p : PppoeFrame) → value_at s.sessions p.session ≡ Some x → x.service ≡ v → HearsControl v r s e x p d → On s d.next
   control (Provisioned l) x p at is h = kept _ h refl
-  control (Discovered made) x p at is (inl (padt, inl (gone, h))) = kept _ h refl
-  control (Discovered made) x p at is (inl (padt, inr (live, h))) = after (with_ended s p.session x.lease user_request (ended x)) _ h refl (over s p.session x (closed x.lease (Some user_request) s.terms))
-  control (Discovered made) x p at is (inr (data_frame, h)) = ppp p.session x made p.payload at is h
+  control (Linked made) x p at is (inl (padt, inl (gone, h))) = kept _ h refl
+  control (Linked made) x p at is (inl (padt, inr (live, h))) = after (with_ended s p.session x.lease user_request (ended x)) _ h refl (over s p.session x (closed x.lease (Some user_request) s.terms))
+  control (Linked made) x p at is (inr (data_frame, h)) = ppp p.session x made p.payload at is h
 
   named : (number : ℕ) (p : PppoeFrame) (found : Option Session) → session_of s number p.src p.session ≡ found → HearsIn found r s e p d → On s d.next
   named number p None is h = kept _ h refl

@@ -9,14 +9,14 @@ use Rattle.bng_steps.specs.declared.way.Way.{Way}
 use Rattle.bng_steps.specs.declared.rules.Rules.{Rules}
 use Rattle.bng_steps.specs.declared.session.Lease.{Lease}
 use Rattle.bng_steps.specs.declared.session.Service.{Service}
-use Rattle.bng_steps.specs.declared.session.Service.TheVariants.{Provisioned, Discovered}
+use Rattle.bng_steps.specs.declared.session.Service.TheVariants.{Provisioned, Linked}
 use Rattle.bng_steps.specs.declared.session.Session.{Session}
 use Rattle.bng_steps.specs.State.{State, made_one, with_driven, with_ended, with_session, Beside, lives_in, with_tunnels}
 use Rattle.bng_steps.specs.Placed.{ArePlaced, IsPlaced}
 use Rattle.bng_steps.specs.Indexed.{address_of}
 use Rattle.bng_steps.specs.Link.{ended_service, way_after}
 use Rattle.bng_steps.specs.Serving.{KeepsLease}
-use Rattle.bng_steps.specs.Running.{TermsView, closed_rows, tenures_in, whole}
+use Rattle.bng_steps.specs.TermRows.{TermsView, closed_rows, tenures_in, whole}
 use Rattle.bng_steps.specs.Tenures.{Tenure, closed, kept_lease}
 use Rattle.bng_steps.specs.Timers.{lives_at, does_live}
 use Rattle.bng_steps.proofs.Closing.{closed_tenures}
@@ -40,7 +40,7 @@ module _ (s s₁ : State) (n m : ℕ) (taken : s₁ ≡ record s { sessions = wi
 
 pub made_of_live : (v : Service) → lives_in v ≡ true → made_one v ≡ 1
 made_of_live (Provisioned l) e = absurd (let never : ⊥ = cc in never)
-made_of_live (Discovered m) e = refl
+made_of_live (Linked m) e = refl
 
 -- a session shares no address where it had its lease before, and has it still or has none
 pub shares_kept : (ss : Sessions Session) (x y : Session) (cause : Option ℕ) → y.lease ≡ kept_lease cause x.lease → NoneShares address_of ss x → NoneShares address_of ss y
@@ -50,7 +50,7 @@ shares_kept ss x y (Some cause) same alone n a mine = absurd (none_some a (sym (
 -- a session that has ended has a link as before, and no lease
 pub ended_keeps : (v : Service) (lease : Option Lease) → KeepsLease v lease → KeepsLease (ended_service v) None
 ended_keeps (Provisioned over) lease keeps = tt
-ended_keeps (Discovered m) lease keeps = (keeps.0, λ some. absurd (false≢true some))
+ended_keeps (Linked m) lease keeps = (keeps.0, λ some. absurd (false≢true some))
 
 -- with the terms, once a step of a session's link was made, or it ended
 module _ (s s' : State) (n : ℕ) (x x' : Session) (lease : Option Lease) (t t' : TermsView) (its : lease ≡ x.lease) where

@@ -9,7 +9,7 @@ use Rattle.bng_sessions.specs.Sessions.{Sessions, read_at, value_at}
 use Rattle.bng_sessions.specs.Listed.{values}
 use Rattle.bng_steps.specs.declared.session.Lease.{Lease}
 use Rattle.bng_steps.specs.declared.session.Service.{Service}
-use Rattle.bng_steps.specs.declared.session.Service.TheVariants.{Provisioned, Discovered}
+use Rattle.bng_steps.specs.declared.session.Service.TheVariants.{Provisioned, Linked}
 use Rattle.bng_steps.specs.declared.session.Session.{Session}
 use Rattle.bng_steps.specs.declared.way.Way.{Way}
 use Rattle.bng_steps.specs.declared.way.Way.TheVariants.{Port, Call}
@@ -35,7 +35,7 @@ pass_there test (Some x) e = (x, refl)
 
 repeated_young : (v : Service) (host_uniq : Option (List ℕ)) → is_repeated_in host_uniq v ≡ true → is_young_in v ≡ true
 repeated_young (Provisioned l) host_uniq e = e
-repeated_young (Discovered m) host_uniq e = right_true (same_option m.host_uniq host_uniq) (not m.ended && not m.link.lcp.kept.was_opened) e
+repeated_young (Linked m) host_uniq e = right_true (same_option m.host_uniq host_uniq) (not m.ended && not m.link.lcp.kept.was_opened) e
 
 -- a session on an access port is at one
 on_port : (port : ℕ) (mac : Mac) (way : Way) → is_on_way port mac way ≡ true → is_port way ≡ true

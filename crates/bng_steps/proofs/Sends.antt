@@ -20,15 +20,15 @@ use Rattle.bng_engine.proofs.Everywhere.{all_append}
 use Rattle.bng_forward.specs.Fates.{IsFrame}
 use Rattle.bng_lns.specs.Timed.{Telling, reminded, stopped}
 use Rattle.bng_lns.specs.Tunnels.{TunnelsState}
-use Rattle.bng_ppp.specs.declared.whole_input.WholeInput.{WholeInput}
-use Rattle.bng_ppp.specs.declared.whole_input.WholeInput.TheVariants.{Start, Timer, Close}
-use Rattle.bng_ppp.proofs.WholeOuts.{ppp_steps_written}
-use Rattle.bng_steps.specs.Made.{Made}
+use Rattle.bng_ppp.specs.declared.input.Input.{Input}
+use Rattle.bng_ppp.specs.declared.input.Input.TheVariants.{Start, Timer, Close}
+use Rattle.bng_ppp.proofs.LinkOuts.{link_steps_written}
+use Rattle.bng_steps.specs.LinkService.{LinkService}
 use Rattle.bng_steps.specs.declared.rules.Rules.{Rules}
 use Rattle.bng_base.specs.declared.item.At.{At}
 use Rattle.bng_steps.specs.declared.session.Lease.{Lease}
 use Rattle.bng_steps.specs.declared.session.Service.{Service}
-use Rattle.bng_steps.specs.declared.session.Service.TheVariants.{Provisioned, Discovered}
+use Rattle.bng_steps.specs.declared.session.Service.TheVariants.{Provisioned, Linked}
 use Rattle.bng_steps.specs.declared.session.Session.{Session}
 use Rattle.bng_steps.specs.State.{Beside, State, IsTermOf, session_of, with_driven, with_ended, with_tunnels, call_of}
 use Rattle.bng_forward.specs.Packets.{IsPassedOn}
@@ -82,23 +82,23 @@ not_forwarded (Dropped cause) other = refl
 -- Sessions --------------------------------------------------------------------------------------------------------------
 
 module _ (r : Rules) (e : Entry) (a : At) (beside : Beside) (x : Session) (outs : List OutRecord) (cause : Option ℕ) (x' : Session) (beside' : Beside) where
-  told_control : (input : WholeInput) → Drives r a beside x (told r e input) outs cause x' beside' → AreControl a.seat outs
-  told_control input h = drives_control r a beside x (told r e input) outs cause x' beside' h (ppp_steps_written r.link e.moment e.item.random input h.made.link h.says h.link h.steps)
+  told_control : (input : Input) → Drives r a beside x (told r e input) outs cause x' beside' → AreControl a.seat outs
+  told_control input h = drives_control r a beside x (told r e input) outs cause x' beside' h (link_steps_written r.link e.moment e.item.random input h.made.link h.says h.link h.steps)
 
   hears_control : (octets : List ℕ) → Drives r a beside x (hears r e octets) outs cause x' beside' → AreControl a.seat outs
   hears_control octets h =
       drives_control r a beside x (hears r e octets) outs cause x' beside' h
-      (ppp_steps_written r.link e.moment e.item.random (frame_of octets) h.made.link h.says h.link (frame_steps r.link e.moment e.item.random h.made.link h.says h.link octets h.steps))
+      (link_steps_written r.link e.moment e.item.random (frame_of octets) h.made.link h.says h.link (frame_steps r.link e.moment e.item.random h.made.link h.says h.link octets h.steps))
 
   settles_control : (t : Told) → Drives r a beside x (settles r e t) outs cause x' beside' → AreControl a.seat outs
   settles_control t h =
       drives_control r a beside x (settles r e t) outs cause x' beside' h
-      (ppp_steps_written r.link e.moment e.item.random (verdict_of t) h.made.link h.says h.link (verdict_steps r.link e.moment e.item.random h.made.link h.says h.link t h.steps))
+      (link_steps_written r.link e.moment e.item.random (verdict_of t) h.made.link h.says h.link (verdict_steps r.link e.moment e.item.random h.made.link h.says h.link t h.steps))
 
 -- where a term is over, its session's link takes Close, if it has one
 loses_control : (v : Service) (cause : ℕ) (r : Rules) (e : Entry) (s : State) (n : ℕ) (x : Session) (outs : List OutRecord) (s' : State) → LosesTerm v cause r e s n x outs s' → AreControl e.seat outs
 loses_control (Provisioned over) cause r e s n x outs s' h = subst (λ (os : List OutRecord). AreControl e.seat os) (sym h.0) tt
-loses_control (Discovered m) cause r e s n x outs s' (after, none, beside, drives, is) = told_control r e (at_of s e) (beside_of s e) (lapsed x) outs none after beside Close drives
+loses_control (Linked m) cause r e s n x outs s' (after, none, beside, drives, is) = told_control r e (at_of s e) (beside_of s e) (lapsed x) outs none after beside Close drives
 
 looks_control : (over : Option ℕ) (r : Rules) (e : Entry) (s : State) (n : ℕ) (x : Session) (outs : List OutRecord) (s' : State) → LooksAt over r e s n x outs s' → AreControl e.seat outs
 looks_control None r e s n x outs s' h = subst (λ (os : List OutRecord). AreControl e.seat os) (sym h.0) tt
@@ -106,7 +106,7 @@ looks_control (Some cause) r e s n x outs s' h = loses_control x.service cause r
 
 times_control : (v : Service) (r : Rules) (e : Entry) (s : State) (n : ℕ) (x : Session) (outs : List OutRecord) (s' : State) → TimesIn v r e s n x outs s' → AreControl e.seat outs
 times_control (Provisioned over) r e s n x outs s' h = looks_control (cause_at (passed_at s.passed x.number) x.lease e.moment) r e s n x outs s' h
-times_control (Discovered m) r e s n x outs s' h =
+times_control (Linked m) r e s n x outs s' h =
     subst (λ (os : List OutRecord). AreControl e.seat os) (sym h.outs_are)
     (all_append (IsControl e.seat) h.first h.then (told_control r e (at_of s e) (beside_of s e) x h.first h.cause h.after h.beside Timer h.drives)
     (looks_control (cause_at (passed_at s.passed h.after.number) h.after.lease e.moment) r e (with_driven s n x.lease h.cause h.after h.beside) n h.after h.then s' h.looks))
@@ -126,7 +126,7 @@ tells_way_control (Call c) r a x outs h = subst (λ (os : List OutRecord). AreCo
 
 tells_control : (v : Service) (r : Rules) (a : At) (x : Session) (outs : List OutRecord) → TellsEnd v r a x outs → AreControl a.seat outs
 tells_control (Provisioned p) r a x outs h = subst (λ (os : List OutRecord). AreControl a.seat os) (sym h) tt
-tells_control (Discovered m) r a x outs h = tells_way_control x.way r a x outs h
+tells_control (Linked m) r a x outs h = tells_way_control x.way r a x outs h
 
 ends_control : (n : ℕ) (r : Rules) (e : Entry) (s : State) (outs : List OutRecord) (s' : State) → Ends n r e s outs s' → AreControl e.seat outs
 ends_control zero r e s outs s' h = subst (λ (os : List OutRecord). AreControl e.seat os) (sym h.0) tt
@@ -201,15 +201,15 @@ module _ (r : Rules) (s : State) (e : Entry) (d : Deed) where
       })
   data_sends found info short (fate, decides, inr (other, h)) = none s e d _ h tt (not_forwarded fate other)
 
-  ppp : (n : ℕ) (x : Session) (made : Made) (octets : List ℕ) → HearsPpp r s e n x made octets d → Sends
+  ppp : (n : ℕ) (x : Session) (made : LinkService) (octets : List ℕ) → HearsPpp r s e n x made octets d → Sends
   ppp n x made octets (inl (over, h)) = none s e d _ h tt refl
   ppp n x made octets (inr (live, outs, cause, x', beside', drives, h)) = none s e d _ h (hears_control r e (at_of s e) (beside_of s e) x outs cause x' beside' octets drives) refl
 
   control : (v : Service) (x : Session) (p : PppoeFrame) → HearsControl v r s e x p d → Sends
   control (Provisioned l) x p h = none s e d _ h tt refl
-  control (Discovered made) x p (inl (padt, inl (over, h))) = none s e d _ h tt refl
-  control (Discovered made) x p (inl (padt, inr (live, h))) = none s e d _ h tt refl
-  control (Discovered made) x p (inr (data_frame, h)) = ppp p.session x made p.payload h
+  control (Linked made) x p (inl (padt, inl (over, h))) = none s e d _ h tt refl
+  control (Linked made) x p (inl (padt, inr (live, h))) = none s e d _ h tt refl
+  control (Linked made) x p (inr (data_frame, h)) = ppp p.session x made p.payload h
 
   named : (p : PppoeFrame) (found : Option Session) → HearsIn found r s e p d → Sends
   named p None h = none s e d _ h tt refl

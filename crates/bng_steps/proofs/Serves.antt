@@ -10,7 +10,7 @@ use Rattle.bng_sessions.specs.Sessions.{Sessions, IsNumberOf, NoneShares, read_a
 use Rattle.bng_sessions.proofs.SessionLaws.{value_at-with_value, value_at-with_other, value_at-without, value_at-without_other}
 use Rattle.bng_steps.specs.declared.session.Lease.{Lease}
 use Rattle.bng_steps.specs.declared.session.Service.{Service}
-use Rattle.bng_steps.specs.declared.session.Service.TheVariants.{Provisioned, Discovered}
+use Rattle.bng_steps.specs.declared.session.Service.TheVariants.{Provisioned, Linked}
 use Rattle.bng_steps.specs.declared.session.Session.{Session}
 use Rattle.bng_steps.specs.Indexed.{address_of, term_of}
 use Rattle.bng_steps.specs.Serving.{AreApart, AreLeased, AreOwn, AreOfShard, KeepsLease}
@@ -37,7 +37,7 @@ stay_there (Some x) h = (x, refl, not_ended (leaves x) h)
 -- a session that lives stays
 stays_in : (v : Service) (x : Session) → x.service ≡ v → lives_in v ≡ true → not (leaves x) ≡ true
 stays_in (Provisioned p) x is h = absurd (false≢true h)
-stays_in (Discovered m) x is h = ap (λ (v : Service). not (leaves_in v)) is ∙ h
+stays_in (Linked m) x is h = ap (λ (v : Service). not (leaves_in v)) is ∙ h
 
 pub live_stays : (o : Option Session) → does_live o ≡ true → does_stay o ≡ true
 live_stays None h = h

@@ -5,9 +5,9 @@ use Rattle.bng_base.specs.declared.item.Item.{Item}
 use Rattle.bng_base.specs.declared.item.OutRecord.{OutRecord}
 use Rattle.bng_ppp.specs.declared.rules.LinkRules.{LinkRules}
 use Rattle.bng_ppp.specs.Layers.{Turn}
-use Rattle.bng_ppp.specs.PppRelation.{PppSaid, after_turn, ended_by, said_of}
-use Rattle.bng_ppp.specs.PppState.{PppState}
-use Rattle.bng_ppp.specs.WholeFrame.{HearsOctets}
+use Rattle.bng_ppp.specs.LinkRelation.{LinkSaid, after_turn, ended_by, said_of}
+use Rattle.bng_ppp.specs.LinkState.{LinkState}
+use Rattle.bng_ppp.specs.LinkFrame.{HearsOctets}
 use Rattle.bng_steps.specs.declared.rules.Rules.{Rules}
 use Rattle.bng_base.specs.declared.item.At.{At}
 use Rattle.bng_steps.specs.declared.session.Session.{Session}
@@ -19,7 +19,7 @@ use Rattle.bng_steps.specs.Protocol.{entry_of}
 use Rattle.bng_steps.proofs.Carrying.{its_place}
 
 -- a link that is told a frame hears it
-pub heard : (r : LinkRules) (octets : List ℕ) (now : ℕ) (random : List ℕ) (old : PppState) (says : PppSaid) (new : PppState) (t : Turn) (cause : Option ℕ)
+pub heard : (r : LinkRules) (octets : List ℕ) (now : ℕ) (random : List ℕ) (old : LinkState) (says : LinkSaid) (new : LinkState) (t : Turn) (cause : Option ℕ)
     → HearsOctets r octets now random old t × (cause ≡ ended_by t.link.live t.left t.ended 1) → says ≡ said_of t cause → new ≡ after_turn t → HearsPppFrame r octets now random old says new
 heard r octets now random old says new t cause (hears, is) said state = record {
   turn = t;
@@ -29,7 +29,7 @@ heard r octets now random old says new t cause (hears, is) said state = record {
 }
 
 -- a step of the link that follows from another one
-pub drives_so : (r : Rules) (a : At) (beside : Beside) (x x' : Session) (Steps Wanted : LinkStep) (outs : List OutRecord) (cause : Option ℕ) (beside' : Beside) → ((old : PppState) (says : PppSaid) (new : PppState) → Steps old says new → Wanted old says new)
+pub drives_so : (r : Rules) (a : At) (beside : Beside) (x x' : Session) (Steps Wanted : LinkStep) (outs : List OutRecord) (cause : Option ℕ) (beside' : Beside) → ((old : LinkState) (says : LinkSaid) (new : LinkState) → Steps old says new → Wanted old says new)
     → Drives r a beside x Steps outs cause x' beside' → Drives r a beside x Wanted outs cause x' beside'
 drives_so r a beside x x' Steps Wanted outs cause beside' follows d = record {
   made = d.made;

@@ -23,7 +23,7 @@ use Rattle.bng_lns.specs.Exchange.{parted}
 use Rattle.bng_lns.specs.Framed.{call_message}
 use Rattle.bng_lns.specs.Tunnels.{TunnelsState, tunnel_at}
 use Rattle.bng_steps.specs.declared.rules.Rules.{Rules}
-use Rattle.bng_steps.specs.declared.way.Called.{Called}
+use Rattle.bng_steps.specs.declared.way.TunnelCall.{TunnelCall}
 use Rattle.bng_steps.specs.declared.way.Way.{Way}
 use Rattle.bng_steps.specs.declared.way.Way.TheVariants.{Port, Call}
 use Rattle.bng_steps.specs.Reader.{is_call_data, is_session_data, IsNoPacket}
@@ -155,7 +155,7 @@ fits_control : (seat : ℕ) (b : Bool) (o : OutRecord) → IsControl seat o → 
 fits_control seat true o h = (h, tt)
 fits_control seat false o h = tt
 
-data_control : (a : At) (c : Called) (f : List ℕ) → IsWritten f → AreControl a.seat (data_outs a c f)
+data_control : (a : At) (c : TunnelCall) (f : List ℕ) → IsWritten f → AreControl a.seat (data_outs a c f)
 data_control a c f is =
     let info = packet_text is.packet in
     let other : is_call_data (call_octets c f) ≡ false =
@@ -163,7 +163,7 @@ data_control a c f is =
     fits_control a.seat (nat_le (length (call_octets c f)) LONGEST) (out a Tunnel c.peer (call_octets c f) None)
     (record { seat_is = refl; charge = refl; unsent = refl; no_packet = record { on_way = refl; not_core = refl; not_data = λ e. absurd (false≢true e); not_call = λ e. other; control = λ e t. absurd (data_type (slice_index (call_octets c f) 0) refl t); spelled = λ e t. (call_message c.far (to_peer c.call) f, refl) } })
 
-call_control : (a : At) (c : Called) (fs : List (List ℕ)) → AreWritten fs → AreControl a.seat (call_outs a c fs)
+call_control : (a : At) (c : TunnelCall) (fs : List (List ℕ)) → AreWritten fs → AreControl a.seat (call_outs a c fs)
 call_control a c [] h = tt
 call_control a c (f ∷ fs) h = all_append (IsControl a.seat) (data_outs a c f) (call_outs a c fs) (data_control a c f h.0) (call_control a c fs h.1)
 
@@ -178,7 +178,7 @@ says_control (Call c) r a n frames outs written h = equal_control a.seat (call_o
 pub ends_with_control : (r : Rules) (a : At) (number : ℕ) (mac : Mac) (n : SessionNo) (outs : List OutRecord) → EndsWith r a number mac n outs → AreControl a.seat outs
 ends_with_control r a number mac n outs h = equal_control a.seat (padt_outs a number mac n h.port h.offers) outs h.outs_are (padt_control a number mac n h.port h.offers)
 
-hangs_control : (o : Option TunnelState) (c : Called) (a : At) (now : ℕ) (t : TunnelsState) (outs : List OutRecord) (t' : TunnelsState) → HangsUp o c a now t outs t' → AreControl a.seat outs
+hangs_control : (o : Option TunnelState) (c : TunnelCall) (a : At) (now : ℕ) (t : TunnelsState) (outs : List OutRecord) (t' : TunnelsState) → HangsUp o c a now t outs t' → AreControl a.seat outs
 hangs_control None c a now t outs t' h = equal_control a.seat [] outs h.0 tt
 hangs_control (Some tunnel) c a now t outs t' h = equal_control a.seat (tunnel_outs a c.peer (parted tunnel c.call now).said.outs) outs h.1 (tunnel_control a c.peer (parted tunnel c.call now).said.outs h.0)
 

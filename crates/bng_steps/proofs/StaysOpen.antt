@@ -16,24 +16,24 @@ use Rattle.bng_base.specs.declared.item.OutRecord.{OutRecord}
 use Rattle.bng_base.specs.declared.settings.AuthKind.{AuthKind}
 use Rattle.bng_base.specs.declared.settings.AuthKind.TheVariants as kind
 use Rattle.bng_ppp.specs.declared.rules.LinkRules.{LinkRules}
-use Rattle.bng_ppp.specs.declared.whole_input.WholeInput.{WholeInput}
-use Rattle.bng_ppp.specs.declared.whole_input.WholeInput.TheVariants as told
+use Rattle.bng_ppp.specs.declared.input.Input.{Input}
+use Rattle.bng_ppp.specs.declared.input.Input.TheVariants as told
 use Rattle.bng_ppp.specs.Automaton.{Doing, Follows, Moves, Why, acted, all_acted}
 use Rattle.bng_ppp.specs.Layers.{Above, Turn, authenticates, begun, leaves, with_lcp}
-use Rattle.bng_ppp.specs.LinkState.{LinkState, is_opened}
+use Rattle.bng_ppp.specs.LcpState.{LcpState, is_opened}
 use Rattle.bng_ppp.specs.LowerLayer.{Starts}
 use Rattle.bng_ppp.specs.Phases.{KeepsPhases}
-use Rattle.bng_ppp.specs.PppRelation.{PppSaid, PppSteps}
-use Rattle.bng_ppp.specs.PppState.{PppState}
+use Rattle.bng_ppp.specs.LinkRelation.{LinkSaid, LinkSteps}
+use Rattle.bng_ppp.specs.LinkState.{LinkState}
 use Rattle.bng_ppp.specs.Said.{Said, quiet}
 use Rattle.bng_ppp.proofs.FinishLaws.{finished_down}
 use Rattle.bng_ppp.proofs.PhaseLaws.{or_assoc, or_false, or_true}
 use Rattle.bng_ppp.proofs.TermLaws.{is_tlf}
-use Rattle.bng_ppp.proofs.WholePhases.{term_while_opened}
+use Rattle.bng_ppp.proofs.LinkPhases.{term_while_opened}
 use Rattle.bng_steps.specs.declared.rules.Rules.{Rules}
 use Rattle.bng_steps.specs.declared.session.Lease.{Lease}
 use Rattle.bng_steps.specs.declared.session.Service.{Service}
-use Rattle.bng_steps.specs.declared.session.Service.TheVariants.{Discovered}
+use Rattle.bng_steps.specs.declared.session.Service.TheVariants.{Linked}
 use Rattle.bng_steps.specs.declared.session.Session.{Session}
 use Rattle.bng_steps.specs.State.{Beside}
 use Rattle.bng_steps.specs.Link.{Drives, after_link}
@@ -135,7 +135,7 @@ module _ (c : Why) (echo now : ℕ) where
       each_finished (acted c echo now d a) actions ∙ ap (λ (b : Bool). b || list_any is_tlf actions) (one_finished d a) ∙ or_assoc d.said.finished (is_tlf a) (list_any is_tlf actions)
 
 -- LCP that was Opened does Close
-lcp_stays : (c : Why) (echo now : ℕ) (old : LinkState) (says : Said) (new : LinkState) → Moves Close c echo now old says new → is_opened old.lcp.state ≡ true → says.finished ≡ false
+lcp_stays : (c : Why) (echo now : ℕ) (old : LcpState) (says : Said) (new : LcpState) → Moves Close c echo now old says new → is_opened old.lcp.state ≡ true → says.finished ≡ false
 lcp_stays c echo now old says new m up =
     let started : Doing = record { link = record old { lcp = m.machine }; said = quiet } in
     ap (λ (d : Doing). d.said.finished) m.done ∙ each_finished c echo now started m.actions ∙ row_stays old.lcp now m.actions m.machine m.steps up
@@ -146,7 +146,7 @@ begins_on event c echo now before after f is still =
     let started : Doing = record before { link = record before.link { lcp = f.machine } } in
     ap (λ (d : Doing). d.said.finished) f.done ∙ each_finished c echo now started f.actions ∙ ap (λ (b : Bool). b || list_any is_tlf f.actions) still ∙ row_begins before.link.lcp event now f.actions f.machine f.steps is
 
-lcp_begins : (auth : List AuthKind) (random : List ℕ) (echo now : ℕ) (old : LinkState) (says : Said) (new : LinkState) → Starts auth random echo now old says new → says.finished ≡ false
+lcp_begins : (auth : List AuthKind) (random : List ℕ) (echo now : ℕ) (old : LcpState) (says : Said) (new : LcpState) → Starts auth random echo now old says new → says.finished ≡ false
 lcp_begins auth random echo now old says new h =
     begins_on Up _ echo now h.opened (record { link = new; said = says }) h.on_up refl (begins_on Open _ echo now (record { link = record old { ask = h.ask }; said = quiet }) h.opened h.on_open refl refl)
 
@@ -162,22 +162,22 @@ above_finished true left r now random t after h = ap (λ (u : Turn). u.finished)
 above_finished false true r now random t after h = ap (λ (u : Turn). u.finished) h.done
 above_finished false false r now random t after h = ap (λ (u : Turn). u.finished) h
 
-module _ (r : LinkRules) (now : ℕ) (random : List ℕ) (old : PppState) (says : PppSaid) (new : PppState) where
-  close_stays : PppSteps r told.Close now random old says new → is_opened old.lcp.lcp.state ≡ true → says.finished ≡ false
+module _ (r : LinkRules) (now : ℕ) (random : List ℕ) (old : LinkState) (says : LinkSaid) (new : LinkState) where
+  close_stays : LinkSteps r told.Close now random old says new → is_opened old.lcp.lcp.state ≡ true → says.finished ≡ false
   close_stays h up =
       let lcp = h.goes.0 in
-      ap (λ (s : PppSaid). s.finished) h.said
+      ap (λ (s : LinkSaid). s.finished) h.said
       ∙ above_finished lcp.says.opened (leaves old.lcp lcp.lcp) r now random (with_lcp (begun old) (record { link = lcp.lcp; said = lcp.says })) h.turn lcp.above
       ∙ lcp_stays _ r.echo now old.lcp lcp.says lcp.lcp lcp.steps up
 
-  pub start_stays : PppSteps r told.Start now random old says new → says.finished ≡ false
+  pub start_stays : LinkSteps r told.Start now random old says new → says.finished ≡ false
   start_stays h =
       let lcp = h.goes.0 in
-      ap (λ (s : PppSaid). s.finished) h.said
+      ap (λ (s : LinkSaid). s.finished) h.said
       ∙ above_finished lcp.says.opened (leaves old.lcp lcp.lcp) r now random (with_lcp (begun old) (record { link = lcp.lcp; said = lcp.says })) h.turn lcp.above
       ∙ lcp_begins r.auth.items random r.echo now old.lcp lcp.says lcp.lcp lcp.steps
 
-  live_stays : (what : WholeInput) → PppSteps r what now random old says new → KeepsPhases new → new.live ≡ true → says.finished ≡ false
+  live_stays : (what : Input) → LinkSteps r what now random old says new → KeepsPhases new → new.live ≡ true → says.finished ≡ false
   live_stays what h keeps live =
       elim says.finished as (λ (b : Bool). says.finished ≡ b → b ≡ false) [
         | true ↦ λ e. absurd (false≢true (sym (finished_down r now random what old says new h e) ∙ term_while_opened new keeps live))
@@ -188,7 +188,7 @@ module _ (r : LinkRules) (now : ℕ) (random : List ℕ) (old : PppState) (says 
 
 module _ (r : Rules) (a : At) (now : ℕ) (random : List ℕ) (beside : Beside) (x : Session) (outs : List OutRecord) (cause : Option ℕ) (x' : Session) (beside' : Beside) where
   -- a session that has a lease after a step has not finished by it
-  pub leased_unfinished : (what : WholeInput) (d : Drives r a beside x (PppSteps r.link what now random) outs cause x' beside') → KeepsLease x'.service x'.lease → IsSome x'.lease → d.says.finished ≡ false
+  pub leased_unfinished : (what : Input) (d : Drives r a beside x (LinkSteps r.link what now random) outs cause x' beside') → KeepsLease x'.service x'.lease → IsSome x'.lease → d.says.finished ≡ false
   leased_unfinished what d keeps some =
       let y = after_link x d.made beside.asked d.says d.link in
       let kept : KeepsLease y.service y.lease = subst (λ (z : Session). KeepsLease z.service z.lease) d.session keeps in
@@ -196,7 +196,7 @@ module _ (r : Rules) (a : At) (now : ℕ) (random : List ℕ) (beside : Beside) 
       live_stays r.link now random d.made.link d.says d.link what d.steps kept.0 (kept.1 has)
 
   -- nor has one that had a lease before Close
-  pub closed_unfinished : (d : Drives r a beside x (PppSteps r.link told.Close now random) outs cause x' beside') (lease : Option Lease) → KeepsLease x.service lease → IsSome lease → d.says.finished ≡ false
+  pub closed_unfinished : (d : Drives r a beside x (LinkSteps r.link told.Close now random) outs cause x' beside') (lease : Option Lease) → KeepsLease x.service lease → IsSome lease → d.says.finished ≡ false
   closed_unfinished d lease keeps some =
-      let kept : KeepsLease (Discovered d.made) lease = subst (λ (v : Service). KeepsLease v lease) d.is_made keeps in
+      let kept : KeepsLease (Linked d.made) lease = subst (λ (v : Service). KeepsLease v lease) d.is_made keeps in
       close_stays r.link now random d.made.link d.says d.link d.steps (term_while_opened d.made.link kept.0 (kept.1 some))

@@ -2,7 +2,7 @@
 use Rattle.std.proofs.Common.{◌≡◌, ℕ, List, map, Option, refl, sym, ap, subst, ◌∙◌, arith}
 use Rattle.bng_engine.specs.Views.{Row, rows_where}
 use Rattle.bng_steps.specs.declared.session.Lease.{Lease}
-use Rattle.bng_steps.specs.Running.{KeepSums, SumsStay, TermsView, closed_rows, row_recast_by}
+use Rattle.bng_steps.specs.TermRows.{KeepSums, SumsStay, TermsView, closed_rows, row_recast_by}
 use Rattle.bng_steps.proofs.Closing.{closed_same}
 use Rattle.bng_steps.proofs.Recasting.{recast_rows}
 

@@ -10,32 +10,32 @@ use Rattle.bng_base.specs.declared.item.OutRecord.{OutRecord}
 use Rattle.bng_engine.specs.Lists.{AnyOf}
 use Rattle.bng_ppp.specs.declared.rules.LinkRules.{LinkRules}
 use Rattle.bng_ppp.specs.Layers.{Turn}
-use Rattle.bng_ppp.specs.PppRelation.{PppSaid, after_turn, said_of}
-use Rattle.bng_ppp.specs.PppState.{PppState, is_open}
+use Rattle.bng_ppp.specs.LinkRelation.{LinkSaid, after_turn, said_of}
+use Rattle.bng_ppp.specs.LinkState.{LinkState, is_open}
 use Rattle.bng_ppp.specs.Verdict.{Settles}
 use Rattle.bng_ppp.proofs.TermLaws.{settled_live}
-use Rattle.bng_ppp.proofs.WholePhases.{open_unsettled}
+use Rattle.bng_ppp.proofs.LinkPhases.{open_unsettled}
 use Rattle.bng_sessions.specs.Sessions.{Sessions, NoneShares, value_at, without, read_at}
 use Rattle.bng_sessions.proofs.SessionLaws.{value_at-without, value_at-without_other, with_value-without}
 use Rattle.bng_base.specs.declared.circuit.Circuit.{Circuit}
 use Rattle.bng_steps.proofs.Naming.{way_stays}
-use Rattle.bng_steps.specs.Made.{Made, Question}
+use Rattle.bng_steps.specs.LinkService.{LinkService, Question}
 use Rattle.bng_steps.specs.declared.meters.Meters.{Meters}
 use Rattle.bng_steps.specs.declared.meters.Plan.{Plan}
 use Rattle.bng_steps.specs.declared.rules.Rules.{Rules}
 use Rattle.bng_base.specs.declared.item.At.{At}
 use Rattle.bng_steps.specs.declared.session.Lease.{Lease}
 use Rattle.bng_steps.specs.declared.session.Service.{Service}
-use Rattle.bng_steps.specs.declared.session.Service.TheVariants.{Provisioned, Discovered}
+use Rattle.bng_steps.specs.declared.session.Service.TheVariants.{Provisioned, Linked}
 use Rattle.bng_steps.specs.declared.session.Session.{Session}
-use Rattle.bng_steps.specs.declared.terms.Running.{Running}
+use Rattle.bng_steps.specs.declared.terms.TermRow.{TermRow}
 use Rattle.bng_steps.specs.Driven.{Driven}
 use Rattle.bng_steps.specs.Indexed.{address_of}
 use Rattle.bng_steps.specs.Link.{IsToldVerdict, LinkStep, Told}
 use Rattle.bng_steps.specs.Metered.{meters_of}
 use Rattle.bng_steps.specs.Passing.{place_in}
 use Rattle.bng_steps.specs.Questions.{open_in, open_of}
-use Rattle.bng_steps.specs.Running.{AreTied, TermsView, tenures_in, whole}
+use Rattle.bng_steps.specs.TermRows.{AreTied, TermsView, tenures_in, whole}
 use Rattle.bng_steps.specs.Serving.{KeepsLease}
 use Rattle.bng_steps.specs.State.{Beside, IsTermOf, State, with_session, beside_at}
 use Rattle.bng_steps.specs.Tenures.{Tenure}
@@ -54,13 +54,13 @@ question_open true asks o q e = absurd (never q e)
 question_open false true o q e = refl
 question_open false false o q e = absurd (never q e)
 
-pub asks_open : (m : Made) (q : Question) → open_in (Discovered m) ≡ Some q → is_open m.link.auth ≡ true
+pub asks_open : (m : LinkService) (q : Question) → open_in (Linked m) ≡ Some q → is_open m.link.auth ≡ true
 asks_open m q e = question_open m.ended (is_open m.link.auth) m.question q e
 
 no_lease_in : (v : Service) (lease : Option Lease) (q : Question) → open_in v ≡ Some q → KeepsLease v lease → lease ≡ None
 no_lease_in (Provisioned over) lease q e keeps = absurd (never q e)
-no_lease_in (Discovered m) None q e keeps = refl
-no_lease_in (Discovered m) (Some l) q e keeps =
+no_lease_in (Linked m) None q e keeps = refl
+no_lease_in (Linked m) (Some l) q e keeps =
     absurd (false≢true (sym (open_unsettled m.link.auth (asks_open m q e)) ∙ keeps.0.term (keeps.1 refl)))
 
 -- it has no lease
@@ -70,7 +70,7 @@ no_lease x q e keeps = no_lease_in x.service x.lease q e keeps
 -- What its link is told --------------------------------------------------------------------------------------------------------
 
 pub driven_so : (r : Rules) (a : At) (Steps Wanted : LinkStep) (beside : Beside) (x : Session) (cause : Option ℕ) (x' : Session) (beside' : Beside) (outs outs' : List OutRecord)
-    → ((old : PppState) (says : PppSaid) (new : PppState) → Steps old says new → Wanted old says new) → Driven r a Steps beside x cause x' beside' outs outs' → Driven r a Wanted beside x cause x' beside' outs outs'
+    → ((old : LinkState) (says : LinkSaid) (new : LinkState) → Steps old says new → Wanted old says new) → Driven r a Steps beside x cause x' beside' outs outs' → Driven r a Wanted beside x cause x' beside' outs outs'
 driven_so r a Steps Wanted beside x cause x' beside' outs outs' follows d = record {
   more = d.more;
   drives = record {
@@ -93,7 +93,7 @@ driven_so r a Steps Wanted beside x cause x' beside' outs outs' follows d = reco
   few_last = d.few_last;
 }
 
-pub judged : (r : LinkRules) (t : Told) (turn : Turn) (cause : Option ℕ) (now : ℕ) (random : List ℕ) (old : PppState) (says : PppSaid) (new : PppState)
+pub judged : (r : LinkRules) (t : Told) (turn : Turn) (cause : Option ℕ) (now : ℕ) (random : List ℕ) (old : LinkState) (says : LinkSaid) (new : LinkState)
     → Settles (is_open old.auth) t.yes r t.lease t.text now random old turn × (cause ≡ None) → says ≡ said_of turn cause → new ≡ after_turn turn → IsToldVerdict r t now random old says new
 judged r t turn cause now random old says new (settles, is) said state = record { turn = turn; settles = settles; said = said ∙ ap (said_of turn) is; state = state }
 
@@ -114,7 +114,7 @@ module _ (r : Rules) (a : At) (t : Told) (now : ℕ) (random : List ℕ) (beside
   term_live q address asks accepted leased =
       let steps = d.drives.steps in
       let opened = asks_open d.drives.made q (ap open_in (sym d.drives.is_made) ∙ asks) in
-      ap (λ (l : PppState). l.live) steps.state
+      ap (λ (l : LinkState). l.live) steps.state
       ∙ settled_live r.link address t.text now random d.drives.made.link steps.turn (settles_so (is_open d.drives.made.link.auth) t.yes t.lease address opened accepted leased steps.turn steps.settles)
 
   -- a term is live on its link, where it is accepted with an address
@@ -125,7 +125,7 @@ module _ (r : Rules) (a : At) (t : Told) (now : ℕ) (random : List ℕ) (beside
 
 -- Nobody else has the address --------------------------------------------------------------------------------------------------
 
-not_held : (a : Ip4) (rows : List Running) (y : Session) (l : Lease) → All (λ (r : Running). r.lease ≢ a) rows → AnyOf (IsTermOf y l) (tenures_in rows) → l.address ≡ a → ⊥
+not_held : (a : Ip4) (rows : List TermRow) (y : Session) (l : Lease) → All (λ (r : TermRow). r.lease ≢ a) rows → AnyOf (IsTermOf y l) (tenures_in rows) → l.address ≡ a → ⊥
 not_held a [] y l free any is = any
 not_held a (r ∷ rows) y l free (inl term) is = free 0 r (omega arith) (term.address ∙ is)
 not_held a (r ∷ rows) y l free (inr later) is = not_held a rows y l (λ k d lt. free (suc k) d (omega (arith, lt))) later is
@@ -138,7 +138,7 @@ read_there : (o : Option Session) (k : Ip4) → option_and_then address_of o ≡
 read_there None k e = absurd (never k e)
 read_there (Some y) k e = (y, refl, e)
 
-pub shares_begun : (ss ss' : Sessions Session) (n : ℕ) (a : Ip4) (rows : List Running) (x : Session) (l : Lease) → ss' ≡ without ss n → x.lease ≡ Some l → l.address ≡ a → AreTied ss (tenures_in rows) → All (λ (r : Running). r.lease ≢ a) rows → NoneShares address_of ss' x
+pub shares_begun : (ss ss' : Sessions Session) (n : ℕ) (a : Ip4) (rows : List TermRow) (x : Session) (l : Lease) → ss' ≡ without ss n → x.lease ≡ Some l → l.address ≡ a → AreTied ss (tenures_in rows) → All (λ (r : TermRow). r.lease ≢ a) rows → NoneShares address_of ss' x
 shares_begun ss ss' n a rows x l taken leased is tied free m k mine theirs =
     let mine_is : l.address ≡ k = same l.address k (sym (ap (option_map (λ (y : Lease). y.address)) leased) ∙ mine) in
     let (y, there, has) = read_there (value_at (without ss n) m) k (ap (λ (qs : Sessions Session). read_at address_of qs m) (sym taken) ∙ theirs) in

@@ -14,7 +14,7 @@ use Rattle.bng_base.specs.declared.settings.NamedRange.{NamedRange}
 use Rattle.bng_engine.specs.Protocol.{HaveProfiles}
 use Rattle.bng_engine.specs.Terms.{Term, is_live, keys}
 use Rattle.bng_grant.specs.Grants.{Gift}
-use Rattle.bng_ppp.specs.declared.whole_input.WholeInput.TheVariants.{Start, Close}
+use Rattle.bng_ppp.specs.declared.input.Input.TheVariants.{Start, Close}
 use Rattle.bng_coa.specs.Wants.{wanted}
 use Rattle.bng_radius_wire.specs.Grammar.{Packet}
 use Rattle.bng_sessions.specs.Sessions.{value_at, with_value}

@@ -7,16 +7,16 @@ use Rattle.bng_base.specs.declared.address.Ip4.{Ip4}
 use Rattle.bng_base.specs.declared.item.Claim.TheVariants.{NoClaim}
 use Rattle.bng_base.specs.declared.item.ItemKind.{ItemKind}
 use Rattle.bng_base.specs.declared.item.ItemKind.TheVariants.{Verdict}
-use Rattle.bng_ppp.specs.PppState.{is_open}
+use Rattle.bng_ppp.specs.LinkState.{is_open}
 use Rattle.bng_sessions.specs.Sessions.{value_at}
 use Rattle.bng_steps.specs.declared.rules.Rules.{Rules}
 use Rattle.bng_steps.specs.declared.session.Service.{Service}
-use Rattle.bng_steps.specs.declared.session.Service.TheVariants.{Provisioned, Discovered}
+use Rattle.bng_steps.specs.declared.session.Service.TheVariants.{Provisioned, Linked}
 use Rattle.bng_steps.specs.declared.session.Session.{Session}
 use Rattle.bng_steps.specs.Deed.{Deed}
 use Rattle.bng_steps.specs.Granting.{BeginsByYes, IsSound}
 use Rattle.bng_steps.specs.Link.{Told}
-use Rattle.bng_steps.specs.Made.{Question}
+use Rattle.bng_steps.specs.LinkService.{Question}
 use Rattle.bng_steps.specs.Protocol.{claimed_by}
 use Rattle.bng_steps.specs.Questions.{asking_of, last_asking, last_in, open_ask_at, open_in, open_of}
 use Rattle.bng_steps.specs.State.{State}
@@ -49,7 +49,7 @@ open_is_last true begun o q e = absurd (let never : ⊥ = cc in never)
 
 last_of : (v : Service) (q : Question) → open_in v ≡ Some q → last_in v ≡ Some q
 last_of (Provisioned over) q e = absurd (let never : ⊥ = cc in never)
-last_of (Discovered m) q e = open_is_last m.ended (is_open m.link.auth) m.question q e
+last_of (Linked m) q e = open_is_last m.ended (is_open m.link.auth) m.question q e
 
 module _ (r : Rules) (s : State) (limited : Bool) (d : Deed) (sound : IsSound s) (kind : d.entry.item.kind ≡ Verdict) (asks : open_ask_at s d.entry.item.target ≡ Some d.entry.item.ask) (t : Told) (decides : Decides r limited d.entry.item.frame.payload d.entry.claim (Some t)) (h : Judges r s d.entry t d) where
   own : h.x.number.0 ≡ d.entry.item.target

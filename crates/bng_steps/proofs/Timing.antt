@@ -6,7 +6,7 @@ use Rattle.bng_lns.specs.Tunnels.{TunnelsState}
 use Rattle.bng_steps.specs.declared.rules.Rules.{Rules}
 use Rattle.bng_base.specs.declared.item.At.{At}
 use Rattle.bng_steps.specs.declared.session.Service.{Service}
-use Rattle.bng_steps.specs.declared.session.Service.TheVariants.{Provisioned, Discovered}
+use Rattle.bng_steps.specs.declared.session.Service.TheVariants.{Provisioned, Linked}
 use Rattle.bng_steps.specs.declared.session.Session.{Session}
 use Rattle.bng_steps.specs.State.{State, with_driven, with_tunnels}
 use Rattle.bng_steps.specs.Deed.{at_of}
@@ -28,7 +28,7 @@ more_sent outs₀ sent outs first outs₁ e f = f ∙ ap (λ (front : List OutRe
 -- an end of a term keeps the shard's number, and so does a look, and the handling of a deadline
 loses_number : (v : Service) (cause : ℕ) (r : Rules) (e : Entry) (s : State) (n : ℕ) (x : Session) (outs : List OutRecord) (s' : State) → LosesTerm v cause r e s n x outs s' → s'.sessions.shard ≡ s.sessions.shard
 loses_number (Provisioned over) cause r e s n x outs s' h = ap (λ (q : State). q.sessions.shard) h.1
-loses_number (Discovered m) cause r e s n x outs s' h = ap (λ (q : State). q.sessions.shard) h.4
+loses_number (Linked m) cause r e s n x outs s' h = ap (λ (q : State). q.sessions.shard) h.4
 
 looks_number : (k : Option ℕ) (r : Rules) (e : Entry) (s : State) (n : ℕ) (x : Session) (outs : List OutRecord) (s' : State) → LooksAt k r e s n x outs s' → s'.sessions.shard ≡ s.sessions.shard
 looks_number None r e s n x outs s' h = ap (λ (q : State). q.sessions.shard) h.1
@@ -36,7 +36,7 @@ looks_number (Some cause) r e s n x outs s' h = loses_number x.service cause r e
 
 times_number : (v : Service) (r : Rules) (e : Entry) (s : State) (n : ℕ) (x : Session) (outs : List OutRecord) (s' : State) → TimesIn v r e s n x outs s' → s'.sessions.shard ≡ s.sessions.shard
 times_number (Provisioned over) r e s n x outs s' h = looks_number (cause_at (passed_at s.passed x.number) x.lease e.moment) r e s n x outs s' h
-times_number (Discovered m) r e s n x outs s' h =
+times_number (Linked m) r e s n x outs s' h =
     looks_number (cause_at (passed_at s.passed h.after.number) h.after.lease e.moment) r e (with_driven s n x.lease h.cause h.after h.beside) n h.after h.then s' h.looks
 
 timed_number : (r : Rules) (e : Entry) (s : State) (n : ℕ) (outs : List OutRecord) (s' : State) → IsTimed r e s n outs s' → s'.sessions.shard ≡ s.sessions.shard

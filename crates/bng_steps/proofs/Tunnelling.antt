@@ -27,20 +27,20 @@ use Rattle.bng_l2tp_wire.specs.declared.message.TheConstants.{SCCRQ}
 use Rattle.bng_lns.specs.Datagrams.{CarriesOver, IsDataIn, IsReadAs}
 use Rattle.bng_lns.specs.declared.datagram.TunnelDatagram.{TunnelDatagram}
 use Rattle.bng_lns.specs.declared.datagram.TunnelDatagram.TheVariants.{Control, Data}
-use Rattle.bng_lns.specs.declared.taken.Came.{Came}
+use Rattle.bng_lns.specs.declared.outcome.Came.{Came}
 use Rattle.bng_lns.specs.Places.{is_named, is_again, place_of, put_at}
 use Rattle.bng_lns.specs.Timed.{Telling, Timed}
 use Rattle.bng_lns.specs.Tunnels.{Answer, NoTunnel, NoRequest, Steps, Outcome, TunnelsState, begun_with, free_place, hear, heard_by as taken_by, lac_of, made_by, outcome, requested, requested_by, secret_of, vacant, with_step}
-use Rattle.bng_ppp.specs.declared.whole_input.WholeInput.TheVariants.{Start}
-use Rattle.bng_ppp.specs.PppState.{PppState}
+use Rattle.bng_ppp.specs.declared.input.Input.TheVariants.{Start}
+use Rattle.bng_ppp.specs.LinkState.{LinkState}
 use Rattle.bng_sessions.specs.Sessions.{IsLowestVacant, value_at}
 use Rattle.bng_steps.specs.declared.rules.Rules.{Rules}
 use Rattle.bng_steps.specs.declared.destination.Destination.{Destination}
-use Rattle.bng_steps.specs.Made.{Made}
+use Rattle.bng_steps.specs.LinkService.{LinkService}
 use Rattle.bng_steps.specs.declared.session.Service.{Service}
-use Rattle.bng_steps.specs.declared.session.Service.TheVariants.{Provisioned, Discovered}
+use Rattle.bng_steps.specs.declared.session.Service.TheVariants.{Provisioned, Linked}
 use Rattle.bng_steps.specs.declared.session.Session.{Session}
-use Rattle.bng_steps.specs.declared.way.Called.{Called}
+use Rattle.bng_steps.specs.declared.way.TunnelCall.{TunnelCall}
 use Rattle.bng_steps.specs.declared.way.Way.TheVariants.{Call}
 use Rattle.bng_steps.specs.State.{Beside, State, call_of, lives_in, with_driven, with_ended, with_session, with_tunnels}
 use Rattle.bng_steps.specs.Deed.{Deed, at_of, beside_of, handled, is_forwarded, only, out, tunnel_outs}
@@ -207,18 +207,18 @@ pub data Did (r : Rules) (s : State) (e : Entry) (d : Deed) : Type 0 where
   Idles : (fate : Fate) → is_forwarded fate ≡ false → d ≡ only s e fate → Did r s e d
   Speaks : (frames : List (List ℕ)) (t : TunnelsState) → AllByRecursion IsSpelled frames → d ≡ handled s e (answers_to s e frames) (with_tunnels s t) → Did r s e d
   Cuts : (frames : List (List ℕ)) (t : TunnelsState) (cleared : Bool) (number : ℕ) → AllByRecursion IsSpelled frames → d ≡ handled s e (answers_to s e frames) (cut_if cleared number (with_tunnels s t)) → Did r s e d
-  Comes : (frames : List (List ℕ)) (t : TunnelsState) (n number : ℕ) (tunnel : TunnelState) (call : CallState) (link : PppState) → AllByRecursion IsSpelled frames → IsLowestVacant s.sessions n → IsNewLink 1500 e.item.random link
+  Comes : (frames : List (List ℕ)) (t : TunnelsState) (n number : ℕ) (tunnel : TunnelState) (call : CallState) (link : LinkState) → AllByRecursion IsSpelled frames → IsLowestVacant s.sessions n → IsNewLink 1500 e.item.random link
       → d ≡ handled s e (answers_to s e frames) (with_session (with_tunnels s t) n (called_session n e.item.from number tunnel call link)) → Did r s e d
-  TurnsOne : (frames : List (List ℕ)) (t : TunnelsState) (n : ℕ) (x : Session) (m : Made) (c : Called) (call : CallState) → AllByRecursion IsSpelled frames → value_at s.sessions n ≡ Some x → x.service ≡ Discovered m → x.way ≡ Call c
+  TurnsOne : (frames : List (List ℕ)) (t : TunnelsState) (n : ℕ) (x : Session) (m : LinkService) (c : TunnelCall) (call : CallState) → AllByRecursion IsSpelled frames → value_at s.sessions n ≡ Some x → x.service ≡ Linked m → x.way ≡ Call c
       → d ≡ handled s e (answers_to s e frames) (with_session (with_tunnels s t) n (turned x c call)) → Did r s e d
-  PartsOne : (frames : List (List ℕ)) (t : TunnelsState) (n : ℕ) (x : Session) (m : Made) (c : Called) (call : CallState) → AllByRecursion IsSpelled frames → value_at s.sessions n ≡ Some x → x.service ≡ Discovered m → x.way ≡ Call c
+  PartsOne : (frames : List (List ℕ)) (t : TunnelsState) (n : ℕ) (x : Session) (m : LinkService) (c : TunnelCall) (call : CallState) → AllByRecursion IsSpelled frames → value_at s.sessions n ≡ Some x → x.service ≡ Linked m → x.way ≡ Call c
       → d ≡ handled s e (answers_to s e frames) (with_ended (with_tunnels s t) n x.lease lost_carrier (ended (turned x c call))) → Did r s e d
-  ConnectsOne : (frames : List (List ℕ)) (t : TunnelsState) (n : ℕ) (x x' : Session) (m : Made) (c : Called) (call : CallState) (link : PppState) (outs : List OutRecord) (none : Option ℕ) (beside' : Beside) → AllByRecursion IsSpelled frames
-      → value_at s.sessions n ≡ Some x → x.service ≡ Discovered m → x.way ≡ Call c → IsNewLink 1500 e.item.random link
+  ConnectsOne : (frames : List (List ℕ)) (t : TunnelsState) (n : ℕ) (x x' : Session) (m : LinkService) (c : TunnelCall) (call : CallState) (link : LinkState) (outs : List OutRecord) (none : Option ℕ) (beside' : Beside) → AllByRecursion IsSpelled frames
+      → value_at s.sessions n ≡ Some x → x.service ≡ Linked m → x.way ≡ Call c → IsNewLink 1500 e.item.random link
       → Drives r (at_of s e) (beside_of (with_tunnels s t) e) (linked_anew (turned x c call) link) (told r e Start) outs none x' beside'
       → d ≡ handled s e (answers_to s e frames ++ outs) (with_driven (with_tunnels s t) n x.lease (Some lost_carrier) x' beside') → Did r s e d
   PassesUp : (p : DataMessage) (info : List ℕ) → IsDataIn e.item.cut e.item.frame.payload p → CarriesOver p info → HearsData r s e (call_of s e.item.from p.tunnel p.session) info d → Did r s e d
-  HearsOne : (p : DataMessage) (x : Session) (m : Made) → IsDataIn e.item.cut e.item.frame.payload p → call_of s e.item.from p.tunnel p.session ≡ Some x → x.service ≡ Discovered m → HearsPpp r s e p.session x m p.ppp d → Did r s e d
+  HearsOne : (p : DataMessage) (x : Session) (m : LinkService) → IsDataIn e.item.cut e.item.frame.payload p → call_of s e.item.from p.tunnel p.session ≡ Some x → x.service ≡ Linked m → HearsPpp r s e p.session x m p.ppp d → Did r s e d
 
 module _ (r : Rules) (s : State) (e : Entry) (d : Deed) (t : TunnelsState) where
   -- once the tunnel has taken a message
@@ -232,8 +232,8 @@ module _ (r : Rules) (s : State) (e : Entry) (d : Deed) (t : TunnelsState) where
   makes_did (Some n) false frames u number tunnel call next vacant spelled (link, new, is) h =
       Comes frames u n number tunnel call link spelled vacant new (h ∙ ap (λ (q : State). handled s e (answers_to s e frames) q) is)
 
-  turns_did : (opened over : Bool) (frames : List (List ℕ)) (u : TunnelsState) (n : ℕ) (x : Session) (m : Made) (c : Called) (call : CallState) (more : List OutRecord) (next : State) → AllByRecursion IsSpelled frames
-      → value_at s.sessions n ≡ Some x → x.service ≡ Discovered m → x.way ≡ Call c → TurnsCall opened over n x c call r (with_tunnels s u) e more next → d ≡ handled s e (answers_to s e frames ++ more) next → Did r s e d
+  turns_did : (opened over : Bool) (frames : List (List ℕ)) (u : TunnelsState) (n : ℕ) (x : Session) (m : LinkService) (c : TunnelCall) (call : CallState) (more : List OutRecord) (next : State) → AllByRecursion IsSpelled frames
+      → value_at s.sessions n ≡ Some x → x.service ≡ Linked m → x.way ≡ Call c → TurnsCall opened over n x c call r (with_tunnels s u) e more next → d ≡ handled s e (answers_to s e frames ++ more) next → Did r s e d
   turns_did true over frames u n x m c call more next spelled at is way h same =
       ConnectsOne frames u n x h.connected m c call h.link more h.none h.beside spelled at is way h.new h.starts (same ∙ ap (λ (q : State). handled s e (answers_to s e frames ++ more) q) h.next)
   turns_did false true frames u n x m c call more next spelled at is way (none, after) same =
@@ -273,8 +273,8 @@ module _ (r : Rules) (s : State) (e : Entry) (d : Deed) where
 
   over_did : (v : Service) (x : Session) (p : DataMessage) → IsDataIn e.item.cut e.item.frame.payload p → call_of s e.item.from p.tunnel p.session ≡ Some x → x.service ≡ v → HearsOver v r s e x p d → Did r s e d
   over_did (Provisioned over) x p came at is h = Idles Consumed refl h
-  over_did (Discovered m) x p came at is (inl (connected, h)) = HearsOne p x m came at is h
-  over_did (Discovered m) x p came at is (inr (waits, h)) = Idles Consumed refl h
+  over_did (Linked m) x p came at is (inl (connected, h)) = HearsOne p x m came at is h
+  over_did (Linked m) x p came at is (inr (waits, h)) = Idles Consumed refl h
 
   for_did : (found : Option Session) (p : DataMessage) → IsDataIn e.item.cut e.item.frame.payload p → call_of s e.item.from p.tunnel p.session ≡ found → HearsFor found r s e p d → Did r s e d
   for_did None p came is h = Idles (Dropped NoSession) refl h

@@ -14,7 +14,7 @@ use Rattle.bng_sessions.specs.Sessions.{value_at, with_value}
 use Rattle.bng_sessions.proofs.SessionLaws.{value_at-with_value, value_at-with_other}
 use Rattle.bng_term.specs.declared.limits.Limits.{Limits}
 use Rattle.bng_steps.specs.Calls.{called_session, turned}
-use Rattle.bng_steps.specs.Made.{Question}
+use Rattle.bng_steps.specs.LinkService.{Question}
 use Rattle.bng_steps.specs.Changes.{Found, changed_by, found_by, lease_after, meters_after, place_of, recast_by, with_change}
 use Rattle.bng_steps.specs.Passing.{lapsed, looked}
 use Rattle.bng_steps.specs.Serving.{AreOwn}
@@ -28,7 +28,7 @@ use Rattle.bng_steps.specs.State.{Beside, State, IsTermOf, with_session, with_dr
 use Rattle.bng_steps.specs.Deed.{Deed, at_of, beside_of}
 use Rattle.bng_steps.specs.Link.{Drives, LinkStep, Told, ended, nas_request, lost_carrier}
 use Rattle.bng_steps.specs.Metered.{meters_of}
-use Rattle.bng_steps.specs.Running.{AreTied}
+use Rattle.bng_steps.specs.TermRows.{AreTied}
 use Rattle.bng_steps.specs.Step.{Step}
 use Rattle.bng_steps.specs.Tenures.{Tenure, closed, is_over, kept_lease, over_by}
 use Rattle.bng_steps.specs.Verdicts.{Judges, next_lease, next_term, settled_by, with_term}

@@ -10,7 +10,7 @@ use Rattle.std.proofs.lemmas.Nat.{mod-mul-add}
 use Rattle.bng_base.specs.declared.address.SessionNo.{SessionNo}
 use Rattle.bng_sessions.specs.Sessions.{Sessions, IsNumberOf, value_at}
 use Rattle.bng_sessions.specs.Listed.{values}
-use Rattle.bng_steps.specs.Made.{Question}
+use Rattle.bng_steps.specs.LinkService.{Question}
 use Rattle.bng_steps.specs.declared.session.Session.{Session}
 use Rattle.bng_steps.specs.Questions.{Asking, IsLowestWaiting, asked_in, asking_of, does_wait, handed_after, is_handed, is_waiting, open_of, place_of}
 use Rattle.bng_steps.specs.Serving.{AreAsking, AreOfShard, AreOwn, asks}

@@ -20,18 +20,18 @@ use Rattle.bng_l2tp_call.specs.CallState.{CallState}
 use Rattle.bng_l2tp_tunnel.specs.TunnelState.{TunnelState}
 use Rattle.bng_lns.specs.Timed.{Telling, reminded}
 use Rattle.bng_lns.specs.Tunnels.{TunnelsState}
-use Rattle.bng_ppp.specs.declared.whole_input.WholeInput.TheVariants.{Start, Timer, Close}
-use Rattle.bng_ppp.specs.PppState.{PppState}
+use Rattle.bng_ppp.specs.declared.input.Input.TheVariants.{Start, Timer, Close}
+use Rattle.bng_ppp.specs.LinkState.{LinkState}
 use Rattle.bng_radius_wire.specs.Grammar.{Packet}
 use Rattle.bng_sessions.specs.Sessions.{IsLowestVacant, value_at}
 use Rattle.bng_sessions.proofs.SessionLaws.{value_at-with_value}
-use Rattle.bng_steps.specs.Made.{Made}
+use Rattle.bng_steps.specs.LinkService.{LinkService}
 use Rattle.bng_steps.specs.declared.meters.Meters.{Meters}
 use Rattle.bng_steps.specs.declared.rules.Rules.{Rules}
 use Rattle.bng_steps.specs.declared.session.Service.{Service}
-use Rattle.bng_steps.specs.declared.session.Service.TheVariants.{Provisioned, Discovered}
+use Rattle.bng_steps.specs.declared.session.Service.TheVariants.{Provisioned, Linked}
 use Rattle.bng_steps.specs.declared.session.Session.{Session}
-use Rattle.bng_steps.specs.declared.way.Called.{Called}
+use Rattle.bng_steps.specs.declared.way.TunnelCall.{TunnelCall}
 use Rattle.bng_steps.specs.declared.way.Way.TheVariants.{Call}
 use Rattle.bng_steps.specs.Changes.{Applies, Found, HearsChange, Obeys, changed_by, found_by, refusal_of}
 use Rattle.bng_steps.specs.Lasting.{IsLapse}
@@ -69,7 +69,7 @@ pub record Walks (r : Rules) (R : State → State → Type 0) : Type 1 where
       → Drives r (at_of s e) (beside_of s e) x Steps outs cause x' beside' → R s (with_driven s n x.lease cause x' beside')
   pub made : (Steps : LinkStep) (e : Entry) (s : State) (n : ℕ) (x x' : Session) (outs : List OutRecord) (cause : Option ℕ) (beside' : Beside) → x.lease ≡ None
       → Drives r (at_of s e) (beside_of s e) x Steps outs cause x' beside' → R s (with_driven s n None cause x' beside')
-  pub ends : (s : State) (n : ℕ) (x : Session) (m : Made) (cause : ℕ) → IsLost cause → value_at s.sessions n ≡ Some x → x.service ≡ Discovered m → R s (with_ended s n x.lease cause (ended x))
+  pub ends : (s : State) (n : ℕ) (x : Session) (m : LinkService) (cause : ℕ) → IsLost cause → value_at s.sessions n ≡ Some x → x.service ≡ Linked m → R s (with_ended s n x.lease cause (ended x))
   pub passes : (s : State) (n : SessionNo) (moment : ℕ) (ms : Meters) → R s (with_passed s n moment ms)
   pub looks : (s : State) (n at : ℕ) (x : Session) → value_at s.sessions n ≡ Some x → R s (with_session s n (looked at x))
   pub lapses : (e : Entry) (s : State) (n : ℕ) (x x' : Session) (outs : List OutRecord) (cause : ℕ) (none : Option ℕ) (beside' : Beside) → value_at s.sessions n ≡ Some x
@@ -78,13 +78,13 @@ pub record Walks (r : Rules) (R : State → State → Type 0) : Type 1 where
   pub lapses_circuit : (e : Entry) (s : State) (n : ℕ) (x : Session) (over : Bool) (cause : ℕ) → value_at s.sessions n ≡ Some x → x.service ≡ Provisioned over → IsLapse cause
       → R s (with_driven s n x.lease (Some cause) (lapsed x) (beside_of s e))
   pub tells : (s : State) (t : TunnelsState) → R s (with_tunnels s t)
-  pub comes : (e : Entry) (s : State) (n number : ℕ) (peer : Peer) (t : TunnelState) (c : CallState) (link : PppState) → IsLowestVacant s.sessions n → IsNewLink 1500 e.item.random link
+  pub comes : (e : Entry) (s : State) (n number : ℕ) (peer : Peer) (t : TunnelState) (c : CallState) (link : LinkState) → IsLowestVacant s.sessions n → IsNewLink 1500 e.item.random link
       → R s (with_session s n (called_session n peer number t c link))
-  pub turns : (s : State) (n : ℕ) (x : Session) (c : Called) (call : CallState) → value_at s.sessions n ≡ Some x → x.way ≡ Call c → R s (with_session s n (turned x c call))
-  pub over : (s : State) (n : ℕ) (x : Session) (m : Made) (c : Called) (call : CallState) → value_at s.sessions n ≡ Some x → x.service ≡ Discovered m → x.way ≡ Call c
+  pub turns : (s : State) (n : ℕ) (x : Session) (c : TunnelCall) (call : CallState) → value_at s.sessions n ≡ Some x → x.way ≡ Call c → R s (with_session s n (turned x c call))
+  pub over : (s : State) (n : ℕ) (x : Session) (m : LinkService) (c : TunnelCall) (call : CallState) → value_at s.sessions n ≡ Some x → x.service ≡ Linked m → x.way ≡ Call c
       → R s (with_ended s n x.lease lost_carrier (ended (turned x c call)))
-  pub connects : (e : Entry) (s : State) (n : ℕ) (x x' : Session) (m : Made) (c : Called) (call : CallState) (link : PppState) (outs : List OutRecord) (none : Option ℕ) (beside' : Beside) → value_at s.sessions n ≡ Some x
-      → x.service ≡ Discovered m → x.way ≡ Call c → IsNewLink 1500 e.item.random link → Drives r (at_of s e) (beside_of s e) (linked_anew (turned x c call) link) (told r e Start) outs none x' beside'
+  pub connects : (e : Entry) (s : State) (n : ℕ) (x x' : Session) (m : LinkService) (c : TunnelCall) (call : CallState) (link : LinkState) (outs : List OutRecord) (none : Option ℕ) (beside' : Beside) → value_at s.sessions n ≡ Some x
+      → x.service ≡ Linked m → x.way ≡ Call c → IsNewLink 1500 e.item.random link → Drives r (at_of s e) (beside_of s e) (linked_anew (turned x c call) link) (told r e Start) outs none x' beside'
       → R s (with_driven s n x.lease (Some lost_carrier) x' beside')
 
 -- The same by what makes each change: the time that has run out for a session, a frame that its link hears, and discovery, which makes a
@@ -96,9 +96,9 @@ pub record WalksBy (r : Rules) (R : State → State → Type 0) : Type 0 where
       → Drives r (at_of s e) (beside_of s e) x (told r e Timer) outs cause x' beside' → R s (with_driven s n x.lease cause x' beside')
   pub heard : (octets : List ℕ) (e : Entry) (s : State) (n : ℕ) (x x' : Session) (outs : List OutRecord) (cause : Option ℕ) (beside' : Beside) → value_at s.sessions n ≡ Some x
       → Drives r (at_of s e) (beside_of s e) x (hears r e octets) outs cause x' beside' → R s (with_driven s n x.lease cause x' beside')
-  pub made : (e : Entry) (s : State) (n port : ℕ) (mac : Mac) (host_uniq : Option (List ℕ)) (link : PppState) (x' : Session) (outs : List OutRecord) (cause : Option ℕ) (beside' : Beside)
+  pub made : (e : Entry) (s : State) (n port : ℕ) (mac : Mac) (host_uniq : Option (List ℕ)) (link : LinkState) (x' : Session) (outs : List OutRecord) (cause : Option ℕ) (beside' : Beside)
       → IsLowestVacant s.sessions n → IsNewLink 1492 e.item.random link → Drives r (at_of s e) (beside_of s e) (new_session n port mac host_uniq link) (told r e Start) outs cause x' beside' → R s (with_driven s n None cause x' beside')
-  pub ends : (s : State) (n : ℕ) (x : Session) (m : Made) (cause : ℕ) → IsLost cause → value_at s.sessions n ≡ Some x → x.service ≡ Discovered m → R s (with_ended s n x.lease cause (ended x))
+  pub ends : (s : State) (n : ℕ) (x : Session) (m : LinkService) (cause : ℕ) → IsLost cause → value_at s.sessions n ≡ Some x → x.service ≡ Linked m → R s (with_ended s n x.lease cause (ended x))
   pub passes : (s : State) (n : SessionNo) (moment : ℕ) (ms : Meters) → R s (with_passed s n moment ms)
   pub looks : (s : State) (n at : ℕ) (x : Session) → value_at s.sessions n ≡ Some x → R s (with_session s n (looked at x))
   pub lapses : (e : Entry) (s : State) (n : ℕ) (x x' : Session) (outs : List OutRecord) (cause : ℕ) (none : Option ℕ) (beside' : Beside) → value_at s.sessions n ≡ Some x
@@ -107,13 +107,13 @@ pub record WalksBy (r : Rules) (R : State → State → Type 0) : Type 0 where
   pub lapses_circuit : (e : Entry) (s : State) (n : ℕ) (x : Session) (over : Bool) (cause : ℕ) → value_at s.sessions n ≡ Some x → x.service ≡ Provisioned over → IsLapse cause
       → R s (with_driven s n x.lease (Some cause) (lapsed x) (beside_of s e))
   pub tells : (s : State) (t : TunnelsState) → R s (with_tunnels s t)
-  pub comes : (e : Entry) (s : State) (n number : ℕ) (peer : Peer) (t : TunnelState) (c : CallState) (link : PppState) → IsLowestVacant s.sessions n → IsNewLink 1500 e.item.random link
+  pub comes : (e : Entry) (s : State) (n number : ℕ) (peer : Peer) (t : TunnelState) (c : CallState) (link : LinkState) → IsLowestVacant s.sessions n → IsNewLink 1500 e.item.random link
       → R s (with_session s n (called_session n peer number t c link))
-  pub turns : (s : State) (n : ℕ) (x : Session) (c : Called) (call : CallState) → value_at s.sessions n ≡ Some x → x.way ≡ Call c → R s (with_session s n (turned x c call))
-  pub over : (s : State) (n : ℕ) (x : Session) (m : Made) (c : Called) (call : CallState) → value_at s.sessions n ≡ Some x → x.service ≡ Discovered m → x.way ≡ Call c
+  pub turns : (s : State) (n : ℕ) (x : Session) (c : TunnelCall) (call : CallState) → value_at s.sessions n ≡ Some x → x.way ≡ Call c → R s (with_session s n (turned x c call))
+  pub over : (s : State) (n : ℕ) (x : Session) (m : LinkService) (c : TunnelCall) (call : CallState) → value_at s.sessions n ≡ Some x → x.service ≡ Linked m → x.way ≡ Call c
       → R s (with_ended s n x.lease lost_carrier (ended (turned x c call)))
-  pub connects : (e : Entry) (s : State) (n : ℕ) (x x' : Session) (m : Made) (c : Called) (call : CallState) (link : PppState) (outs : List OutRecord) (none : Option ℕ) (beside' : Beside) → value_at s.sessions n ≡ Some x
-      → x.service ≡ Discovered m → x.way ≡ Call c → IsNewLink 1500 e.item.random link → Drives r (at_of s e) (beside_of s e) (linked_anew (turned x c call) link) (told r e Start) outs none x' beside'
+  pub connects : (e : Entry) (s : State) (n : ℕ) (x x' : Session) (m : LinkService) (c : TunnelCall) (call : CallState) (link : LinkState) (outs : List OutRecord) (none : Option ℕ) (beside' : Beside) → value_at s.sessions n ≡ Some x
+      → x.service ≡ Linked m → x.way ≡ Call c → IsNewLink 1500 e.item.random link → Drives r (at_of s e) (beside_of s e) (linked_anew (turned x c call) link) (told r e Start) outs none x' beside'
       → R s (with_driven s n x.lease (Some lost_carrier) x' beside')
 
 pub walks_by : (r : Rules) (R : State → State → Type 0) → Walks r R → WalksBy r R
@@ -144,7 +144,7 @@ module _ (r : Rules) (R : State → State → Type 0) (w : WalksBy r R) where
   pub loses_walk : (v : Service) (cause : ℕ) (e : Entry) (s : State) (n : ℕ) (x : Session) (outs : List OutRecord) (s' : State) → value_at s.sessions n ≡ Some x → x.service ≡ v
       → IsLapse cause → LosesTerm v cause r e s n x outs s' → R s s'
   loses_walk (Provisioned over) cause e s n x outs s' at is lapse (none, next) = subst (R s) (sym next) (w.lapses_circuit e s n x over cause at is lapse)
-  loses_walk (Discovered m) cause e s n x outs s' at is lapse (x', none, beside', drives, next) = subst (R s) (sym next) (w.lapses e s n x x' outs cause none beside' at lapse drives)
+  loses_walk (Linked m) cause e s n x outs s' at is lapse (x', none, beside', drives, next) = subst (R s) (sym next) (w.lapses e s n x x' outs cause none beside' at lapse drives)
 
   looks_walk : (o : Option ℕ) (e : Entry) (s : State) (n : ℕ) (x : Session) (outs : List OutRecord) (s' : State) → value_at s.sessions n ≡ Some x
       → cause_at (passed_at s.passed x.number) x.lease e.moment ≡ o → LooksAt o r e s n x outs s' → R s s'
@@ -153,7 +153,7 @@ module _ (r : Rules) (R : State → State → Type 0) (w : WalksBy r R) where
 
   times_walk : (v : Service) (e : Entry) (s : State) (n : ℕ) (x : Session) (outs : List OutRecord) (s' : State) → value_at s.sessions n ≡ Some x → TimesIn v r e s n x outs s' → R s s'
   times_walk (Provisioned over) e s n x outs s' at h = looks_walk (cause_at (passed_at s.passed x.number) x.lease e.moment) e s n x outs s' at refl h
-  times_walk (Discovered m) e s n x outs s' at h =
+  times_walk (Linked m) e s n x outs s' at h =
       let next = with_driven s n x.lease h.cause h.after h.beside in
       w.then s next s' (w.timed e s n x h.after h.first h.cause h.beside at h.drives)
       (looks_walk (cause_at (passed_at s.passed h.after.number) h.after.lease e.moment) e next n h.after h.then s' (value_at-with_value s.sessions n h.after) refl h.looks)
@@ -233,16 +233,16 @@ module _ (r : Rules) (R : State → State → Type 0) (w : WalksBy r R) where
         after (with_passed s up.x.number e.moment ms) _ up.done refl (w.passes s up.x.number e.moment ms)
     packets found info (fate, is, inr (stays, h)) = kept _ h refl
 
-    ppp : (n : ℕ) (x : Session) (made : Made) (octets : List ℕ) → value_at s.sessions n ≡ Some x → HearsPpp r s e n x made octets d → R s d.next
+    ppp : (n : ℕ) (x : Session) (made : LinkService) (octets : List ℕ) → value_at s.sessions n ≡ Some x → HearsPpp r s e n x made octets d → R s d.next
     ppp n x made octets at (inl (over, h)) = kept _ h refl
     ppp n x made octets at (inr (live, outs, cause, x', beside', drives, h)) =
         after (with_driven s n x.lease cause x' beside') _ h refl (w.heard octets e s n x x' outs cause beside' at drives)
 
     control : (v : Service) (x : Session) (p : PppoeFrame) → value_at s.sessions p.session ≡ Some x → x.service ≡ v → HearsControl v r s e x p d → R s d.next
     control (Provisioned over) x p at is h = kept _ h refl
-    control (Discovered made) x p at is (inl (padt, inl (over, h))) = kept _ h refl
-    control (Discovered made) x p at is (inl (padt, inr (live, h))) = after (with_ended s p.session x.lease user_request (ended x)) _ h refl (w.ends s p.session x made user_request (inl refl) at is)
-    control (Discovered made) x p at is (inr (other, h)) = ppp p.session x made p.payload at h
+    control (Linked made) x p at is (inl (padt, inl (over, h))) = kept _ h refl
+    control (Linked made) x p at is (inl (padt, inr (live, h))) = after (with_ended s p.session x.lease user_request (ended x)) _ h refl (w.ends s p.session x made user_request (inl refl) at is)
+    control (Linked made) x p at is (inr (other, h)) = ppp p.session x made p.payload at h
 
     named : (number : ℕ) (p : PppoeFrame) (found : Option Session) → session_of s number p.src p.session ≡ found → HearsIn found r s e p d → R s d.next
     named number p None is h = kept _ h refl

@@ -16,13 +16,13 @@ use Rattle.bng_l2tp_wire.specs.Messages.{ControlMessage}
 use Rattle.bng_l2tp_wire.specs.declared.message.TheConstants.{ICRQ}
 use Rattle.bng_lns.specs.Exchange.{exchanged}
 use Rattle.bng_lns.specs.Tunnels.{tunnel_at, with_step}
-use Rattle.bng_ppp.specs.declared.whole_input.WholeInput.TheVariants.{Start}
-use Rattle.bng_ppp.specs.PppState.{PppState}
-use Rattle.bng_steps.specs.Made.{Made}
+use Rattle.bng_ppp.specs.declared.input.Input.TheVariants.{Start}
+use Rattle.bng_ppp.specs.LinkState.{LinkState}
+use Rattle.bng_steps.specs.LinkService.{LinkService}
 use Rattle.bng_steps.specs.declared.rules.Rules.{Rules}
-use Rattle.bng_steps.specs.declared.session.Service.TheVariants.{Discovered}
+use Rattle.bng_steps.specs.declared.session.Service.TheVariants.{Linked}
 use Rattle.bng_steps.specs.declared.session.Session.{Session}
-use Rattle.bng_steps.specs.declared.way.Called.{Called}
+use Rattle.bng_steps.specs.declared.way.TunnelCall.{TunnelCall}
 use Rattle.bng_steps.specs.declared.way.Way.TheVariants.{Call}
 use Rattle.bng_steps.specs.State.{Beside, State, call_of, lives_in, with_driven, with_ended, with_session, with_tunnels}
 use Rattle.bng_steps.specs.Deed.{Deed, at_of, beside_of, handled, tunnel_outs}
@@ -47,21 +47,21 @@ abbrev pub stepped : State → Entry → ℕ → Step → State
 stepped s e number step = with_tunnels s (with_step e.moment s.tunnels number step.after)
 
 -- a session that has a link which was told nothing
-abbrev pub linked : PppState → Made
+abbrev pub linked : LinkState → LinkService
 linked link = record { host_uniq = None; link = link; question = None; ended = false }
 
 -- Calls that are asked for -------------------------------------------------------------------------------------------------
 
 -- a call of the tunnel with this number
-abbrev pub called_over : Peer → ℕ → TunnelState → CallState → Called
+abbrev pub called_over : Peer → ℕ → TunnelState → CallState → TunnelCall
 called_over peer number t c = record { peer = peer; tunnel = record { 0 = number }; far = unwrap_or t.peer_number 0; call = c }
 
 -- the session with this number, of a call that was just made
-abbrev pub session_over : ℕ → Called → PppState → Session
-session_over n c link = record { number = record { 0 = n }; way = Call c; service = Discovered (linked link); lease = None }
+abbrev pub session_over : ℕ → TunnelCall → LinkState → Session
+session_over n c link = record { number = record { 0 = n }; way = Call c; service = Linked (linked link); lease = None }
 
 -- the same, over this tunnel
-abbrev pub called_session : ℕ → Peer → ℕ → TunnelState → CallState → PppState → Session
+abbrev pub called_session : ℕ → Peer → ℕ → TunnelState → CallState → LinkState → Session
 called_session n peer number t c link = session_over n (called_over peer number t c) link
 
 -- the session of a call that no session number is free for has none
@@ -69,10 +69,10 @@ abbrev pub number_for : Option ℕ → ℕ
 number_for vacancy = unwrap_or vacancy 0
 
 -- The call takes the lowest session number that is free, where one is; and where its ICRP goes out, or will, there is a session.
-abbrev pub MakesSession : Option ℕ → Bool → Called → List ℕ → State → State → Type 0
+abbrev pub MakesSession : Option ℕ → Bool → TunnelCall → List ℕ → State → State → Type 0
 MakesSession None unmade c random s s' = s' ≡ s
 MakesSession (Some n) true c random s s' = s' ≡ s
-MakesSession (Some n) false c random s s' = (link : PppState) × IsNewLink 1500 random link × (s' ≡ with_session s n (session_over n c link))
+MakesSession (Some n) false c random s s' = (link : LinkState) × IsNewLink 1500 random link × (s' ≡ with_session s n (session_over n c link))
 
 -- An ICRQ asks for a call of the tunnel with this number. It is answered by an ICRP, or refused by a CDN.
 pub record AsksForCall (number : ℕ) (said : Said) (m : ControlMessage) (s : State) (e : Entry) (d : Deed) : Type 0 where
@@ -90,16 +90,16 @@ pub record AsksForCall (number : ℕ) (said : Said) (m : ControlMessage) (s : St
 -- Messages of calls that there are -----------------------------------------------------------------------------------------
 
 -- its call is another one
-abbrev pub turned : Session → Called → CallState → Session
+abbrev pub turned : Session → TunnelCall → CallState → Session
 turned x c after = record x { way = Call (record c { call = after }) }
 
 -- a session without a term, whose link is made anew
-abbrev pub linked_anew : Session → PppState → Session
-linked_anew x link = record (lapsed x) { service = Discovered (linked link) }
+abbrev pub linked_anew : Session → LinkState → Session
+linked_anew x link = record (lapsed x) { service = Linked (linked link) }
 
 -- The ICCN was taken: the session's link is made anew, and told Open and Up. A term that was live ends by Lost Carrier.
-pub record Connects (n : ℕ) (x : Session) (c : Called) (after : CallState) (r : Rules) (s : State) (e : Entry) (outs : List OutRecord) (s' : State) : Type 0 where
-  pub link : PppState
+pub record Connects (n : ℕ) (x : Session) (c : TunnelCall) (after : CallState) (r : Rules) (s : State) (e : Entry) (outs : List OutRecord) (s' : State) : Type 0 where
+  pub link : LinkState
   pub new : IsNewLink 1500 e.item.random link
   pub none : Option ℕ
   pub connected : Session
@@ -108,7 +108,7 @@ pub record Connects (n : ℕ) (x : Session) (c : Called) (after : CallState) (r 
   pub next : s' ≡ with_driven s n x.lease (Some lost_carrier) connected beside
 
 -- What became of the call of the session with this number. Where its ICCN was taken the first is true, and where it ended the second is.
-abbrev pub TurnsCall : Bool → Bool → ℕ → Session → Called → CallState → Rules → State → Entry → List OutRecord → State → Type 0
+abbrev pub TurnsCall : Bool → Bool → ℕ → Session → TunnelCall → CallState → Rules → State → Entry → List OutRecord → State → Type 0
 TurnsCall true over n x c after r s e outs s' = Connects n x c after r s e outs s'
 TurnsCall false true n x c after r s e outs s' = (outs ≡ []) × (s' ≡ with_ended s n x.lease lost_carrier (ended (turned x c after)))
 TurnsCall false false n x c after r s e outs s' = (outs ≡ []) × (s' ≡ with_session s n (turned x c after))
@@ -117,7 +117,7 @@ TurnsCall false false n x c after r s e outs s' = (outs ≡ []) × (s' ≡ with_
 pub record TakesForCall (number : ℕ) (said : Said) (m : ControlMessage) (x : Session) (r : Rules) (s : State) (e : Entry) (d : Deed) : Type 0 where
   pub tunnel : TunnelState
   pub stands : tunnel_at s.tunnels number ≡ Some tunnel
-  pub called : Called
+  pub called : TunnelCall
   pub way_is : x.way ≡ Call called
   pub step : Step
   pub is_step : step ≡ call_step tunnel said called.call m e.moment

@@ -18,13 +18,13 @@ use Rattle.bng_radius_wire.specs.Grammar.{Packet}
 use Rattle.bng_sessions.specs.Sessions.{value_at}
 use Rattle.bng_term.specs.declared.limits.Limits.{Limits}
 use Rattle.bng_term.specs.Lifetimes.{changed}
-use Rattle.bng_steps.specs.declared.changes.Answer.{Answer}
+use Rattle.bng_steps.specs.declared.changes.ChangeAnswer.{ChangeAnswer}
 use Rattle.bng_steps.specs.declared.changes.Meant.{Meant}
 use Rattle.bng_steps.specs.declared.meters.Meters.{Meters}
 use Rattle.bng_steps.specs.declared.rules.Rules.{Rules}
 use Rattle.bng_steps.specs.declared.session.Lease.{Lease}
 use Rattle.bng_steps.specs.declared.session.Session.{Session}
-use Rattle.bng_steps.specs.declared.terms.Asked.{Asked}
+use Rattle.bng_steps.specs.declared.terms.NamedTerm.{NamedTerm}
 use Rattle.bng_steps.specs.Deed.{Deed, handled, ignored}
 use Rattle.bng_steps.specs.Link.{admin_reset}
 use Rattle.bng_steps.specs.Metered.{meters_of, plan_at}
@@ -40,12 +40,12 @@ abbrev pub identity_of : Rules → Tenure → Named
 identity_of r t = record { wall = r.wall; term = t.term; circuit = t.circuit; address = t.address; user = t.user }
 
 -- the term is live, and has all the values that are named
-abbrev pub is_asked_for : Rules → List Field → Tenure → Bool
-is_asked_for r fs t = not (is_over t) && is_named (identity_of r t) fs
+abbrev pub is_named_by : Rules → List Field → Tenure → Bool
+is_named_by r fs t = not (is_over t) && is_named (identity_of r t) fs
 
 -- what a look at the terms finds of one
-abbrev pub asked : Tenure → Asked
-asked t = record { term = t.term; profile = t.profile }
+abbrev pub named_term : Tenure → NamedTerm
+named_term t = record { term = t.term; profile = t.profile }
 
 -- a live term, and the session that has its lease
 pub record Found : Type 0 where
@@ -74,7 +74,7 @@ with_its_session s (Some t) = by_session t (value_at s.sessions t.term.session.0
 
 -- the live term that has all the values which the request names, with its session
 abbrev pub found_by : Rules → State → List Field → Option Found
-found_by r s fs = with_its_session s (find (is_asked_for r fs) s.terms)
+found_by r s fs = with_its_session s (find (is_named_by r fs) s.terms)
 
 -- what a step keeps of them
 abbrev pub meant : Found → Meant
@@ -96,17 +96,17 @@ verdict_by (Some cause) found = Refused cause
 verdict_by None None = Refused not_found
 verdict_by None (Some f) = Applied
 
-abbrev pub answer_to : Rules → State → Entry → Packet → Answer
+abbrev pub answer_to : Rules → State → Entry → Packet → ChangeAnswer
 answer_to r s e p = record { ask = e.item.ask; verdict = verdict_by (refusal_of r p) (found_by r s p.attributes) }
 
 -- a request is answered, by its number; what is no request is not
-abbrev pub AnswersRequest : Rules → State → Entry → Option Answer → Type 0
+abbrev pub AnswersRequest : Rules → State → Entry → Option ChangeAnswer → Type 0
 AnswersRequest r s e answer =
     (((p : Packet) → ¬ (IsRequestIn p e.item.frame.payload)) × (answer ≡ None))
     ⊎ ((p : Packet) × IsRequestIn p e.item.frame.payload × (answer ≡ Some (answer_to r s e p)))
 
 -- no other item is answered so
-abbrev pub AnswersKind : ItemKind → Rules → State → Entry → Option Answer → Type 0
+abbrev pub AnswersKind : ItemKind → Rules → State → Entry → Option ChangeAnswer → Type 0
 AnswersKind (Access number) r s e answer = answer ≡ None
 AnswersKind Core r s e answer = answer ≡ None
 AnswersKind Tunnel r s e answer = answer ≡ None
@@ -115,7 +115,7 @@ AnswersKind Change r s e answer = AnswersRequest r s e answer
 AnswersKind Tick r s e answer = answer ≡ None
 AnswersKind End r s e answer = answer ≡ None
 
-abbrev pub IsAnswerOf : Rules → State → Entry → Option Answer → Type 0
+abbrev pub IsAnswerOf : Rules → State → Entry → Option ChangeAnswer → Type 0
 IsAnswerOf r s e answer = AnswersKind e.item.kind r s e answer
 
 -- Changes ----------------------------------------------------------------------------------------------------------------

@@ -16,9 +16,9 @@ use Rattle.bng_ppp.specs.Claims.{Claim}
 use Rattle.bng_ppp.specs.Saying.{Says}
 use Rattle.bng_ppp.specs.declared.authentication.Authentication.{Authentication}
 use Rattle.bng_sessions.specs.Sessions.{value_at}
-use Rattle.bng_steps.specs.Made.{Made}
+use Rattle.bng_steps.specs.LinkService.{LinkService}
 use Rattle.bng_steps.specs.declared.rules.Rules.{Rules}
-use Rattle.bng_steps.specs.declared.session.Service.TheVariants.{Discovered}
+use Rattle.bng_steps.specs.declared.session.Service.TheVariants.{Linked}
 use Rattle.bng_steps.specs.declared.session.Session.{Session}
 use Rattle.bng_steps.specs.State.{State, circuit_in}
 use Rattle.bng_steps.specs.Deed.{Deed, arrival_in}
@@ -64,8 +64,8 @@ pub record IsHeardAs (r : Rules) (circuit : Circuit) (stands : Authentication) (
 pub record IsAskedBy (r : Rules) (s : State) (d : Deed) (n : ℕ) (a : Asking) : Type 0 where
   pub x : Session
   pub found : value_at s.sessions n ≡ Some x
-  pub made : Made
-  pub service : x.service ≡ Discovered made
+  pub made : LinkService
+  pub service : x.service ≡ Linked made
   pub live : made.ended ≡ false
   pub number : a.number ≡ record { session = record { 0 = n }; ask = next_ask s.asked }
   pub count : d.next.asked ≡ next_ask s.asked

@@ -7,11 +7,11 @@ use Rattle.bng_l2tp_tunnel.specs.Sound.{IsSpelled}
 use Rattle.bng_l2tp_wire.specs.View.{Said}
 use Rattle.bng_l2tp_wire.specs.Messages.{ControlMessage, DataMessage}
 use Rattle.bng_lns.specs.Datagrams.{CarriesOver, IsControlIn, IsDataIn, IsNeither}
-use Rattle.bng_lns.specs.declared.taken.Came.{Came}
+use Rattle.bng_lns.specs.declared.outcome.Came.{Came}
 use Rattle.bng_lns.specs.Tunnels.{Answer, NoTunnel, NoRequest, Steps, Outcome, TunnelsState, hear}
 use Rattle.bng_steps.specs.declared.rules.Rules.{Rules}
 use Rattle.bng_steps.specs.declared.session.Service.{Service}
-use Rattle.bng_steps.specs.declared.session.Service.TheVariants.{Provisioned, Discovered}
+use Rattle.bng_steps.specs.declared.session.Service.TheVariants.{Provisioned, Linked}
 use Rattle.bng_steps.specs.declared.session.Session.{Session}
 use Rattle.bng_steps.specs.State.{State, call_of, is_connected, with_tunnels}
 use Rattle.bng_steps.specs.Calls.{HearsCallMessage, is_icrq}
@@ -51,7 +51,7 @@ HearsMessage r s e m d = HearsAnswer (heard_by r s e m).answer m r s e (heard_by
 -- a PPP frame of a call without an IPv4 packet: its link hears it, once the call is established
 abbrev pub HearsOver : Service → Rules → State → Entry → Session → DataMessage → Deed → Type 0
 HearsOver (Provisioned over) r s e x p d = d ≡ ignored s e
-HearsOver (Discovered made) r s e x p d =
+HearsOver (Linked made) r s e x p d =
     ((is_connected x.way ≡ true) × HearsPpp r s e p.session x made p.ppp d)
     ⊎ ((is_connected x.way ≡ false) × (d ≡ ignored s e))
 

@@ -15,15 +15,15 @@ use Rattle.bng_discovery.specs.Reply.{pado_of, pads_of, refusal_of}
 use Rattle.bng_discovery.specs.Request.{first_tag}
 use Rattle.bng_discovery.specs.Table.{table, first_row}
 use Rattle.bng_ppp.specs.declared.authentication.Authentication.TheVariants.{Idle}
-use Rattle.bng_ppp.specs.declared.whole_input.WholeInput.TheVariants.{Start}
+use Rattle.bng_ppp.specs.declared.input.Input.TheVariants.{Start}
 use Rattle.bng_ppp.specs.IpcpState.{ipcp_unused}
-use Rattle.bng_ppp.specs.LinkState.{IsFirstAsk, unused, kept_first}
-use Rattle.bng_ppp.specs.PppState.{PppState}
+use Rattle.bng_ppp.specs.LcpState.{IsFirstAsk, unused, kept_first}
+use Rattle.bng_ppp.specs.LinkState.{LinkState}
 use Rattle.bng_sessions.specs.Sessions.{IsLowestVacant, IsNumberOf, value_at}
 use Rattle.bng_sessions.specs.Listed.{values}
 use Rattle.bng_steps.specs.declared.rules.Rules.{Rules}
 use Rattle.bng_steps.specs.declared.session.Service.{Service}
-use Rattle.bng_steps.specs.declared.session.Service.TheVariants.{Provisioned, Discovered}
+use Rattle.bng_steps.specs.declared.session.Service.TheVariants.{Provisioned, Linked}
 use Rattle.bng_steps.specs.declared.session.Session.{Session}
 use Rattle.bng_steps.specs.declared.way.Way.TheVariants.{Port}
 use Rattle.bng_steps.specs.State.{Beside, State, is_on, port_at, offers_at, with_driven}
@@ -44,7 +44,7 @@ host_uniq_of tags = option_map (λ t. t.value) (first_tag HOST_UNIQ tags)
 -- not ended, and its LCP was never Opened.
 abbrev pub is_repeated_in : Option (List ℕ) → Service → Bool
 is_repeated_in host_uniq (Provisioned l) = false
-is_repeated_in host_uniq (Discovered m) = same_option m.host_uniq host_uniq && (not m.ended && not m.link.lcp.kept.was_opened)
+is_repeated_in host_uniq (Linked m) = same_option m.host_uniq host_uniq && (not m.ended && not m.link.lcp.kept.was_opened)
 
 abbrev pub is_repeated : ℕ → Mac → Option (List ℕ) → Session → Bool
 is_repeated port mac host_uniq x = is_on port mac x && is_repeated_in host_uniq x.service
@@ -54,7 +54,7 @@ abbrev pub repeated : State → ℕ → Mac → Option (List ℕ) → Option Ses
 repeated s port mac host_uniq = find (is_repeated port mac host_uniq) (values s.sessions)
 
 -- a link that was told nothing; its MRU is 1,492 octets over PPPoE (RFC 2516 section 7), and 1,500 over a call (RFC 1661 section 6.1)
-pub record IsNewLink (limit : ℕ) (random : List ℕ) (l : PppState) : Type 0 where
+pub record IsNewLink (limit : ℕ) (random : List ℕ) (l : LinkState) : Type 0 where
   pub lcp : l.lcp.lcp ≡ unused
   pub ask : IsFirstAsk limit (Chap ∷ []) random l.lcp.ask
   pub kept : l.lcp.kept ≡ kept_first limit
@@ -64,11 +64,11 @@ pub record IsNewLink (limit : ℕ) (random : List ℕ) (l : PppState) : Type 0 w
   pub challenge : l.next_challenge ≡ 1
   pub term : l.live ≡ false
 
-abbrev pub new_session : ℕ → ℕ → Mac → Option (List ℕ) → PppState → Session
+abbrev pub new_session : ℕ → ℕ → Mac → Option (List ℕ) → LinkState → Session
 new_session number port mac host_uniq link = record {
   number = record { 0 = number };
   way = Port port mac;
-  service = Discovered (record { host_uniq = host_uniq; link = link; question = None; ended = false });
+  service = Linked (record { host_uniq = host_uniq; link = link; question = None; ended = false });
   lease = None;
 }
 
@@ -81,7 +81,7 @@ IsVacancy s (Some n) = IsLowestVacant s.sessions n
 pub record Makes (r : Rules) (s : State) (e : Entry) (number : ℕ) (port : AccessPort) (offers : PortRules) (p : PppoeFrame) (tags : List PppoeTag) (d : Deed) : Type 0 where
   pub session : ℕ
   pub vacant : IsLowestVacant s.sessions session
-  pub link : PppState
+  pub link : LinkState
   pub new : IsNewLink 1492 e.item.random link
   pub outs : List OutRecord
   pub x : Session

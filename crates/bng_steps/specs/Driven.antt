@@ -1,8 +1,8 @@
 -- What one step of a session's link does to the session and to what is sent.
 use Rattle.std.specs.Prelude.{◌≡◌, ◌≤◌, ℕ, List, ◌++◌, length, Option, None}
 use Rattle.bng_base.specs.declared.item.OutRecord.{OutRecord}
-use Rattle.bng_ppp.specs.declared.whole_input.WholeInput.{WholeInput}
-use Rattle.bng_ppp.specs.declared.whole_input.WholeInput.TheVariants.{Start, Frame, Timer, Verdict, Close, Lost}
+use Rattle.bng_ppp.specs.declared.input.Input.{Input}
+use Rattle.bng_ppp.specs.declared.input.Input.TheVariants.{Start, Frame, Timer, Verdict, Close, Lost}
 use Rattle.bng_steps.specs.declared.rules.Rules.{Rules}
 use Rattle.bng_base.specs.declared.item.At.{At}
 use Rattle.bng_steps.specs.declared.session.Lease.{Lease}
@@ -19,7 +19,7 @@ pub record Driven (r : Rules) (a : At) (Steps : LinkStep) (beside : Beside) (x :
   pub few_last : length drives.last ≤ 1
 
 -- A live term of a session goes on over this input until the link says its end. A verdict and Close are told where there is none.
-abbrev pub LastsOver : WholeInput → Option Lease → Type 0
+abbrev pub LastsOver : Input → Option Lease → Type 0
 LastsOver Start lease = Unit {0}
 LastsOver (Frame octets) lease = Unit {0}
 LastsOver Timer lease = Unit {0}

@@ -1,7 +1,7 @@
 -- The earliest deadline of a shard.
 use Rattle.std.specs.Prelude.{ℕ, None, fold, Option}
 use Rattle.bng_lns.specs.Timed.{due_of as tunnels_due}
-use Rattle.bng_ppp.specs.LinkRelation.{earliest}
+use Rattle.bng_ppp.specs.LcpRelation.{earliest}
 use Rattle.bng_sessions.specs.Listed.{values}
 use Rattle.bng_steps.specs.State.{State}
 use Rattle.bng_steps.specs.Timers.{deadline_of}

@@ -23,14 +23,14 @@ use Rattle.bng_forward.specs.Framed.{circuit_frame, IsFrameTo}
 use Rattle.bng_forward.specs.Packets.{IsPassedOn}
 use Rattle.bng_l2tp_call.specs.Steps.{to_peer}
 use Rattle.bng_lns.specs.Framed.{call_frame, IsCallFrameTo}
-use Rattle.bng_steps.specs.Made.{Made}
+use Rattle.bng_steps.specs.LinkService.{LinkService}
 use Rattle.bng_steps.specs.declared.meters.Meters.{Meters}
 use Rattle.bng_steps.specs.declared.rules.Rules.{Rules}
 use Rattle.bng_steps.specs.declared.session.Lease.{Lease}
-use Rattle.bng_steps.specs.declared.session.Service.TheVariants.{Provisioned, Discovered}
+use Rattle.bng_steps.specs.declared.session.Service.TheVariants.{Provisioned, Linked}
 use Rattle.bng_steps.specs.declared.session.Service.{Service}
 use Rattle.bng_steps.specs.declared.session.Session.{Session}
-use Rattle.bng_steps.specs.declared.way.Called.{Called}
+use Rattle.bng_steps.specs.declared.way.TunnelCall.{TunnelCall}
 use Rattle.bng_steps.specs.declared.way.Way.{Way}
 use Rattle.bng_steps.specs.declared.way.Way.TheVariants.{Port, Call}
 use Rattle.bng_steps.specs.State.{Beside, State, IsTermOf, circuit_of, session_of, holder_of, is_kept, with_ended, with_driven, port_at}
@@ -88,7 +88,7 @@ HearsData r s e found info d = (fate : Fate) × UpFate (found_up s found) e.mome
 
 -- A PPP frame without an IPv4 packet, of the session with this number. Where the session has ended it does nothing, and where it has not its
 -- link hears it.
-abbrev pub HearsPpp : Rules → State → Entry → ℕ → Session → Made → List ℕ → Deed → Type 0
+abbrev pub HearsPpp : Rules → State → Entry → ℕ → Session → LinkService → List ℕ → Deed → Type 0
 HearsPpp r s e n x made octets d =
     (IsTrue made.ended × (d ≡ ignored s e))
     ⊎ (IsFalse made.ended × (outs : List OutRecord) × (cause : Option ℕ) × (x' : Session) × (beside' : Beside)
@@ -97,7 +97,7 @@ HearsPpp r s e n x made octets d =
 
 -- A PADT ends a session that discovery made, which gets none back, and its live term by User Request (RFC 2866 section 5.10). One that
 -- has ended does nothing.
-abbrev pub HearsPadt : State → Entry → Session → Made → PppoeFrame → Deed → Type 0
+abbrev pub HearsPadt : State → Entry → Session → LinkService → PppoeFrame → Deed → Type 0
 HearsPadt s e x made p d =
     (IsTrue made.ended × (d ≡ ignored s e))
     ⊎ (IsFalse made.ended × (d ≡ handled s e [] (with_ended s p.session x.lease user_request (ended x))))
@@ -105,7 +105,7 @@ HearsPadt s e x made p d =
 -- a provisioned circuit ignores all but data
 abbrev pub HearsControl : Service → Rules → State → Entry → Session → PppoeFrame → Deed → Type 0
 HearsControl (Provisioned v) r s e x p d = d ≡ ignored s e
-HearsControl (Discovered made) r s e x p d =
+HearsControl (Linked made) r s e x p d =
     ((p.discovery ≡ true) × HearsPadt s e x made p d)
     ⊎ ((p.discovery ≡ false) × HearsPpp r s e p.session x made p.payload d)
 
@@ -137,7 +137,7 @@ pub record IsFramedDown (r : Rules) (number : ℕ) (mac : Mac) (n : ℕ) (packet
   pub again : IsFrameTo port mac n packet octets
 
 -- It goes out over a call, in a data message that anyone reads as one to the peer's numbers.
-pub record IsCarriedDown (c : Called) (packet : List ℕ) (role : Role) (to : Peer) (octets : List ℕ) : Type 0 where
+pub record IsCarriedDown (c : TunnelCall) (packet : List ℕ) (role : Role) (to : Peer) (octets : List ℕ) : Type 0 where
   pub role_is : role ≡ Tunnel
   pub to_is : to ≡ c.peer
   pub octets_are : octets ≡ call_frame c.far (to_peer c.call) packet

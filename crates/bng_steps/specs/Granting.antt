@@ -13,14 +13,14 @@ use Rattle.bng_base.specs.declared.outside.Role.TheVariants.{Access, Tunnel}
 use Rattle.bng_base.specs.PppoeGrammar.{PppoeFrame, IsPppoe}
 use Rattle.bng_l2tp_wire.specs.Messages.{DataMessage, IsData}
 use Rattle.bng_ppp.specs.Granting.{IsYes}
-use Rattle.bng_ppp.specs.PppState.{is_open, is_accepted}
+use Rattle.bng_ppp.specs.LinkState.{is_open, is_accepted}
 use Rattle.bng_sessions.specs.Sessions.{value_at}
 use Rattle.bng_verdict.specs.Verdicts.{Saying, IsVerdict}
-use Rattle.bng_steps.specs.Made.{Question}
+use Rattle.bng_steps.specs.LinkService.{Question}
 use Rattle.bng_steps.specs.declared.session.Service.{Service}
-use Rattle.bng_steps.specs.declared.session.Service.TheVariants.{Provisioned, Discovered}
+use Rattle.bng_steps.specs.declared.session.Service.TheVariants.{Provisioned, Linked}
 use Rattle.bng_steps.specs.declared.session.Session.{Session}
-use Rattle.bng_steps.specs.declared.way.Called.{Called}
+use Rattle.bng_steps.specs.declared.way.TunnelCall.{TunnelCall}
 use Rattle.bng_steps.specs.declared.way.Way.TheVariants.{Call}
 use Rattle.bng_steps.specs.Link.{call_octets}
 use Rattle.bng_steps.specs.Questions.{Asking, last_asking_at, open_ask_at}
@@ -50,7 +50,7 @@ pub record IsYesOver (role : Role) (octets : List ℕ) : Type 0 where
 -- the question that the link of a session asked last, and whose verdict was yes
 abbrev pub accepted_in : Service → Option Question
 accepted_in (Provisioned l) = None
-accepted_in (Discovered m) = if is_accepted m.link.auth then m.question else None
+accepted_in (Linked m) = if is_accepted m.link.auth then m.question else None
 
 abbrev pub accepted_ask_at : State → ℕ → Option ℕ
 accepted_ask_at s n = option_map (λ q. q.ask) (option_and_then (λ (x : Session). accepted_in x.service) (value_at s.sessions n))
@@ -82,7 +82,7 @@ pub record IsGrantedOver (s : State) (e : Entry) (to : Peer) (octets : List ℕ)
   pub session : SessionNo
   pub x : Session
   pub found : value_at s.sessions session.0 ≡ Some x
-  pub called : Called
+  pub called : TunnelCall
   pub way_is : x.way ≡ Call called
   pub peer : called.peer ≡ to
   pub frame : List ℕ
@@ -92,7 +92,7 @@ pub record IsGrantedOver (s : State) (e : Entry) (to : Peer) (octets : List ℕ)
 -- a link with an open question, or whose peer was accepted, has its question
 abbrev pub HasQuestion : Service → Type 0
 HasQuestion (Provisioned l) = Unit {0}
-HasQuestion (Discovered m) = (is_open m.link.auth ≡ true) ⊎ (is_accepted m.link.auth ≡ true) → IsSome m.question
+HasQuestion (Linked m) = (is_open m.link.auth ≡ true) ⊎ (is_accepted m.link.auth ≡ true) → IsSome m.question
 
 -- It is of one of 64 shards, sessions stand under their own numbers, which are the shard's, and such links have their questions.
 pub record IsSound (s : State) : Type 0 where

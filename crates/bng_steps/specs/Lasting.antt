@@ -6,7 +6,7 @@ use Rattle.bng_ppp.specs.Phases.{KeepsPhases}
 use Rattle.bng_radius_wire.specs.Attributes.{Field}
 use Rattle.bng_steps.specs.declared.session.Lease.{Lease}
 use Rattle.bng_steps.specs.declared.session.Service.{Service}
-use Rattle.bng_steps.specs.declared.session.Service.TheVariants.{Provisioned, Discovered}
+use Rattle.bng_steps.specs.declared.session.Service.TheVariants.{Provisioned, Linked}
 use Rattle.bng_steps.specs.declared.session.Session.{Session}
 use Rattle.bng_steps.specs.Deed.{Deed}
 use Rattle.bng_steps.specs.Link.{admin_reset, nas_request, user_request}
@@ -71,11 +71,11 @@ pub record CircuitsLast (circuits : ℕ) (s : State) : Type 0 where
 -- the link of a session keeps its phases, and as long as the session has a lease, its term is live and the session has not ended
 abbrev pub KeepsTerm : Service → Type 0
 KeepsTerm (Provisioned over) = over ≡ false
-KeepsTerm (Discovered m) = (m.link.live ≡ true) × (m.ended ≡ false)
+KeepsTerm (Linked m) = (m.link.live ≡ true) × (m.ended ≡ false)
 
 abbrev pub HasPhases : Service → Type 0
 HasPhases (Provisioned over) = Unit {0}
-HasPhases (Discovered m) = KeepsPhases m.link
+HasPhases (Linked m) = KeepsPhases m.link
 
 -- a session that is there has the lease of this term
 abbrev pub IsHousedIn : State → Tenure → Type 0

@@ -1,4 +1,4 @@
-pub mod Made
+pub mod LinkService
 pub mod Tenures
 pub mod Limited
 pub mod State
@@ -32,7 +32,7 @@ pub mod Hearing
 pub mod Protocol
 pub mod Lasting
 pub mod Wished
-pub mod Running
+pub mod TermRows
 pub mod Doing
 pub mod Driven
 pub mod Timed

@@ -21,23 +21,23 @@ use Rattle.bng_lns.specs.Exchange.{parted}
 use Rattle.bng_lns.specs.Framed.{call_message}
 use Rattle.bng_lns.specs.Tunnels.{TunnelsState, tunnel_at, with_step}
 use Rattle.bng_ppp.specs.declared.rules.LinkRules.{LinkRules}
-use Rattle.bng_ppp.specs.declared.whole_input.WholeInput.{WholeInput}
+use Rattle.bng_ppp.specs.declared.input.Input.{Input}
 use Rattle.bng_ppp.specs.Claims.{Claim}
 use Rattle.bng_ppp.specs.Layers.{Turn}
 use Rattle.bng_ppp.specs.Phases.{is_begun}
-use Rattle.bng_ppp.specs.PppRelation.{PppSaid, PppSteps, ended_by, after_turn, said_of}
-use Rattle.bng_ppp.specs.PppState.{PppState, is_open}
+use Rattle.bng_ppp.specs.LinkRelation.{LinkSaid, LinkSteps, ended_by, after_turn, said_of}
+use Rattle.bng_ppp.specs.LinkState.{LinkState, is_open}
 use Rattle.bng_ppp.specs.Verdict.{Settles}
-use Rattle.bng_ppp.specs.WholeFrame.{HearsOctets}
+use Rattle.bng_ppp.specs.LinkFrame.{HearsOctets}
 use Rattle.bng_term.specs.declared.limits.Limits.{Limits}
-use Rattle.bng_steps.specs.Made.{Made, Question}
+use Rattle.bng_steps.specs.LinkService.{LinkService, Question}
 use Rattle.bng_steps.specs.declared.meters.Plan.{Plan}
 use Rattle.bng_steps.specs.declared.rules.Rules.{Rules}
 use Rattle.bng_base.specs.declared.item.At.{At}
 use Rattle.bng_steps.specs.declared.session.Service.{Service}
-use Rattle.bng_steps.specs.declared.session.Service.TheVariants.{Provisioned, Discovered}
+use Rattle.bng_steps.specs.declared.session.Service.TheVariants.{Provisioned, Linked}
 use Rattle.bng_steps.specs.declared.session.Session.{Session}
-use Rattle.bng_steps.specs.declared.way.Called.{Called}
+use Rattle.bng_steps.specs.declared.way.TunnelCall.{TunnelCall}
 use Rattle.bng_steps.specs.declared.way.Way.{Way}
 use Rattle.bng_steps.specs.declared.way.Way.TheVariants.{Port, Call}
 use Rattle.bng_steps.specs.State.{Beside, beside_at, port_at, offers_at}
@@ -52,16 +52,16 @@ ppp_outs a number mac n port frames = flat_map (λ f. frame_outs a number port (
 
 -- a PPP frame of a call, in a data message to the peer's numbers (RFC 2661 section 3.1); one that no datagram of 4,096 octets holds is not
 -- sent
-abbrev pub call_octets : Called → List ℕ → List ℕ
+abbrev pub call_octets : TunnelCall → List ℕ → List ℕ
 call_octets c f = data_text (call_message c.far (to_peer c.call) f)
 
 abbrev pub message_outs : At → Peer → List ℕ → List OutRecord
 message_outs a to octets = if nat_le (length octets) LONGEST then out a Tunnel to octets None ∷ [] else []
 
-abbrev pub data_outs : At → Called → List ℕ → List OutRecord
+abbrev pub data_outs : At → TunnelCall → List ℕ → List OutRecord
 data_outs a c f = message_outs a c.peer (call_octets c f)
 
-abbrev pub call_outs : At → Called → List (List ℕ) → List OutRecord
+abbrev pub call_outs : At → TunnelCall → List (List ℕ) → List OutRecord
 call_outs a c frames = flat_map (λ f. data_outs a c f) frames
 
 -- on an access port
@@ -94,7 +94,7 @@ pub record EndsWith (r : Rules) (a : At) (number : ℕ) (mac : Mac) (n : Session
   pub outs_are : outs ≡ padt_outs a number mac n port offers
 
 -- The gateway ends a call: its tunnel, where it stands, sends a CDN with Result Code 3 (RFC 2661 section 6.12).
-abbrev pub HangsUp : Option TunnelState → Called → At → ℕ → TunnelsState → List OutRecord → TunnelsState → Type 0
+abbrev pub HangsUp : Option TunnelState → TunnelCall → At → ℕ → TunnelsState → List OutRecord → TunnelsState → Type 0
 HangsUp None c a now t outs t' = (outs ≡ []) × (t' ≡ t)
 HangsUp (Some tunnel) c a now t outs t' =
     AllByRecursion IsSpelled (parted tunnel c.call now).said.outs × (outs ≡ tunnel_outs a c.peer (parted tunnel c.call now).said.outs)
@@ -138,14 +138,14 @@ question_after asked None false question = None
 
 -- the session with another link after a step that said this: where LCP finished it has ended, and where the step ended its live term it
 -- has no lease any longer
-abbrev pub with_link : Session → Made → ℕ → PppSaid → PppState → Session
+abbrev pub with_link : Session → LinkService → ℕ → LinkSaid → LinkState → Session
 with_link x made asked says link = record x {
-  service = Discovered (record made { link = link; question = question_after asked says.asked (is_begun link.auth) made.question; ended = says.finished });
+  service = Linked (record made { link = link; question = question_after asked says.asked (is_begun link.auth) made.question; ended = says.finished });
   lease = kept_lease says.term_ended x.lease;
 }
 
 -- the same, which has ended on its way where LCP finished
-abbrev pub after_link : Session → Made → ℕ → PppSaid → PppState → Session
+abbrev pub after_link : Session → LinkService → ℕ → LinkSaid → LinkState → Session
 after_link x made asked says link = record (with_link x made asked says link) { way = way_after says.finished x.way }
 
 -- the causes of an end (RFC 2866 section 5.10): by the subscriber's PADT, User Request; where a call ends by its peer or with its tunnel, Lost
@@ -164,7 +164,7 @@ nas_request = 10
 
 abbrev pub ended_service : Service → Service
 ended_service (Provisioned over) = Provisioned true
-ended_service (Discovered made) = Discovered (record made { ended = true })
+ended_service (Linked made) = Linked (record made { ended = true })
 
 -- a session once it has ended: no term of it is live
 abbrev pub ended : Session → Session
@@ -172,14 +172,14 @@ ended x = record x { service = ended_service x.service; lease = None }
 
 -- a step of a link, by the link before, what it says and the link after
 abbrev pub LinkStep : Type 1
-LinkStep = PppState → PppSaid → PppState → Type 0
+LinkStep = LinkState → LinkSaid → LinkState → Type 0
 
 -- the link is told this at the entry's moment, with its item's random octets
-abbrev pub told : Rules → Entry → WholeInput → LinkStep
-told r e input old says new = PppSteps r.link input e.moment e.item.random old says new
+abbrev pub told : Rules → Entry → Input → LinkStep
+told r e input old says new = LinkSteps r.link input e.moment e.item.random old says new
 
 -- the link hears these octets of a PPP frame
-pub record HearsPppFrame (r : LinkRules) (octets : List ℕ) (now : ℕ) (random : List ℕ) (old : PppState) (says : PppSaid) (new : PppState) : Type 0 where
+pub record HearsPppFrame (r : LinkRules) (octets : List ℕ) (now : ℕ) (random : List ℕ) (old : LinkState) (says : LinkSaid) (new : LinkState) : Type 0 where
   pub turn : Turn
   pub heard : HearsOctets r octets now random old turn
   pub said : says ≡ said_of turn (ended_by turn.link.live turn.left turn.ended 1)
@@ -198,7 +198,7 @@ pub record Told : Type 0 where
   pub limits : Limits
   pub plan : Plan
 
-pub record IsToldVerdict (r : LinkRules) (t : Told) (now : ℕ) (random : List ℕ) (old : PppState) (says : PppSaid) (new : PppState) : Type 0 where
+pub record IsToldVerdict (r : LinkRules) (t : Told) (now : ℕ) (random : List ℕ) (old : LinkState) (says : LinkSaid) (new : LinkState) : Type 0 where
   pub turn : Turn
   pub settles : Settles (is_open old.auth) t.yes r t.lease t.text now random old turn
   pub said : says ≡ said_of turn None
@@ -210,10 +210,10 @@ settles r e t old says new = IsToldVerdict r.link t e.moment e.item.random old s
 -- The session's link made a step, and beside the session this stood before it and stands after it. What the link says goes out first; where
 -- LCP finished the session has ended, and last its way is told so. Where the step ended the session's live term, this is the cause.
 pub record Drives (r : Rules) (a : At) (beside : Beside) (x : Session) (Steps : LinkStep) (outs : List OutRecord) (cause : Option ℕ) (x' : Session) (beside' : Beside) : Type 0 where
-  pub made : Made
-  pub is_made : x.service ≡ Discovered made
-  pub says : PppSaid
-  pub link : PppState
+  pub made : LinkService
+  pub is_made : x.service ≡ Linked made
+  pub says : LinkSaid
+  pub link : LinkState
   pub steps : Steps made.link says link
   pub first : List OutRecord
   pub tells : SaysOn x.way r a x.number says.outs first

@@ -15,7 +15,7 @@ use Rattle.bng_engine.specs.Sums.{passed_sum}
 use Rattle.bng_engine.specs.Terms.{Key, Stop, Term, ComesBefore, is_ended, keys}
 use Rattle.bng_engine.specs.Views.{ShardView, Row, new_row}
 use Rattle.bng_base.specs.Ranges.{size_of}
-use Rattle.bng_steps.specs.declared.changes.Answer.{Answer}
+use Rattle.bng_steps.specs.declared.changes.ChangeAnswer.{ChangeAnswer}
 use Rattle.bng_steps.specs.declared.rules.Rules.{Rules}
 use Rattle.bng_steps.specs.declared.term.EndedTerm.{EndedTerm}
 use Rattle.bng_steps.specs.declared.term.LiveTerm.{LiveTerm}
@@ -32,7 +32,7 @@ use Rattle.bng_steps.specs.Step.{Step}
 pub record ShardState : Type 0 where
   pub rules : Rules
   pub slots : State
-  pub changed : List Answer
+  pub changed : List ChangeAnswer
 
 -- an entry as it was handled: what it did, whether it found the shard's allowance of new terms used up, the addresses that it was told to
 -- be held, and what it was answered, if it was a request for a change
@@ -40,7 +40,7 @@ pub record Handled : Type 0 where
   pub deed : Deed
   pub limited : Bool
   pub refused : List ℕ
-  pub answer : Option Answer
+  pub answer : Option ChangeAnswer
 
 -- the cause of its end, 0 as long as it is live
 abbrev pub cause_in : Option ℕ → ℕ

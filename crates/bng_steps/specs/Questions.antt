@@ -5,14 +5,14 @@ use Rattle.std.specs.Option.{option_map, option_and_then}
 use Rattle.bng_base.specs.declared.address.SessionNo.{SessionNo}
 use Rattle.bng_base.specs.declared.circuit.Circuit.{Circuit}
 use Rattle.bng_ppp.specs.Claims.{Claim, claim_of}
-use Rattle.bng_ppp.specs.PppState.{is_open}
+use Rattle.bng_ppp.specs.LinkState.{is_open}
 use Rattle.bng_sessions.specs.Sessions.{Sessions, value_at}
 use Rattle.bng_sessions.specs.Listed.{values}
 use Rattle.bng_verdict.specs.declared.question.AuthAsk.{AuthAsk}
 use Rattle.bng_verdict.specs.declared.question.QuestionNo.{QuestionNo}
-use Rattle.bng_steps.specs.Made.{Question}
+use Rattle.bng_steps.specs.LinkService.{Question}
 use Rattle.bng_steps.specs.declared.session.Service.{Service}
-use Rattle.bng_steps.specs.declared.session.Service.TheVariants.{Provisioned, Discovered}
+use Rattle.bng_steps.specs.declared.session.Service.TheVariants.{Provisioned, Linked}
 use Rattle.bng_steps.specs.declared.session.Session.{Session}
 use Rattle.bng_steps.specs.Listing.{IsLowestPassing, does_pass}
 use Rattle.bng_steps.specs.State.{State, circuit_of}
@@ -30,7 +30,7 @@ asking_from a = record { number = a.number; circuit = a.circuit; claim = claim_o
 -- the question of a session whose verdict is not there yet; one that has ended has none
 abbrev pub open_in : Service → Option Question
 open_in (Provisioned l) = None
-open_in (Discovered m) = if not m.ended && is_open m.link.auth then m.question else None
+open_in (Linked m) = if not m.ended && is_open m.link.auth then m.question else None
 
 abbrev pub open_of : Session → Option Question
 open_of x = open_in x.service
@@ -49,7 +49,7 @@ asked_in x (Some q) = asking_of x q ∷ []
 -- the question that a session asked last, whether its verdict is there or not
 abbrev pub last_in : Service → Option Question
 last_in (Provisioned l) = None
-last_in (Discovered m) = m.question
+last_in (Linked m) = m.question
 
 abbrev pub last_asking : Session → Option Asking
 last_asking x = option_map (asking_of x) (last_in x.service)

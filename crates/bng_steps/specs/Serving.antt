@@ -8,7 +8,7 @@ use Rattle.bng_ppp.specs.Phases.{KeepsPhases}
 use Rattle.bng_steps.specs.declared.meters.Meters.{Meters}
 use Rattle.bng_steps.specs.declared.session.Lease.{Lease}
 use Rattle.bng_steps.specs.declared.session.Service.{Service}
-use Rattle.bng_steps.specs.declared.session.Service.TheVariants.{Provisioned, Discovered}
+use Rattle.bng_steps.specs.declared.session.Service.TheVariants.{Provisioned, Linked}
 use Rattle.bng_steps.specs.declared.session.Session.{Session}
 use Rattle.bng_steps.specs.Listing.{AreListed, passing_in}
 use Rattle.bng_steps.specs.Questions.{open_of}
@@ -42,7 +42,7 @@ AreAsking sessions numbers = AreListed asks sessions numbers
 -- the session is young: discovery made it, so that it is at an access port, it has not ended, and its LCP was never Opened
 abbrev pub is_young_in : Service → Bool
 is_young_in (Provisioned l) = false
-is_young_in (Discovered m) = not m.ended && not m.link.lcp.kept.was_opened
+is_young_in (Linked m) = not m.ended && not m.link.lcp.kept.was_opened
 
 abbrev pub is_young : Session → Bool
 is_young x = is_port x.way && is_young_in x.service
@@ -55,7 +55,7 @@ AreYoung sessions numbers = AreListed is_young sessions numbers
 -- no link.
 abbrev pub KeepsLease : Service → Option Lease → Type 0
 KeepsLease (Provisioned over) lease = Unit {0}
-KeepsLease (Discovered m) lease = KeepsPhases m.link × (IsSome lease → m.link.live ≡ true)
+KeepsLease (Linked m) lease = KeepsPhases m.link × (IsSome lease → m.link.live ≡ true)
 
 abbrev pub AreLeased : Sessions Session → Type 0
 AreLeased sessions = (n : ℕ) (x : Session) → value_at sessions n ≡ Some x → KeepsLease x.service x.lease

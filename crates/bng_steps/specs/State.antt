@@ -15,13 +15,13 @@ use Rattle.bng_discovery.specs.declared.port.PortRules.{PortRules}
 use Rattle.bng_l2tp_call.specs.CallState.{is_established}
 use Rattle.bng_lns.specs.Places.{same_peer}
 use Rattle.bng_lns.specs.Tunnels.{TunnelsState}
-use Rattle.bng_ppp.specs.PppState.{passes}
+use Rattle.bng_ppp.specs.LinkState.{passes}
 use Rattle.bng_sessions.specs.Sessions.{Sessions, value_at, with_value}
 use Rattle.bng_sessions.specs.Listed.{values}
 use Rattle.bng_steps.specs.declared.meters.Meters.{Meters}
 use Rattle.bng_steps.specs.declared.session.Lease.{Lease}
 use Rattle.bng_steps.specs.declared.session.Service.{Service}
-use Rattle.bng_steps.specs.declared.session.Service.TheVariants.{Provisioned, Discovered}
+use Rattle.bng_steps.specs.declared.session.Service.TheVariants.{Provisioned, Linked}
 use Rattle.bng_steps.specs.declared.session.Session.{Session}
 use Rattle.bng_steps.specs.declared.way.Way.{Way}
 use Rattle.bng_steps.specs.declared.way.Way.TheVariants.{Port, Call}
@@ -111,18 +111,18 @@ session_at s (Some n) = value_at s.sessions n.0
 -- data passes: of a session with a link, once LCP and IPCP are Opened; a provisioned circuit has no LCP, and counts as Opened
 abbrev pub passes_in : Service → Bool
 passes_in (Provisioned over) = true
-passes_in (Discovered m) = passes m.link
+passes_in (Linked m) = passes m.link
 
 -- The longest packet that the subscriber takes: of a session with a link, the MRU of the peer. A provisioned circuit has that of PPPoE (RFC 2516
 -- section 7).
 abbrev pub mru_in : Service → ℕ
 mru_in (Provisioned over) = 1492
-mru_in (Discovered m) = m.link.lcp.kept.mru
+mru_in (Linked m) = m.link.lcp.kept.mru
 
 -- the session has a link, and has not ended
 abbrev pub lives_in : Service → Bool
 lives_in (Provisioned p) = false
-lives_in (Discovered m) = not m.ended
+lives_in (Linked m) = not m.ended
 
 -- the session's live term has this address
 abbrev pub leases : Ip4 → Session → Bool
@@ -173,7 +173,7 @@ with_ended s n lease cause x = record (with_session s n x) { terms = closed leas
 -- the session has a link: discovery made it, or a call
 abbrev pub made_one : Service → ℕ
 made_one (Provisioned p) = 0
-made_one (Discovered m) = 1
+made_one (Linked m) = 1
 
 -- how many sessions there are, provisioned circuits among them
 abbrev pub count_in : State → ℕ
@@ -182,7 +182,7 @@ count_in s = length (values s.sessions)
 -- the session has ended, and leaves when the round is settled
 abbrev pub leaves_in : Service → Bool
 leaves_in (Provisioned over) = over
-leaves_in (Discovered m) = m.ended
+leaves_in (Linked m) = m.ended
 
 abbrev pub leaves : Session → Bool
 leaves x = leaves_in x.service

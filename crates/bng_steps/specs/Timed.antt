@@ -2,16 +2,16 @@
 use Rattle.std.specs.Prelude.{◌≡◌, ℕ, ◌≤◌, Bool, true, false, List, ◌++◌, Option, Some, None, length}
 use Rattle.bng_base.specs.declared.item.Entry.{Entry}
 use Rattle.bng_base.specs.declared.item.OutRecord.{OutRecord}
-use Rattle.bng_ppp.specs.declared.whole_input.WholeInput.TheVariants.{Start, Close, Timer}
+use Rattle.bng_ppp.specs.declared.input.Input.TheVariants.{Start, Close, Timer}
 use Rattle.bng_lns.specs.Timed.{Timed}
 use Rattle.bng_lns.specs.Tunnels.{TunnelsState}
-use Rattle.bng_ppp.specs.PppRelation.{PppSteps}
-use Rattle.bng_ppp.specs.PppState.{PppState}
+use Rattle.bng_ppp.specs.LinkRelation.{LinkSteps}
+use Rattle.bng_ppp.specs.LinkState.{LinkState}
 use Rattle.bng_sessions.specs.Sessions.{value_at}
 use Rattle.bng_steps.specs.declared.rules.Rules.{Rules}
 use Rattle.bng_base.specs.declared.item.At.{At}
 use Rattle.bng_steps.specs.declared.session.Service.{Service}
-use Rattle.bng_steps.specs.declared.session.Service.TheVariants.{Provisioned, Discovered}
+use Rattle.bng_steps.specs.declared.session.Service.TheVariants.{Provisioned, Linked}
 use Rattle.bng_steps.specs.declared.session.Session.{Session}
 use Rattle.bng_steps.specs.State.{Beside, State, with_ended, with_tunnels}
 use Rattle.bng_steps.specs.Deed.{at_of}
@@ -21,7 +21,7 @@ use Rattle.bng_steps.specs.Calls.{linked_anew}
 use Rattle.bng_steps.specs.Discovery.{IsNewLink}
 use Rattle.bng_steps.specs.Driven.{Driven}
 use Rattle.bng_steps.specs.Passing.{lapsed, looked}
-use Rattle.bng_steps.specs.Running.{TermsView, closed_rows}
+use Rattle.bng_steps.specs.TermRows.{TermsView, closed_rows}
 use Rattle.bng_steps.specs.Timers.{Ticks, Ends, IsFirstDue, IsTimed, NoneIsDue, Reminds, RemindsOne, IsLowest, NoneStays, StopsTunnels, TellsEnd, at_once}
 
 -- The due deadline that comes first was handled; or none is due, and all is as before.
@@ -33,7 +33,7 @@ TickedOnce true r a now random s s' outs outs' =
 -- The link of a session took Close; a provisioned circuit has no link.
 abbrev pub ClosedLink : Service → Rules → At → ℕ → List ℕ → Beside → Session → Session → Beside → List OutRecord → List OutRecord → Type 0
 ClosedLink (Provisioned over) r a now random beside x x' beside' outs outs' = (x' ≡ x) × (beside' ≡ beside) × (outs' ≡ outs)
-ClosedLink (Discovered m) r a now random beside x x' beside' outs outs' = (none : Option ℕ) × Driven r a (PppSteps r.link Close now random) beside x none x' beside' outs outs'
+ClosedLink (Linked m) r a now random beside x x' beside' outs outs' = (none : Option ℕ) × Driven r a (LinkSteps r.link Close now random) beside x none x' beside' outs outs'
 
 -- A session's live term ended by this cause, and its link took Close, if it has one.
 abbrev pub LostTerm : Service → ℕ → Rules → At → ℕ → List ℕ → Beside → Session → Session → Beside → TermsView → TermsView → List OutRecord → List OutRecord → Type 0
@@ -48,16 +48,16 @@ LookedOnce (Some cause) r a now random passed beside x x' beside' t t' outs outs
 -- A session's link took Timer, if it has one.
 abbrev pub RemindedOnce : Service → Rules → At → ℕ → List ℕ → Beside → Session → Session → Beside → TermsView → TermsView → List OutRecord → List OutRecord → Type 0
 RemindedOnce (Provisioned over) r a now random beside x x' beside' t t' outs outs' = (x' ≡ x) × (beside' ≡ beside) × (t' ≡ t) × (outs' ≡ outs)
-RemindedOnce (Discovered m) r a now random beside x x' beside' t t' outs outs' =
-    (cause : Option ℕ) × Driven r a (PppSteps r.link Timer now random) beside x cause x' beside' outs outs'
+RemindedOnce (Linked m) r a now random beside x x' beside' t t' outs outs' =
+    (cause : Option ℕ) × Driven r a (LinkSteps r.link Timer now random) beside x cause x' beside' outs outs'
     × (t' ≡ record t { rows = closed_rows x.lease cause t.rows })
 
 -- The call of a session took a message: where its ICCN was taken the session's link was made anew and told Open and Up, where it ended the
 -- session ended, and else it goes on.
 abbrev pub TurnedOnce : Bool → Bool → Rules → At → ℕ → List ℕ → Beside → Session → Session → Beside → TermsView → TermsView → List OutRecord → List OutRecord → Type 0
 TurnedOnce true over r a now random beside x x' beside' t t' outs outs' =
-    (link : PppState) × IsNewLink 1500 random link × (none : Option ℕ)
-    × Driven r a (PppSteps r.link Start now random) beside (linked_anew x link) none x' beside' outs outs'
+    (link : LinkState) × IsNewLink 1500 random link × (none : Option ℕ)
+    × Driven r a (LinkSteps r.link Start now random) beside (linked_anew x link) none x' beside' outs outs'
     × (t' ≡ record t { rows = closed_rows x.lease (Some lost_carrier) t.rows })
 TurnedOnce false true r a now random beside x x' beside' t t' outs outs' =
     (x' ≡ ended x) × (beside' ≡ beside) × (t' ≡ record t { rows = closed_rows x.lease (Some lost_carrier) t.rows }) × (outs' ≡ outs)

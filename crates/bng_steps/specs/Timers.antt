@@ -2,18 +2,18 @@
 use Rattle.std.specs.Prelude.{◌≡◌, ◌⊎◌, ℕ, zero, suc, ◌+◌, ◌≤◌, ◌<◌, Bool, true, false, not, List, [], ◌++◌, Option, Some, None, IsTrue, IsFalse, option_map}
 use Rattle.bng_base.specs.declared.item.Entry.{Entry}
 use Rattle.bng_base.specs.declared.item.OutRecord.{OutRecord}
-use Rattle.bng_ppp.specs.declared.whole_input.WholeInput.TheVariants.{Timer, Close}
-use Rattle.bng_ppp.specs.LinkRelation.{earliest}
+use Rattle.bng_ppp.specs.declared.input.Input.TheVariants.{Timer, Close}
+use Rattle.bng_ppp.specs.LcpRelation.{earliest}
 use Rattle.bng_lns.specs.Timed.{reminded, stopped}
 use Rattle.bng_lns.specs.Tunnels.{TunnelsState}
-use Rattle.bng_ppp.specs.PppState.{PppState}
+use Rattle.bng_ppp.specs.LinkState.{LinkState}
 use Rattle.bng_sessions.specs.Sessions.{value_at, read_at}
 use Rattle.bng_term.specs.Lifetimes.{deadline_of as term_deadline}
-use Rattle.bng_steps.specs.Made.{Made}
+use Rattle.bng_steps.specs.LinkService.{LinkService}
 use Rattle.bng_steps.specs.declared.rules.Rules.{Rules}
 use Rattle.bng_steps.specs.declared.session.Lease.{Lease}
 use Rattle.bng_steps.specs.declared.session.Service.{Service}
-use Rattle.bng_steps.specs.declared.session.Service.TheVariants.{Provisioned, Discovered}
+use Rattle.bng_steps.specs.declared.session.Service.TheVariants.{Provisioned, Linked}
 use Rattle.bng_steps.specs.declared.session.Session.{Session}
 use Rattle.bng_base.specs.declared.item.At.{At}
 use Rattle.bng_steps.specs.declared.way.Way.{Way}
@@ -26,7 +26,7 @@ use Rattle.bng_steps.specs.Link.{Drives, EndsWith, ended, nas_request, told}
 use Rattle.bng_steps.specs.Passing.{cause_at, lapsed, looked, passed_at}
 
 -- the first moment at which a link's Timer does something
-abbrev pub link_deadline : PppState → Option ℕ
+abbrev pub link_deadline : LinkState → Option ℕ
 link_deadline l = earliest (earliest (earliest (option_map (λ t. t + 3000) l.lcp.lcp.started) l.lcp.kept.next_echo) l.auth_due) (option_map (λ t. t + 3000) l.ipcp.machine.started)
 
 abbrev pub deadline_unless : Bool → Option ℕ → Option ℕ
@@ -38,12 +38,12 @@ abbrev pub lease_deadline : Option Lease → Option ℕ
 lease_deadline None = None
 lease_deadline (Some l) = term_deadline l.life
 
-abbrev pub made_deadline : Made → Option Lease → Option ℕ
+abbrev pub made_deadline : LinkService → Option Lease → Option ℕ
 made_deadline m lease = deadline_unless m.ended (earliest (link_deadline m.link) (lease_deadline lease))
 
 abbrev pub deadline_in : Service → Option Lease → Option ℕ
 deadline_in (Provisioned over) lease = deadline_unless over (lease_deadline lease)
-deadline_in (Discovered m) lease = made_deadline m lease
+deadline_in (Linked m) lease = made_deadline m lease
 
 -- the deadline of a session, of its link, which a provisioned circuit has not, or of its live term; one that has ended has none
 abbrev pub deadline_of : Session → Option ℕ
@@ -70,7 +70,7 @@ NoneIsDue s now = (n deadline : ℕ) → due_at s n ≡ Some deadline → now < 
 -- The live term of the session ends by this cause, and its link takes Close. A provisioned circuit has no link.
 abbrev pub LosesTerm : Service → ℕ → Rules → Entry → State → ℕ → Session → List OutRecord → State → Type 0
 LosesTerm (Provisioned over) cause r e s n x outs s' = (outs ≡ []) × (s' ≡ with_driven s n x.lease (Some cause) (lapsed x) (beside_of s e))
-LosesTerm (Discovered m) cause r e s n x outs s' =
+LosesTerm (Linked m) cause r e s n x outs s' =
     (after : Session) × (none : Option ℕ) × (beside : Beside) × Drives r (at_of s e) (beside_of s e) (lapsed x) (told r e Close) outs none after beside
     × (s' ≡ with_driven s n x.lease (Some cause) after beside)
 
@@ -93,7 +93,7 @@ pub record IsReminded (r : Rules) (e : Entry) (s : State) (n : ℕ) (x : Session
 -- the term of a provisioned circuit is looked at alone
 abbrev pub TimesIn : Service → Rules → Entry → State → ℕ → Session → List OutRecord → State → Type 0
 TimesIn (Provisioned over) r e s n x outs s' = LooksAt (cause_at (passed_at s.passed x.number) x.lease e.moment) r e s n x outs s'
-TimesIn (Discovered m) r e s n x outs s' = IsReminded r e s n x outs s'
+TimesIn (Linked m) r e s n x outs s' = IsReminded r e s n x outs s'
 
 -- a due deadline of the session with this number
 abbrev pub IsTimed : Rules → Entry → State → ℕ → List OutRecord → State → Type 0
@@ -161,7 +161,7 @@ TellsOn (Call c) r a x outs = outs ≡ []
 
 abbrev pub TellsEnd : Service → Rules → At → Session → List OutRecord → Type 0
 TellsEnd (Provisioned p) r a x outs = outs ≡ []
-TellsEnd (Discovered m) r a x outs = TellsOn x.way r a x outs
+TellsEnd (Linked m) r a x outs = TellsOn x.way r a x outs
 
 -- So many sessions at most end, by rising number.
 abbrev pub Ends : ℕ → Rules → Entry → State → List OutRecord → State → Type 0

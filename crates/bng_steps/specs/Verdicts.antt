@@ -7,7 +7,7 @@ use Rattle.bng_base.specs.declared.item.OutRecord.{OutRecord}
 use Rattle.bng_sessions.specs.Sessions.{value_at}
 use Rattle.bng_term.specs.Lifetimes.{leased}
 use Rattle.bng_term.specs.declared.limits.Limits.{Limits}
-use Rattle.bng_steps.specs.Made.{Question}
+use Rattle.bng_steps.specs.LinkService.{Question}
 use Rattle.bng_steps.specs.declared.meters.Meters.{Meters}
 use Rattle.bng_steps.specs.declared.meters.Plan.{Plan}
 use Rattle.bng_steps.specs.declared.rules.Rules.{Rules}

@@ -3,7 +3,7 @@ ghost use Rattle.bng_base.specs.declared.address.SessionNo.{SessionNo as Number}
 ghost use Rattle.bng_base.specs.PppoeGrammar.{PppoeTag, AreTags};
 ghost use Rattle.bng_pppoe_wire.specs.View.{frame_of};
 ghost use Rattle.bng_steps.specs.Discovery.{IsVacancy};
-ghost use Rattle.bng_steps.specs.Replying.{IsReply};
+ghost use Rattle.bng_steps.specs.Replying.{IsDiscoveryReply};
 
 use crate::host_uniq::host_uniq;
 use crate::served::Served;
@@ -14,7 +14,7 @@ use bng_pppoe_wire::Pppoe;
 
 /// What a discovery frame is answered.
 #[derive(Clone, Copy)]
-pub enum Reply {
+pub enum DiscoveryReply {
     /// A PADO.
     Offer,
     /// A session is made with this number, and its PADS sent.
@@ -27,13 +27,13 @@ pub enum Reply {
 }
 
 // A new session, where there may be one more.
-fn make_or_refuse<S: Store>(served: &Served<S>) -> Reply
-    ensures make { (n : Number) → result ≡ Reply.Make n → IsVacancy served.now (Some n.0) }
-    ensures refuse { (result ≡ Reply.Refuse ErrorTag.AcSystemError × IsVacancy served.now Nothing) ⊎ ((n : Number) × (result ≡ Reply.Make n)) }
+fn make_or_refuse<S: Store>(served: &Served<S>) -> DiscoveryReply
+    ensures make { (n : Number) → result ≡ DiscoveryReply.Make n → IsVacancy served.now (Some n.0) }
+    ensures refuse { (result ≡ DiscoveryReply.Refuse ErrorTag.AcSystemError × IsVacancy served.now Nothing) ⊎ ((n : Number) × (result ≡ DiscoveryReply.Make n)) }
 {
     match served.vacant() {
-        Some(number) => Reply::Make(number),
-        None => Reply::Refuse(ErrorTag::AcSystemError),
+        Some(number) => DiscoveryReply::Make(number),
+        None => DiscoveryReply::Refuse(ErrorTag::AcSystemError),
     }
 }
 
@@ -43,21 +43,21 @@ pub fn reply_to<S: Store>(
     number: u8,
     offers: &PortRules,
     frame: &Pppoe<'_>,
-) -> Reply
+) -> DiscoveryReply
     requires { (ts : List PppoeTag) × AreTags ts frame.now.payload.now × (length ts ≤ 64) }
-    ensures { (ts : List PppoeTag) → AreTags ts frame.now.payload.now → IsReply result served.now number offers.now (frame_of frame.now) ts }
+    ensures { (ts : List PppoeTag) → AreTags ts frame.now.payload.now → IsDiscoveryReply result served.now number offers.now (frame_of frame.now) ts }
 {
     let found = served.repeated(number, frame.src, host_uniq(frame));
     match answer(frame, offers, found.is_some(), true) {
-        Answer::Offer => Reply::Offer,
+        Answer::Offer => DiscoveryReply::Offer,
         Answer::Make => make_or_refuse(served),
         Answer::Again => match found {
-            Some(session) => Reply::Again(session),
-            None => Reply::Nothing,
+            Some(session) => DiscoveryReply::Again(session),
+            None => DiscoveryReply::Nothing,
         },
-        Answer::Refuse(error) => Reply::Refuse(error),
-        Answer::Ended => Reply::Nothing,
-        Answer::NoSession => Reply::Nothing,
-        Answer::Ignore => Reply::Nothing,
+        Answer::Refuse(error) => DiscoveryReply::Refuse(error),
+        Answer::Ended => DiscoveryReply::Nothing,
+        Answer::NoSession => DiscoveryReply::Nothing,
+        Answer::Ignore => DiscoveryReply::Nothing,
     }
 }

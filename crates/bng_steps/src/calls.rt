@@ -6,17 +6,17 @@ ghost use Rattle.bng_l2tp_tunnel.specs.Sound.{IsSpelled};
 ghost use Rattle.bng_l2tp_tunnel.specs.TunnelState.{TunnelState};
 ghost use Rattle.bng_l2tp_wire.specs.View.{payloads, said, control_of};
 ghost use Rattle.bng_lns.specs.Tunnels.{tunnel_at, with_step, IsTaken, Steps};
-ghost use Rattle.bng_ppp.specs.PppRelation.{PppSteps};
-ghost use Rattle.bng_ppp.specs.PppState.{PppState};
+ghost use Rattle.bng_ppp.specs.LinkRelation.{LinkSteps};
+ghost use Rattle.bng_ppp.specs.LinkState.{LinkState};
 ghost use Rattle.bng_steps.specs.declared.session.Session.{Session as Seen};
-ghost use Rattle.bng_steps.specs.declared.way.Called.{Called as CalledOf};
+ghost use Rattle.bng_steps.specs.declared.way.TunnelCall.{TunnelCall as CalledOf};
 ghost use Rattle.bng_steps.specs.declared.way.Way.TheVariants.{Call as CallOf};
 ghost use Rattle.bng_steps.specs.Calls.{call_after, call_step, is_icrq as asks_for_call, linked, linked_anew, turned, AsksForCall, HearsCallMessage, MakesSession, TakesForCall, TakesForNone};
 ghost use Rattle.bng_steps.specs.Discovery.{IsNewLink, IsVacancy};
 ghost use Rattle.bng_steps.specs.Doing.{DoesWith};
 ghost use Rattle.bng_steps.specs.Driven.{Driven};
 ghost use Rattle.bng_steps.specs.Placed.{ArePlaced, IsPlaced};
-ghost use Rattle.bng_steps.specs.Running.{whole, closed_rows, KeepSums, TermsView};
+ghost use Rattle.bng_steps.specs.TermRows.{whole, closed_rows, KeepSums, TermsView};
 ghost use Rattle.bng_steps.specs.Serving.{KeepsLease};
 ghost use Rattle.bng_steps.specs.State.{beside_at, call_of, is_port, with_tunnels};
 ghost use Rattle.bng_steps.specs.Timed.{TurnedOnce};
@@ -27,15 +27,15 @@ use crate::drive::drive;
 use crate::in_turn::send_datagrams;
 use crate::incoming::Incoming;
 use crate::served::Served;
-use crate::session::{Made, Service, Session};
+use crate::session::{LinkService, Service, Session};
 use crate::store::Store;
 use crate::terms::Terms;
-use crate::way::{Called, Way};
+use crate::way::{TunnelCall, Way};
 use bng_base::{Batch, OutRecord, SessionNo, TunnelNo, TunnelStep};
 use bng_l2tp_wire::Control;
 use bng_l2tp_wire::message::ICRQ;
 use bng_l2tp_wire::values::message_type;
-use bng_ppp::WholeInput;
+use bng_ppp::Input;
 
 fn is_icrq(message: &Control<'_>) -> bool
     ensures { result ≡ asks_for_call (control_of message.now) }
@@ -49,14 +49,14 @@ fn is_icrq(message: &Control<'_>) -> bool
 // Calls that are asked for ----------------------------------------------------------------------------------------------------
 
 // The session of a call that was just made, whose link was told nothing.
-fn session_for(number: SessionNo, called: Called, random: &[u8; 16], now: u64) -> Session
+fn session_for(number: SessionNo, called: TunnelCall, random: &[u8; 16], now: u64) -> Session
     ensures leased { KeepsLease result.service result.lease }
-    ensures is { (link : PppState) × IsNewLink 1500 random.now link × (result ≡ record { number = number; way = CallOf called; service = Service.Discovered (linked link); lease = Nothing }) }
+    ensures is { (link : LinkState) × IsNewLink 1500 random.now link × (result ≡ record { number = number; way = CallOf called; service = Service.Linked (linked link); lease = Nothing }) }
 {
     Session {
         number,
         way: Way::Call(called),
-        service: Service::Discovered(Made::linked(random, now)),
+        service: Service::Linked(LinkService::linked(random, now)),
         lease: None,
     }
 }
@@ -73,7 +73,7 @@ fn make_session<S: Store>(
     served: &mut Served<S>,
     vacant: Option<SessionNo>,
     unmade: bool,
-    called: Called,
+    called: TunnelCall,
     random: &[u8; 16],
     now: u64,
 )
@@ -135,8 +135,8 @@ fn connect<S: Store>(
     requires offers { length incoming.now.rules.now.offers ≡ length incoming.now.rules.now.access }
     requires placed { IsPlaced incoming.now.rules.now session.old.way }
     requires room { length outs.old.items + 5 ≤ outs.old.room }
-    ensures driven { (link : PppState) × IsNewLink 1500 incoming.now.item.now.random link × (none : Maybe ℕ)
-        × Driven incoming.now.rules.now incoming.now.at (PppSteps incoming.now.rules.now.link WholeInput.Start incoming.now.moment incoming.now.item.now.random) (beside_at incoming.now.moment served.old.asked served.old.tunnels) (linked_anew session.old link) none session.new (beside_at incoming.now.moment result served.new.tunnels) outs.old.items outs.new.items }
+    ensures driven { (link : LinkState) × IsNewLink 1500 incoming.now.item.now.random link × (none : Maybe ℕ)
+        × Driven incoming.now.rules.now incoming.now.at (LinkSteps incoming.now.rules.now.link Input.Start incoming.now.moment incoming.now.item.now.random) (beside_at incoming.now.moment served.old.asked served.old.tunnels) (linked_anew session.old link) none session.new (beside_at incoming.now.moment result served.new.tunnels) outs.old.items outs.new.items }
     ensures others { served.new ≡ with_tunnels served.old served.new.tunnels }
     ensures terms { terms.new ≡ record terms.old { rows = closed_rows session.old.lease (Some 2) terms.old.rows } }
     ensures leased { KeepsLease session.new.service session.new.lease }
@@ -147,7 +147,7 @@ fn connect<S: Store>(
     terms.close(session.lease(), Some(LOST_CARRIER));
     session.link_anew(&incoming.item.random, incoming.moment);
     let asked = served.asked();
-    let (asked, _none) = drive(served, session, asked, incoming, WholeInput::Start, outs);
+    let (asked, _none) = drive(served, session, asked, incoming, Input::Start, outs);
     asked
 }
 
@@ -188,7 +188,7 @@ fn turn<S: Store>(
 // A call takes a message that the tunnel with this number handed over.
 fn answer_over<S: Store>(
     served: &mut Served<S>,
-    called: &mut Called,
+    called: &mut TunnelCall,
     number: TunnelNo,
     heard: TunnelStep,
     message: &Control<'_>,

@@ -9,11 +9,11 @@ ghost use Rattle.bng_steps.specs.Changes.{AnswersRequest, Applies, Found, HearsC
 ghost use Rattle.bng_steps.specs.Doing.{DoesWith};
 ghost use Rattle.bng_steps.specs.Placed.{ArePlaced};
 ghost use Rattle.bng_steps.specs.Link.{admin_reset};
-ghost use Rattle.bng_steps.specs.Running.{whole, KeepSums};
+ghost use Rattle.bng_steps.specs.TermRows.{whole, KeepSums};
 ghost use Rattle.bng_steps.specs.State.{beside_at, with_session};
 ghost use Rattle.bng_steps.specs.Timed.{LostTerm};
 ghost use Rattle.bng_steps.specs.Timers.{stays_at};
-ghost use Rattle.bng_steps.specs.declared.changes.Answer.{Answer as AnswerOf};
+ghost use Rattle.bng_steps.specs.declared.changes.ChangeAnswer.{ChangeAnswer as AnswerOf};
 ghost use Rattle.bng_steps.specs.declared.session.Session.{Session as Seen};
 
 use crate::incoming::Incoming;
@@ -31,7 +31,7 @@ use bng_term::Limits;
 
 /// What a request for a change was answered, by its number.
 #[derive(Clone, Copy, PartialEq, Eq, Debug)]
-pub struct Answer {
+pub struct ChangeAnswer {
     pub ask: u64,
     pub verdict: ChangeVerdict,
 }
@@ -107,7 +107,7 @@ fn found_by<S: Store>(
 ) -> Option<Meant>
     ensures { result ≡ option_map meant_of (found_by rules.now (whole served.now terms.now) (packet_of request.now).attributes) }
 {
-    let asked = terms.asked_for(rules, request)?;
+    let asked = terms.named_by(rules, request)?;
     let session = served.get(asked.term.session)?;
     let lease = lease_for(session, asked.term.serial)?;
     Some(Meant {
@@ -311,7 +311,7 @@ pub fn hear_change<S: Store>(
     served: &mut Served<S>,
     terms: &mut Terms,
     incoming: &Incoming<'_>,
-    answers: &mut Vec<Answer>,
+    answers: &mut Vec<ChangeAnswer>,
     outs: &mut Batch<OutRecord>,
 ) -> Fate
     requires moment { incoming.now.moment < 2 ^ 60 }
@@ -332,7 +332,7 @@ pub fn hear_change<S: Store>(
     match request_in(item.frame.payload()) {
         Some(request) => {
             let verdict = obey(served, terms, incoming, &request, outs);
-            answers.push_reserved(Answer {
+            answers.push_reserved(ChangeAnswer {
                 ask: item.ask,
                 verdict,
             });

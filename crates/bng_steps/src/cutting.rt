@@ -3,7 +3,7 @@ ghost use Rattle.std.specs.Prelude.{◌≡◌, ◌==◌, ◌&&◌, not};
 ghost use Rattle.bng_steps.specs.declared.rules.Rules.{Rules as RulesOf};
 ghost use Rattle.bng_steps.specs.Cutting.{cut_at, cut_if as cut_where, cut_off as cut_all, Clears};
 ghost use Rattle.bng_steps.specs.Placed.{ArePlaced};
-ghost use Rattle.bng_steps.specs.Running.{whole, KeepSums};
+ghost use Rattle.bng_steps.specs.TermRows.{whole, KeepSums};
 
 use crate::served::{NUMBERS, SPAN, Served};
 use crate::store::Store;

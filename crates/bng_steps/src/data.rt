@@ -9,7 +9,7 @@ ghost use Rattle.bng_steps.specs.Doing.{DoesWith};
 ghost use Rattle.bng_steps.specs.Placed.{ArePlaced, IsPlaced};
 ghost use Rattle.bng_steps.specs.Frames.{charge_of as charged_to, found_among, HearsCore, HearsData, HearsPacket, SentDown};
 ghost use Rattle.bng_steps.specs.Metered.{kept_view, meters_found, view_in};
-ghost use Rattle.bng_steps.specs.Running.{AreTied, tenures_in, whole};
+ghost use Rattle.bng_steps.specs.TermRows.{AreTied, tenures_in, whole};
 ghost use Rattle.bng_steps.specs.State.{session_at, session_of};
 ghost use Rattle.bng_steps.specs.Tenures.{has_kept};
 

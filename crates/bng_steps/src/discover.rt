@@ -8,25 +8,25 @@ ghost use Rattle.bng_steps.specs.Doing.{DoesWith};
 ghost use Rattle.bng_steps.specs.Driven.{Driven};
 ghost use Rattle.bng_steps.specs.Making.{IsNewSession};
 ghost use Rattle.bng_steps.specs.declared.session.Session.{Session as Seen};
-ghost use Rattle.bng_ppp.specs.PppRelation.{PppSteps};
+ghost use Rattle.bng_ppp.specs.LinkRelation.{LinkSteps};
 ghost use Rattle.std.specs.Prelude.{ℕ, None as Nothing, Option as Maybe};
-ghost use Rattle.bng_steps.specs.Running.{TermsView, whole};
+ghost use Rattle.bng_steps.specs.TermRows.{TermsView, whole};
 ghost use Rattle.bng_steps.specs.Serving.{KeepsLease};
 ghost use Rattle.bng_steps.specs.State.{beside_at, port_at, with_driven, Beside};
 ghost use Rattle.bng_sessions.specs.Sessions.{IsLowestVacant};
 
-use crate::answering::{Reply, reply_to};
+use crate::answering::{DiscoveryReply, reply_to};
 use crate::drive::{drive, offers_of, port_of};
 use crate::host_uniq::host_uniq;
 use crate::incoming::Incoming;
 use crate::replies::{send_offer, send_refusal, send_session};
 use crate::served::Served;
-use crate::session::{Made, Service, Session};
+use crate::session::{LinkService, Service, Session};
 use crate::store::Store;
 use crate::way::Way;
 use arrayvec::ArrayVec;
 use bng_base::{Batch, Fate, Mac, OutRecord, SessionNo};
-use bng_ppp::{LinkKind, WholeInput, WholeLink};
+use bng_ppp::{LinkKind, Input, Link};
 use bng_pppoe_wire::Pppoe;
 
 // A list of these octets.
@@ -66,9 +66,9 @@ fn new_session(
     Session {
         number,
         way: Way::Port { port, mac },
-        service: Service::Discovered(Made {
+        service: Service::Linked(LinkService {
             host_uniq: kept(asked),
-            link: WholeLink::new(LinkKind::Pppoe, random, now),
+            link: Link::new(LinkKind::Pppoe, random, now),
             question: None,
             ended: false,
         }),
@@ -92,7 +92,7 @@ fn make<S: Store>(
     requires offers { length incoming.now.rules.now.offers ≡ length incoming.now.rules.now.access }
     requires placed { (port : Port) × (port_at incoming.now.rules.now.access number ≡ Some port) }
     requires tags { (ts : List PppoeTag) × AreTags ts frame.now.payload.now × (length ts ≤ 64) × IfSome (host_uniq_of ts) (λ h. length h ≤ 64) }
-    ensures made { (ts : List PppoeTag) → AreTags ts frame.now.payload.now → (new : Seen) × (x : Seen) × (cause : Maybe ℕ) × (after : Beside) × IsNewSession session.0 number frame.now.src (host_uniq_of ts) incoming.now.item.now.random new × Driven incoming.now.rules.now incoming.now.at (PppSteps incoming.now.rules.now.link WholeInput.Start incoming.now.moment incoming.now.item.now.random) (beside_at incoming.now.moment served.old.asked served.old.tunnels) new cause x after outs.old.items outs.new.items × ((t : TermsView) → whole served.new t ≡ with_driven (whole served.old t) session.0 Nothing cause x after) }
+    ensures made { (ts : List PppoeTag) → AreTags ts frame.now.payload.now → (new : Seen) × (x : Seen) × (cause : Maybe ℕ) × (after : Beside) × IsNewSession session.0 number frame.now.src (host_uniq_of ts) incoming.now.item.now.random new × Driven incoming.now.rules.now incoming.now.at (LinkSteps incoming.now.rules.now.link Input.Start incoming.now.moment incoming.now.item.now.random) (beside_at incoming.now.moment served.old.asked served.old.tunnels) new cause x after outs.old.items outs.new.items × ((t : TermsView) → whole served.new t ≡ with_driven (whole served.old t) session.0 Nothing cause x after) }
     ensures capacity { outs.new.room ≡ outs.old.room }
     ensures few { length outs.new.items ≤ length outs.old.items + 5 }
 {
@@ -100,7 +100,7 @@ fn make<S: Store>(
     let random = &incoming.item.random;
     let mut made = new_session(session, number, frame.src, wanted, random, incoming.moment);
     let asked = served.asked();
-    let (asked, _cause) = drive(served, &mut made, asked, incoming, WholeInput::Start, outs);
+    let (asked, _cause) = drive(served, &mut made, asked, incoming, Input::Start, outs);
     served.put(made);
     served.count_asked(asked);
 }
@@ -133,23 +133,23 @@ pub fn hear_discovery<S: Store>(
         unreachable!();
     };
     match reply_to(served, number, offers, frame) {
-        Reply::Offer => {
+        DiscoveryReply::Offer => {
             send_offer(outs, at, number, &port, offers, frame);
             Fate::Consumed
         }
-        Reply::Make(session) => {
+        DiscoveryReply::Make(session) => {
             send_session(outs, at, number, &port, offers, frame, session);
             make(served, incoming, number, frame, session, outs);
             Fate::Consumed
         }
-        Reply::Again(session) => {
+        DiscoveryReply::Again(session) => {
             send_session(outs, at, number, &port, offers, frame, session);
             Fate::Consumed
         }
-        Reply::Refuse(error) => {
+        DiscoveryReply::Refuse(error) => {
             send_refusal(outs, at, number, &port, offers, frame, error);
             Fate::Consumed
         }
-        Reply::Nothing => Fate::Consumed,
+        DiscoveryReply::Nothing => Fate::Consumed,
     }
 }

@@ -2,7 +2,7 @@
 ghost use Rattle.std.specs.Prelude.{◌≡◌, ℕ, List, Some, true, ◌+◌, ◌<◌, ◌≤◌, ◌^◌, ◌++◌, IfSome, IfNone, None as Nothing, length};
 ghost use Rattle.bng_base.specs.PppoeGrammar.{PppoeFrame, pppoe_text};
 ghost use Rattle.bng_pppoe_wire.specs.View.{frame_of};
-ghost use Rattle.bng_ppp.specs.PppRelation.{PppSteps};
+ghost use Rattle.bng_ppp.specs.LinkRelation.{LinkSteps};
 ghost use Rattle.bng_ppp.specs.Said.{payloads};
 ghost use Rattle.bng_base.specs.declared.item.OutRecord.{OutRecord as OutRecordOf};
 ghost use Rattle.bng_base.specs.declared.settings.AccessPort.{AccessPort as Port};
@@ -20,13 +20,13 @@ use crate::sending::push_out;
 use crate::served::Served;
 use crate::session::Session;
 use crate::store::Store;
-use crate::way::{Called, Way};
+use crate::way::{TunnelCall, Way};
 use bng_base::{
     AccessPort, At, Batch, Frame, HEADROOM, LONGEST, Mac, OutRecord, Peer, Role, SessionNo, Written,
 };
 use bng_discovery::PortRules;
 use bng_l2tp_wire::Data;
-use bng_ppp::{WholeInput, WholeSteps};
+use bng_ppp::{Input, Steps};
 use bng_pppoe_wire::{Pppoe, code};
 
 /// The access port with this number, from 1 on.
@@ -146,7 +146,7 @@ fn push_message(outs: &mut Batch<OutRecord>, at: At, to: Peer, message: &Frame)
 }
 
 // Appends a PPP frame of a call to the peer of its tunnel, where a datagram holds it (RFC 2661 section 3.1).
-fn push_data(outs: &mut Batch<OutRecord>, at: At, called: &Called, ppp: &[u8])
+fn push_data(outs: &mut Batch<OutRecord>, at: At, called: &TunnelCall, ppp: &[u8])
     requires room { length outs.old.items < outs.old.room }
     ensures items { outs.new.items ≡ outs.old.items ++ data_outs at called.now ppp.now }
     ensures capacity { outs.new.room ≡ outs.old.room }
@@ -165,7 +165,7 @@ fn push_data(outs: &mut Batch<OutRecord>, at: At, called: &Called, ppp: &[u8])
 }
 
 // Appends the frames of a call's link, each in a data message.
-fn send_over(at: At, called: &Called, frames: &[Frame], outs: &mut Batch<OutRecord>)
+fn send_over(at: At, called: &TunnelCall, frames: &[Frame], outs: &mut Batch<OutRecord>)
     requires few { length frames.now ≤ 4 }
     requires room { length outs.old.items + 4 ≤ outs.old.room }
     ensures items { outs.new.items ≡ outs.old.items ++ call_outs at called.now (payloads frames.now) }
@@ -206,7 +206,7 @@ pub fn drive<S: Store>(
     session: &mut Session,
     asked: u64,
     incoming: &Incoming<'_>,
-    input: WholeInput<'_>,
+    input: Input<'_>,
     outs: &mut Batch<OutRecord>,
 ) -> (u64, Option<u8>)
     requires moment { incoming.now.moment < 2 ^ 60 }
@@ -217,14 +217,14 @@ pub fn drive<S: Store>(
     requires leased { KeepsLease session.old.service session.old.lease }
     requires lasts { LastsOver input session.old.lease }
     requires room { length outs.old.items + 5 ≤ outs.old.room }
-    ensures driven { Driven incoming.now.rules.now incoming.now.at (PppSteps incoming.now.rules.now.link input.entry incoming.now.moment incoming.now.item.now.random) (beside_at incoming.now.moment asked served.old.tunnels) session.old result.1 session.new (beside_at incoming.now.moment result.0 served.new.tunnels) outs.old.items outs.new.items }
+    ensures driven { Driven incoming.now.rules.now incoming.now.at (LinkSteps incoming.now.rules.now.link input.entry incoming.now.moment incoming.now.item.now.random) (beside_at incoming.now.moment asked served.old.tunnels) session.old result.1 session.new (beside_at incoming.now.moment result.0 served.new.tunnels) outs.old.items outs.new.items }
     ensures others { served.new ≡ with_tunnels served.old served.new.tunnels }
     ensures leased { KeepsLease session.new.service session.new.lease }
     ensures number { session.new.number ≡ session.old.number }
     ensures capacity { outs.new.room ≡ outs.old.room }
     ensures few { length outs.new.items ≤ length outs.old.items + 5 }
 {
-    let mut steps = WholeSteps::new();
+    let mut steps = Steps::new();
     let rules = incoming.rules;
     let random = &incoming.item.random;
     let asked = session.step(

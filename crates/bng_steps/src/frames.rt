@@ -2,15 +2,15 @@
 ghost use Rattle.std.specs.Prelude.{◌≡◌, ◌<◌, ◌≤◌, ◌+◌, ◌^◌, true, false, length, Some};
 ghost use Rattle.bng_pppoe_wire.specs.View.{frame_of};
 ghost use Rattle.bng_steps.specs.declared.session.Session.{Session as Seen};
-ghost use Rattle.bng_steps.specs.Controlling.{IsControl};
+ghost use Rattle.bng_steps.specs.Controlling.{IsReception};
 ghost use Rattle.bng_steps.specs.Doing.{DoesWith};
 ghost use Rattle.bng_steps.specs.Driven.{Driven, LastsOver};
 ghost use Rattle.bng_steps.specs.Placed.{ArePlaced};
 ghost use Rattle.bng_steps.specs.Frames.{HearsIn};
 ghost use Rattle.bng_steps.specs.Link.{ended, user_request};
-ghost use Rattle.bng_ppp.specs.PppRelation.{PppSteps};
+ghost use Rattle.bng_ppp.specs.LinkRelation.{LinkSteps};
 ghost use Rattle.std.specs.Prelude.{ℕ, Option as Maybe};
-ghost use Rattle.bng_steps.specs.Running.{whole, KeepSums};
+ghost use Rattle.bng_steps.specs.TermRows.{whole, KeepSums};
 ghost use Rattle.bng_steps.specs.State.{beside_at, session_of, with_driven, with_ended, Beside};
 ghost use Rattle.bng_steps.specs.Timers.{lives_at};
 ghost use Rattle.bng_sessions.specs.Sessions.{value_at};
@@ -21,7 +21,7 @@ use crate::served::Served;
 use crate::store::Store;
 use crate::terms::Terms;
 use bng_base::{Batch, DropCause, Fate, OutRecord, SessionNo};
-use bng_ppp::WholeInput;
+use bng_ppp::Input;
 use bng_pppoe_wire::Pppoe;
 
 // The cause of an end by the subscriber (RFC 2866 section 5.10, User Request).
@@ -45,7 +45,7 @@ pub fn drive_at<S: Store>(
     terms: &mut Terms,
     number: SessionNo,
     incoming: &Incoming<'_>,
-    input: WholeInput<'_>,
+    input: Input<'_>,
     outs: &mut Batch<OutRecord>,
 )
     requires moment { incoming.now.moment < 2 ^ 60 }
@@ -56,7 +56,7 @@ pub fn drive_at<S: Store>(
     requires lasts { (x : Seen) → value_at served.old.sessions number.0 ≡ Some x → LastsOver input x.lease }
     requires room { length outs.old.items + 5 ≤ outs.old.room }
     ensures sums { KeepSums terms.old terms.new }
-    ensures driven { (x : Seen) → value_at served.old.sessions number.0 ≡ Some x → (x' : Seen) × (cause : Maybe ℕ) × (after : Beside) × Driven incoming.now.rules.now incoming.now.at (PppSteps incoming.now.rules.now.link input.entry incoming.now.moment incoming.now.item.now.random) (beside_at incoming.now.moment served.old.asked served.old.tunnels) x cause x' after outs.old.items outs.new.items × (whole served.new terms.new ≡ with_driven (whole served.old terms.old) number.0 x.lease cause x' after) }
+    ensures driven { (x : Seen) → value_at served.old.sessions number.0 ≡ Some x → (x' : Seen) × (cause : Maybe ℕ) × (after : Beside) × Driven incoming.now.rules.now incoming.now.at (LinkSteps incoming.now.rules.now.link input.entry incoming.now.moment incoming.now.item.now.random) (beside_at incoming.now.moment served.old.asked served.old.tunnels) x cause x' after outs.old.items outs.new.items × (whole served.new terms.new ≡ with_driven (whole served.old terms.old) number.0 x.lease cause x' after) }
     ensures capacity { outs.new.room ≡ outs.old.room }
     ensures few { length outs.new.items ≤ length outs.old.items + 5 }
 {
@@ -71,7 +71,7 @@ pub fn drive_at<S: Store>(
 
 // What a frame that names a session is to do.
 #[derive(Clone, Copy)]
-pub enum Control {
+pub enum Reception {
     /// There is no such session.
     Unknown,
     /// It is ignored.
@@ -80,18 +80,18 @@ pub enum Control {
     Heard,
 }
 
-fn control_of<S: Store>(served: &Served<S>, number: u8, frame: &Pppoe<'_>) -> Control
-    ensures { IsControl (session_of served.now number frame.now.src frame.now.session) result }
+fn reception_of<S: Store>(served: &Served<S>, number: u8, frame: &Pppoe<'_>) -> Reception
+    ensures { IsReception (session_of served.now number frame.now.src frame.now.session) result }
 {
     match served.session_of(number, frame.src, SessionNo(frame.session)) {
         Some(session) => {
             if session.lives() {
-                Control::Heard
+                Reception::Heard
             } else {
-                Control::Ignored
+                Reception::Ignored
             }
         }
-        None => Control::Unknown,
+        None => Reception::Unknown,
     }
 }
 
@@ -117,15 +117,15 @@ pub fn hear_control<S: Store>(
     ensures capacity { outs.new.room ≡ outs.old.room }
 {
     let session = SessionNo(frame.session);
-    match control_of(served, number, frame) {
-        Control::Unknown => Fate::Dropped(DropCause::NoSession),
-        Control::Ignored => Fate::Consumed,
-        Control::Heard => {
+    match reception_of(served, number, frame) {
+        Reception::Unknown => Fate::Dropped(DropCause::NoSession),
+        Reception::Ignored => Fate::Consumed,
+        Reception::Heard => {
             if frame.discovery {
                 end_session(served, terms, session);
                 return Fate::Consumed;
             }
-            let input = WholeInput::Frame(frame.payload);
+            let input = Input::Frame(frame.payload);
             drive_at(served, terms, session, incoming, input, outs);
             Fate::Consumed
         }

@@ -5,7 +5,7 @@ ghost use Rattle.bng_lns.specs.Timed.{stopped};
 ghost use Rattle.bng_steps.specs.declared.rules.Rules.{Rules as RulesOf};
 ghost use Rattle.bng_steps.specs.Deed.{tunnel_outs};
 ghost use Rattle.bng_steps.specs.Placed.{ArePlaced};
-ghost use Rattle.bng_steps.specs.Running.{whole, KeepSums};
+ghost use Rattle.bng_steps.specs.TermRows.{whole, KeepSums};
 ghost use Rattle.bng_steps.specs.State.{with_tunnels};
 ghost use Rattle.bng_steps.specs.Timed.{RemindedAt, RemindedInTurn, ToldInTurn, ToldOnce};
 

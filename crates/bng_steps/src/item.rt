@@ -5,18 +5,18 @@ ghost use Rattle.bng_base.specs.declared.item.Entry.{Entry as EntryOf};
 ghost use Rattle.bng_pppoe_wire.specs.View.{frame_of};
 ghost use Rattle.bng_forward.specs.Fates.{IsFrame};
 ghost use Rattle.bng_steps.specs.Changes.{IsAnswerOf};
-ghost use Rattle.bng_steps.specs.declared.changes.Answer.{Answer as AnswerOf};
+ghost use Rattle.bng_steps.specs.declared.changes.ChangeAnswer.{ChangeAnswer as AnswerOf};
 ghost use Rattle.bng_steps.specs.Doing.{DoesWith};
 ghost use Rattle.bng_steps.specs.Placed.{ArePlaced};
 ghost use Rattle.bng_steps.specs.Frames.{HearsAccess, HearsFrame};
 ghost use Rattle.bng_steps.specs.Hearing.{Does, outs_most};
 ghost use Rattle.bng_steps.specs.Protocol.{entry_with};
 ghost use Rattle.bng_base.specs.declared.address.Ip4.{Ip4 as Address};
-ghost use Rattle.bng_steps.specs.Running.{AreTied, KeepSums, MayBegin, SumsStay, tenures_in, whole};
+ghost use Rattle.bng_steps.specs.TermRows.{AreTied, KeepSums, MayBegin, SumsStay, tenures_in, whole};
 ghost use Rattle.bng_steps.specs.Step.{Step};
 ghost use Rattle.bng_steps.specs.Wished.{IsAnswered};
 
-use crate::changes::{Answer, hear_change};
+use crate::changes::{ChangeAnswer, hear_change};
 use crate::data::{hear_core, hear_data};
 use crate::discover::hear_discovery;
 use crate::frames::hear_control;
@@ -102,7 +102,7 @@ pub fn hear<S: Store>(
     incoming: &Incoming<'_>,
     claim: Claim,
     limited: bool,
-    answers: &mut Vec<Answer>,
+    answers: &mut Vec<ChangeAnswer>,
     outs: &mut Batch<OutRecord>,
 ) -> Fate
     requires moment { incoming.now.moment < 2 ^ 60 }

@@ -9,13 +9,13 @@ ghost use Rattle.bng_steps.specs.Datagrams.{HearsFor, HearsMessage, HearsTunnel,
 ghost use Rattle.bng_steps.specs.Doing.{DoesWith};
 ghost use Rattle.bng_steps.specs.Placed.{ArePlaced};
 ghost use Rattle.bng_steps.specs.Frames.{HearsData};
-ghost use Rattle.bng_steps.specs.Running.{tenures_in, whole, AreTied, KeepSums};
+ghost use Rattle.bng_steps.specs.TermRows.{tenures_in, whole, AreTied, KeepSums};
 ghost use Rattle.bng_steps.specs.State.{call_of};
 
 use crate::calls::hear_call;
 use crate::cutting::cut_if;
 use crate::data::pass_up;
-use crate::frames::{Control as Hearing, drive_at};
+use crate::frames::{Reception as Hearing, drive_at};
 use crate::in_turn::send_datagrams;
 use crate::incoming::Incoming;
 use crate::served::Served;
@@ -23,8 +23,8 @@ use crate::store::Store;
 use crate::terms::Terms;
 use bng_base::{Batch, DropCause, Fate, Frame, OutRecord, Peer, SessionNo, TunnelNo, TunnelStep};
 use bng_l2tp_wire::{Control, Data};
-use bng_lns::{Came, Taken, TunnelDatagram, carried, datagram_of};
-use bng_ppp::WholeInput;
+use bng_lns::{Came, MessageOutcome, TunnelDatagram, carried, datagram_of};
+use bng_ppp::Input;
 
 // Messages ----------------------------------------------------------------------------------------------------------------------
 
@@ -85,9 +85,9 @@ fn hear_message<S: Store>(
         moment: incoming.moment,
     };
     match served.take_message(incoming.rules, &came, message) {
-        Taken::Unknown => Fate::Dropped(DropCause::NoSession),
-        Taken::Passed => Fate::Consumed,
-        Taken::Step { number, step } => {
+        MessageOutcome::Unknown => Fate::Dropped(DropCause::NoSession),
+        MessageOutcome::Ignored => Fate::Consumed,
+        MessageOutcome::Step { number, step } => {
             take_step(served, terms, incoming, number, step, message, outs);
             Fate::Consumed
         }
@@ -136,7 +136,7 @@ fn hear_over<S: Store>(
         Hearing::Unknown => Fate::Dropped(DropCause::NoSession),
         Hearing::Ignored => Fate::Consumed,
         Hearing::Heard => {
-            let input = WholeInput::Frame(message.ppp);
+            let input = Input::Frame(message.ppp);
             let session = SessionNo(message.session);
             drive_at(served, terms, session, incoming, input, outs);
             Fate::Consumed

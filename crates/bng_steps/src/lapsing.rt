@@ -12,7 +12,7 @@ use crate::session::{Service, Session};
 use crate::store::Store;
 use crate::terms::Terms;
 use bng_base::{Batch, OutRecord};
-use bng_ppp::WholeInput;
+use bng_ppp::Input;
 
 // The link of a session without a term takes Close, if it has one. Answers how many questions were asked then.
 fn close_link<S: Store>(
@@ -38,8 +38,8 @@ fn close_link<S: Store>(
 {
     match &session.service {
         Service::Provisioned { .. } => asked,
-        Service::Discovered(_) => {
-            let (asked, _) = drive(served, session, asked, incoming, WholeInput::Close, outs);
+        Service::Linked(_) => {
+            let (asked, _) = drive(served, session, asked, incoming, Input::Close, outs);
             asked
         }
     }

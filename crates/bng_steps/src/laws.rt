@@ -22,7 +22,7 @@ ghost use Rattle.bng_steps.specs.Datagrams.{heard_by};
 ghost use Rattle.bng_steps.specs.Deed.{Deed, is_forwarded};
 ghost use Rattle.bng_steps.specs.Protocol.{ShardState, Handled, opened, pppoe, packet_octets, sessions_of};
 ghost use Rattle.bng_radius_wire.specs.Attributes.{Field};
-ghost use Rattle.bng_steps.specs.Changes.{found_by, is_asked_for};
+ghost use Rattle.bng_steps.specs.Changes.{found_by, is_named_by};
 ghost use Rattle.bng_steps.specs.Claiming.{IsAskedBy};
 ghost use Rattle.bng_steps.specs.Interims.{AwaitsInterims, Reports};
 ghost use Rattle.bng_steps.specs.Lasting.{AreHoused, AreTenures, BeginsByClaims, CircuitsLast};
@@ -104,7 +104,7 @@ pub fn interims_are_awaited()
 /// A live term is found by a request for a change that names its values: where no term outlasts its session, a request is answered that no
 /// live term has all the values that it names (RFC 5176 section 3.5) only where none has.
 pub fn requests_find_live_terms()
-    ensures { (r : Rules) (s : State) (fs : List Field) (t : Tenure) → IsSound s → AreHoused s → find (is_asked_for r fs) s.terms ≡ Some t → IsSome (found_by r s fs) }
+    ensures { (r : Rules) (s : State) (fs : List Field) (t : Tenure) → IsSound s → AreHoused s → find (is_named_by r fs) s.terms ≡ Some t → IsSome (found_by r s fs) }
 {}
 
 /// A peer is told that it is accepted, by Success of CHAP (RFC 1994 section 4.2) or Authenticate-Ack of PAP (RFC 1334 section 2.2.2),

@@ -54,7 +54,7 @@ mod whose;
 mod wish;
 mod young;
 
-pub use crate::changes::Answer;
+pub use crate::changes::ChangeAnswer;
 pub use crate::data::hear_core;
 pub use crate::destination::{Destination, destination_of};
 pub use crate::error::ShardError;

@@ -1,13 +1,13 @@
 //! What the terms of a shard that have no Stop yet carried, in all.
 ghost use Rattle.std.specs.Prelude.{◌≡◌, ◌<◌, ◌^◌};
 ghost use Rattle.bng_steps.specs.Live.{live_in};
-ghost use Rattle.bng_steps.specs.Running.{rows_in};
+ghost use Rattle.bng_steps.specs.TermRows.{rows_in};
 
-use crate::terms::Running;
+use crate::terms::TermRow;
 use bng_base::Book;
 
 /// The octets and the packets of all these rows together, in each direction.
-pub fn live(rows: &[Running]) -> Book
+pub fn live(rows: &[TermRow]) -> Book
     requires input { (live_in (rows_in rows.now)).input < 2 ^ 64 }
     requires output { (live_in (rows_in rows.now)).output < 2 ^ 64 }
     requires input_packets { (live_in (rows_in rows.now)).input_packets < 2 ^ 64 }

@@ -17,7 +17,7 @@ use crate::rules::Rules;
 use crate::served::Served;
 use crate::session::Session;
 use crate::store::Store;
-use crate::way::{Called, Way};
+use crate::way::{TunnelCall, Way};
 use bng_base::{AccessPort, At, Batch, Frame, Mac, OutRecord, SessionNo};
 use bng_discovery::{PortRules, terminate};
 
@@ -71,7 +71,7 @@ pub fn send_padt(
 #[inline(never)]
 fn hang_up<S: Store>(
     served: &mut Served<S>,
-    called: &mut Called,
+    called: &mut TunnelCall,
     incoming: &Incoming<'_>,
     outs: &mut Batch<OutRecord>,
 )

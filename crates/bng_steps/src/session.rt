@@ -2,20 +2,20 @@
 ghost use Rattle.std.specs.Prelude.{◌≡◌, ◌<◌, ◌^◌, Some, length, option_map, IfNone, OnSome};
 ghost use Rattle.bng_steps.specs.Calls.{linked_anew};
 ghost use Rattle.bng_steps.specs.Discovery.{is_repeated, same_option, IsNewLink};
-ghost use Rattle.bng_ppp.specs.PppRelation.{PppSaid, PppSteps};
-ghost use Rattle.bng_ppp.specs.PppState.{PppState};
+ghost use Rattle.bng_ppp.specs.LinkRelation.{LinkSaid, LinkSteps};
+ghost use Rattle.bng_ppp.specs.LinkState.{LinkState};
 ghost use Rattle.bng_ppp.specs.Said.{payloads};
 ghost use Rattle.bng_steps.specs.Link.{asked_after, ended, with_link};
 ghost use Rattle.std.specs.Option.{option_copied};
 ghost use Rattle.bng_steps.specs.Questions.{open_of};
 ghost use Rattle.bng_steps.specs.Driven.{LastsOver};
-ghost use Rattle.bng_steps.specs.Made.{Made as DiscoveredMade};
+ghost use Rattle.bng_steps.specs.LinkService.{LinkService as ServiceSeen};
 ghost use Rattle.bng_steps.specs.Serving.{KeepsLease};
 ghost use Rattle.bng_steps.specs.State.{circuit_of, made_one, mru_in, passes_in};
 ghost use Rattle.bng_steps.specs.Metered.{view_of};
 ghost use Rattle.bng_steps.specs.Tenures.{kept_lease};
 ghost use Rattle.bng_steps.specs.Timers.{deadline_of, lease_deadline};
-ghost use Rattle.bng_ppp.specs.LinkRelation.{earliest as first_of};
+ghost use Rattle.bng_ppp.specs.LcpRelation.{earliest as first_of};
 ghost use Rattle.bng_steps.specs.Passing.{cause_at, lapsed, looked};
 ghost use Rattle.bng_steps.specs.Indexed.{address_of, term_of};
 
@@ -25,7 +25,7 @@ use arrayvec::ArrayVec;
 use bng_auth::Credentials;
 use bng_base::{Circuit, Ip4, Mac, SessionNo, TermId};
 use bng_forward::TermView;
-use bng_ppp::{LinkKind, LinkRules, WholeInput, WholeLink, WholeSteps};
+use bng_ppp::{LinkKind, LinkRules, Input, Link, Steps};
 use bng_sessions::Slotted;
 use bng_term::Lifetime;
 use std::marker::Model;
@@ -52,7 +52,7 @@ pub struct Question {
 
 impl Model for Question {
     ghost use Rattle.bng_ppp.specs.Claims.{claim_of};
-    ghost use Rattle.bng_steps.specs.Made.{Question as Seen};
+    ghost use Rattle.bng_steps.specs.LinkService.{Question as Seen};
 
     ghost Value = { Seen };
 
@@ -62,16 +62,16 @@ impl Model for Question {
 /// A session that discovery made (RFC 2516) or a call (RFC 2661): the Host-Uniq with which it was asked for, its link, what the link
 /// asked last, as long as the peer's authentication goes on, and whether it has ended. A call has no Host-Uniq.
 #[derive(Drop)]
-pub struct Made {
+pub struct LinkService {
     pub host_uniq: Option<ArrayVec<u8, 64>>,
-    pub link: WholeLink,
+    pub link: Link,
     pub question: Option<Question>,
     pub ended: bool,
 }
 
-impl Model for Made {
+impl Model for LinkService {
     ghost use Rattle.std.specs.Prelude.{option_map};
-    ghost use Rattle.bng_steps.specs.Made.{Made as Seen};
+    ghost use Rattle.bng_steps.specs.LinkService.{LinkService as Seen};
 
     ghost Value = { Seen };
 
@@ -82,7 +82,7 @@ impl Model for Made {
 #[derive(Drop)]
 pub enum Service {
     Provisioned { ended: bool },
-    Discovered(Made),
+    Linked(LinkService),
 }
 
 /// A session, on the way of its frames and with its number, with the lease of its live term, if it has one.
@@ -126,12 +126,12 @@ impl Slotted for Session {
                 }
                 lease_deadline(self.lease)
             }
-            Service::Discovered(made) => made.deadline(self.lease),
+            Service::Linked(made) => made.deadline(self.lease),
         }
     }
 }
 
-impl Made {
+impl LinkService {
     ghost use Rattle.std.specs.Option.{option_copied};
     ghost use Rattle.bng_ppp.specs.Phases.{KeepsPhases, is_begun};
     ghost use Rattle.bng_steps.specs.Calls.{linked};
@@ -141,13 +141,13 @@ impl Made {
     ghost use Rattle.bng_steps.specs.Timers.{made_deadline};
 
     /// What serves a call, whose link was told nothing.
-    pub fn linked(random: &[u8; 16], now: u64) -> Made
-        ensures linked { (link : PppState) × IsNewLink 1500 random.now link × (result ≡ linked link) }
+    pub fn linked(random: &[u8; 16], now: u64) -> LinkService
+        ensures linked { (link : LinkState) × IsNewLink 1500 random.now link × (result ≡ linked link) }
         ensures phases { KeepsPhases result.link }
     {
-        Made {
+        LinkService {
             host_uniq: None,
-            link: WholeLink::new(LinkKind::L2tp, random, now),
+            link: Link::new(LinkKind::L2tp, random, now),
             question: None,
             ended: false,
         }
@@ -155,7 +155,7 @@ impl Made {
 
     // Its question whose verdict is not there yet.
     fn open_question(&self) -> Option<&Question>
-        ensures { option_copied result ≡ open_in (Service.Discovered self.now) }
+        ensures { option_copied result ≡ open_in (Service.Linked self.now) }
     {
         if self.ended || !self.link.asks() {
             return None;
@@ -219,7 +219,7 @@ impl Service {
     {
         match self {
             Service::Provisioned { .. } => true,
-            Service::Discovered(made) => made.link.passes(),
+            Service::Linked(made) => made.link.passes(),
         }
     }
 
@@ -229,7 +229,7 @@ impl Service {
     {
         match self {
             Service::Provisioned { .. } => PPPOE_MRU,
-            Service::Discovered(made) => made.link.mru(),
+            Service::Linked(made) => made.link.mru(),
         }
     }
 }
@@ -259,7 +259,7 @@ impl Session {
         self.is_on(port, mac)
             && match &self.service {
                 Service::Provisioned { .. } => false,
-                Service::Discovered(made) => {
+                Service::Linked(made) => {
                     is_same(&made.host_uniq, asked) && !made.ended && !made.link.was_opened()
                 }
             }
@@ -271,7 +271,7 @@ impl Session {
     {
         match &mut self.service {
             Service::Provisioned { ended } => *ended = true,
-            Service::Discovered(made) => made.ended = true,
+            Service::Linked(made) => made.ended = true,
         }
         self.lapse();
     }
@@ -282,7 +282,7 @@ impl Session {
     {
         match &self.service {
             Service::Provisioned { .. } => None,
-            Service::Discovered(made) => made.open_question(),
+            Service::Linked(made) => made.open_question(),
         }
     }
 
@@ -292,10 +292,10 @@ impl Session {
         &mut self,
         asked: u64,
         rules: &LinkRules,
-        input: WholeInput<'_>,
+        input: Input<'_>,
         now: u64,
         random: &[u8; 16],
-        steps: &mut WholeSteps,
+        steps: &mut Steps,
     ) -> u64
         requires moment { now < 2 ^ 60 }
         requires auth { 0 < length rules.now.auth.items }
@@ -303,11 +303,11 @@ impl Session {
         requires leased { KeepsLease self.old.service self.old.lease }
         requires lasts { LastsOver input self.old.lease }
         ensures leased { KeepsLease self.new.service self.new.lease }
-        ensures steps { (made : DiscoveredMade) × (says : PppSaid) × (link : PppState) × (self.old.service ≡ Service.Discovered made)
-            × PppSteps rules.now input.entry now random.now made.link says link × (self.new ≡ with_link self.old made asked says link) × (result ≡ asked_after asked says.asked)
+        ensures steps { (made : ServiceSeen) × (says : LinkSaid) × (link : LinkState) × (self.old.service ≡ Service.Linked made)
+            × LinkSteps rules.now input.entry now random.now made.link says link × (self.new ≡ with_link self.old made asked says link) × (result ≡ asked_after asked says.asked)
             × (says.outs ≡ payloads steps.new.layer.outs.items) × (says.finished ≡ steps.new.finished) × (says.term_ended ≡ steps.new.term_ended) }
     {
-        let Service::Discovered(made) = &mut self.service else {
+        let Service::Linked(made) = &mut self.service else {
             return asked;
         };
         made.link.step(rules, input, now, random, steps);
@@ -345,10 +345,10 @@ impl Session {
 
     /// Its link is made anew, for a call, and no term of it is live any longer.
     pub fn link_anew(&mut self, random: &[u8; 16], now: u64)
-        ensures anew { (link : PppState) × IsNewLink 1500 random.now link × (self.new ≡ linked_anew self.old link) }
+        ensures anew { (link : LinkState) × IsNewLink 1500 random.now link × (self.new ≡ linked_anew self.old link) }
         ensures leased { KeepsLease self.new.service self.new.lease }
     {
-        self.service = Service::Discovered(Made::linked(random, now));
+        self.service = Service::Linked(LinkService::linked(random, now));
         self.lapse();
     }
 

@@ -54,7 +54,7 @@ impl Session {
         self.way.is_port()
             && match &self.service {
                 Service::Provisioned { .. } => false,
-                Service::Discovered(made) => !made.ended && !made.link.was_opened(),
+                Service::Linked(made) => !made.ended && !made.link.was_opened(),
             }
     }
 
@@ -64,7 +64,7 @@ impl Session {
     {
         match &self.service {
             Service::Provisioned { .. } => false,
-            Service::Discovered(made) => !made.ended,
+            Service::Linked(made) => !made.ended,
         }
     }
 
@@ -74,7 +74,7 @@ impl Session {
     {
         match &self.service {
             Service::Provisioned { ended } => *ended,
-            Service::Discovered(made) => made.ended,
+            Service::Linked(made) => made.ended,
         }
     }
 }

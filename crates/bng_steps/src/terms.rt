@@ -9,12 +9,12 @@ ghost use Rattle.bng_engine.specs.Terms.{keys};
 ghost use Rattle.bng_engine.specs.Views.{new_row, row_keys};
 ghost use Rattle.bng_engine.specs.Quantities.{empty_book};
 ghost use Rattle.bng_radius_wire.specs.Grammar.{whole as packet_of};
-ghost use Rattle.bng_steps.specs.Changes.{asked, is_asked_for};
+ghost use Rattle.bng_steps.specs.Changes.{named_term, is_named_by};
 ghost use Rattle.bng_steps.specs.Interims.{row_told};
 ghost use Rattle.bng_steps.specs.Live.{live_in};
 ghost use Rattle.bng_steps.specs.Opening.{in_order, tenure_from, tenures_after};
 ghost use Rattle.bng_steps.specs.Protocol.{key_of, row_at, term_in, SaysOf};
-ghost use Rattle.bng_steps.specs.Running.{closed_rows, has_ended, row_recast_by, rows_in, tenure_in, tenures_in, AreRising, TakesFirst};
+ghost use Rattle.bng_steps.specs.TermRows.{closed_rows, has_ended, row_recast_by, rows_in, tenure_in, tenures_in, AreRising, TakesFirst};
 ghost use Rattle.bng_steps.specs.Sums.{traffic_in, AreCovered, RowsAreLow};
 ghost use Rattle.bng_steps.specs.Tenures.{has_kept};
 
@@ -25,7 +25,7 @@ use crate::session::Lease;
 use crate::sums::{Traffic, take_off};
 use crate::term::{LiveTerm, ReportedTerm};
 use crate::term_rows::{
-    asked_for, carried_by, carry, close, copied, copy_of, keep, recast, take_first, term_at,
+    named_by, carried_by, carry, close, copied, copy_of, keep, recast, take_first, term_at,
     told_of,
 };
 use arrayvec::ArrayVec;
@@ -39,7 +39,7 @@ use std::marker::Model;
 /// subscriber and towards it carried. The User-Name and the Class attributes of its records, the moment at which it began, and the
 /// cause of its end, once it has ended.
 #[derive(Drop)]
-pub struct Running {
+pub struct TermRow {
     pub term: TermId,
     pub circuit: Circuit,
     pub lease: Ip4,
@@ -53,7 +53,7 @@ pub struct Running {
 
 /// A term that was asked for: which it is, and the place of its profile, from 0.
 #[derive(Clone, Copy)]
-pub struct Asked {
+pub struct NamedTerm {
     pub term: TermId,
     pub profile: u8,
 }
@@ -62,15 +62,15 @@ pub struct Asked {
 /// the first have ended; and for how many more there is room.
 #[derive(Drop)]
 pub struct Terms {
-    rows: Vec<Running>,
-    news: Vec<Running>,
+    rows: Vec<TermRow>,
+    news: Vec<TermRow>,
     over: usize,
     room: usize,
 }
 
 impl Model for Terms {
     ghost use Rattle.std.specs.Prelude.{◌≡◌, ◌+◌, ◌≤◌, count_by, length, vec_capacity};
-    ghost use Rattle.bng_steps.specs.Running.{TermsView, AreRising, has_ended};
+    ghost use Rattle.bng_steps.specs.TermRows.{TermsView, AreRising, has_ended};
 
     ghost Value = { TermsView };
 
@@ -84,11 +84,11 @@ impl Model for Terms {
 const NUMBERS: u16 = 1022;
 
 // The row of the term of a circuit that begins.
-fn begun(circuit: &Static, serial: u64, now: u64) -> Running
+fn begun(circuit: &Static, serial: u64, now: u64) -> TermRow
     ensures tenure { tenure_in result ≡ tenure_from now circuit.now serial }
     ensures carried { result.carried ≡ empty_book }
 {
-    Running {
+    TermRow {
         term: TermId {
             session: circuit.session,
             serial,
@@ -114,7 +114,7 @@ fn rows_of(
     number: u16,
     circuits: &[Static],
     now: u64,
-) -> Result<Vec<Running>, AllocError>
+) -> Result<Vec<TermRow>, AllocError>
     requires number { number < 64 }
     requires sessions { AllPairs (λ a b. a.session ≢ b.session) circuits.now }
     ensures tenures { IfOk result (λ r. tenures_in r.items ≡ tenures_after now 0 (in_order number circuits.now)) }
@@ -175,7 +175,7 @@ impl Terms {
     }
 
     /// A term begins, whose number is above those of all terms that are there.
-    pub fn begin(&mut self, row: Running)
+    pub fn begin(&mut self, row: TermRow)
         requires room { 0 < self.old.room }
         requires above { All (λ r. r.term.serial < row.term.serial) self.old.rows }
         requires above_news { All (λ r. r.term.serial < row.term.serial) self.old.news }
@@ -212,10 +212,10 @@ impl Terms {
     }
 
     /// The live term that has all the values which a request names; the one that began first, where there are some.
-    pub fn asked_for(&self, rules: &Rules, request: &Radius<'_>) -> Option<Asked>
-        ensures { result ≡ option_map asked (find (is_asked_for rules.now (packet_of request.now).attributes) (tenures_in self.now.rows)) }
+    pub fn named_by(&self, rules: &Rules, request: &Radius<'_>) -> Option<NamedTerm>
+        ensures { result ≡ option_map named_term (find (is_named_by rules.now (packet_of request.now).attributes) (tenures_in self.now.rows)) }
     {
-        asked_for(&self.rows, rules, request)
+        named_by(&self.rows, rules, request)
     }
 
     /// Each has a number above those before it.
@@ -234,7 +234,7 @@ impl Terms {
 
     /// Takes out the first in order of the terms that have ended: the lower session number comes first, and of one session the earlier
     /// term. None exactly where none has ended.
-    pub fn take_first_over(&mut self) -> Option<Running>
+    pub fn take_first_over(&mut self) -> Option<TermRow>
         ensures one { IfSome result (λ r. TakesFirst true self.old.rows r self.new.rows × (self.new ≡ record self.old { rows = self.new.rows })) }
         ensures none { IfNone result ((filter has_ended self.old.rows ≡ []) × (self.new ≡ self.old)) }
     {
@@ -263,7 +263,7 @@ impl Terms {
     }
 
     /// Takes out the first in order of those of whose beginning no Start was formed yet; none exactly where there is none.
-    pub fn take_first_new(&mut self) -> Option<Running>
+    pub fn take_first_new(&mut self) -> Option<TermRow>
         ensures one { IfSome result (λ r. TakesFirst false self.old.news r self.new.news × (self.new ≡ record self.old { news = self.new.news })) }
         ensures none { IfNone result ((self.old.news ≡ []) × (self.new ≡ self.old)) }
     {

@@ -1,14 +1,14 @@
 //! Ticks and Ends.
 ghost use Rattle.std.specs.Prelude.{◌≡◌, ◌+◌, ◌<◌, ◌≤◌, ◌^◌, ◌++◌, ℕ, List, Option as Maybe, IsSome, length};
-ghost use Rattle.bng_ppp.specs.PppRelation.{PppSteps};
-ghost use Rattle.bng_ppp.specs.declared.whole_input.WholeInput.TheVariants.{Timer};
+ghost use Rattle.bng_ppp.specs.LinkRelation.{LinkSteps};
+ghost use Rattle.bng_ppp.specs.declared.input.Input.TheVariants.{Timer};
 ghost use Rattle.bng_base.specs.declared.item.OutRecord.{OutRecord as Out};
 ghost use Rattle.bng_steps.specs.Placed.{ArePlaced, IsPlaced};
 ghost use Rattle.bng_steps.specs.Driven.{Driven};
 ghost use Rattle.bng_steps.specs.Passing.{cause_at};
 ghost use Rattle.bng_steps.specs.Serving.{KeepsLease};
 ghost use Rattle.bng_steps.specs.Timed.{LookedOnce, RemindedOnce, TickedOnce, EndedOnce, Ticked, Ended, Stopped, TickDone, EndDone};
-ghost use Rattle.bng_steps.specs.Running.{closed_rows, whole, KeepSums};
+ghost use Rattle.bng_steps.specs.TermRows.{closed_rows, whole, KeepSums};
 ghost use Rattle.bng_steps.specs.State.{beside_at, made_one, with_tunnels};
 ghost use Rattle.bng_steps.specs.Timers.{TellsEnd, TellsOn, at_once};
 
@@ -24,7 +24,7 @@ use crate::store::Store;
 use crate::terms::Terms;
 use crate::way::Way;
 use bng_base::{At, Batch, OutRecord};
-use bng_ppp::WholeInput;
+use bng_ppp::Input;
 
 /// The cause of an end by the gateway's own stop (RFC 2866 section 5.10, NAS Request).
 const NAS_REQUEST: u8 = 10;
@@ -48,7 +48,7 @@ fn remind<S: Store>(
     requires made { made_one session.old.service ≡ 1 }
     requires leased { KeepsLease session.old.service session.old.lease }
     requires room { length outs.old.items + 5 ≤ outs.old.room }
-    ensures driven { (cause : Maybe ℕ) × Driven incoming.now.rules.now incoming.now.at (PppSteps incoming.now.rules.now.link Timer incoming.now.moment incoming.now.item.now.random) (beside_at incoming.now.moment asked served.old.tunnels) session.old cause session.new (beside_at incoming.now.moment result served.new.tunnels) outs.old.items outs.new.items
+    ensures driven { (cause : Maybe ℕ) × Driven incoming.now.rules.now incoming.now.at (LinkSteps incoming.now.rules.now.link Timer incoming.now.moment incoming.now.item.now.random) (beside_at incoming.now.moment asked served.old.tunnels) session.old cause session.new (beside_at incoming.now.moment result served.new.tunnels) outs.old.items outs.new.items
         × (terms.new ≡ record terms.old { rows = closed_rows session.old.lease cause terms.old.rows }) }
     ensures others { served.new ≡ with_tunnels served.old served.new.tunnels }
     ensures leased { KeepsLease session.new.service session.new.lease }
@@ -58,7 +58,7 @@ fn remind<S: Store>(
     ensures fewer { IsSome session.new.lease → length outs.new.items ≤ length outs.old.items + 2 }
 {
     let lease = session.lease();
-    let (asked, cause) = drive(served, session, asked, incoming, WholeInput::Timer, outs);
+    let (asked, cause) = drive(served, session, asked, incoming, Input::Timer, outs);
     terms.close(lease, cause);
     asked
 }
@@ -88,7 +88,7 @@ fn remind_link<S: Store>(
 {
     match &session.service {
         Service::Provisioned { .. } => asked,
-        Service::Discovered(_) => remind(served, session, terms, asked, incoming, outs),
+        Service::Linked(_) => remind(served, session, terms, asked, incoming, outs),
     }
 }
 
@@ -180,7 +180,7 @@ fn tell_end(rules: &Rules, at: At, session: &Session, outs: &mut Batch<OutRecord
 {
     match &session.service {
         Service::Provisioned { .. } => {}
-        Service::Discovered(_) => tell_on_way(rules, at, session, outs),
+        Service::Linked(_) => tell_on_way(rules, at, session, outs),
     }
 }
 

@@ -18,16 +18,16 @@ use crate::rules::Rules;
 use crate::served::Served;
 use crate::session::earlier;
 use crate::store::Store;
-use crate::way::Called;
+use crate::way::TunnelCall;
 use bng_base::{Peer, SessionNo, TunnelNo, TunnelStep};
 use bng_l2tp_call::Call;
 use bng_l2tp_wire::Control;
-use bng_lns::{Came, Taken, Told};
+use bng_lns::{Came, MessageOutcome, TunnelOutcome};
 
 impl<S: Store> Served<S> {
     /// A control message came: the tunnel that it is for takes it, or it asks for a tunnel.
     #[inline(never)]
-    pub fn take_message(&mut self, rules: &Rules, came: &Came, message: &Control<'_>) -> Taken
+    pub fn take_message(&mut self, rules: &Rules, came: &Came, message: &Control<'_>) -> MessageOutcome
         ensures answer { answer_of result ≡ (heard_of rules.now.link.name.items rules.now.lacs self.old.tunnels came.now (control_of message.now)).answer }
         ensures after { self.new ≡ with_tunnels self.old (heard_of rules.now.link.name.items rules.now.lacs self.old.tunnels came.now (control_of message.now)).after }
         ensures taken { IsTaken (answer_of result) self.new.tunnels }
@@ -38,7 +38,7 @@ impl<S: Store> Served<S> {
 
     /// A call of the tunnel with this number, whose peer this is, that has taken no message. It has this session number, 0 where none is
     /// free for it.
-    pub fn new_call(&self, number: TunnelNo, peer: Peer, session: SessionNo) -> Called
+    pub fn new_call(&self, number: TunnelNo, peer: Peer, session: SessionNo) -> TunnelCall
         requires { IsSome (tunnel_at self.now.tunnels number.0) }
         ensures { (t : TunnelState) → tunnel_at self.now.tunnels number.0 ≡ Some t
             → result ≡ record { peer = peer; tunnel = number; far = unwrap_or t.peer_number 0; call = fresh t.secret session.0 } }
@@ -48,7 +48,7 @@ impl<S: Store> Served<S> {
         };
         let far = tunnel.peer_number().unwrap_or(0);
         let call = Call::new(tunnel.secret(), session);
-        Called {
+        TunnelCall {
             peer,
             tunnel: number,
             far,
@@ -106,7 +106,7 @@ impl<S: Store> Served<S> {
 
     /// The timers of the tunnel at this place, from 0, do what they ask for at that moment, in milliseconds.
     #[inline(never)]
-    pub fn remind_tunnel(&mut self, place: usize, now: u64) -> Option<Told>
+    pub fn remind_tunnel(&mut self, place: usize, now: u64) -> Option<TunnelOutcome>
         ensures told { option_map telling_of result ≡ (reminded now self.old.tunnels place).told }
         ensures after { self.new ≡ with_tunnels self.old (reminded now self.old.tunnels place).after }
         ensures few { IfSome result (λ t. length (payloads t.step.outs.items) ≤ 8) }
@@ -117,7 +117,7 @@ impl<S: Store> Served<S> {
 
     /// The tunnel at this place, from 0, tells its peer that the gateway shuts down.
     #[inline(never)]
-    pub fn stop_tunnel(&mut self, place: usize, now: u64) -> Option<Told>
+    pub fn stop_tunnel(&mut self, place: usize, now: u64) -> Option<TunnelOutcome>
         ensures told { option_map telling_of result ≡ (stopped now self.old.tunnels place).told }
         ensures after { self.new ≡ with_tunnels self.old (stopped now self.old.tunnels place).after }
         ensures one { IfSome result (λ t. length (payloads t.step.outs.items) ≤ 1) }

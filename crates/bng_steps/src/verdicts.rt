@@ -9,12 +9,12 @@ ghost use Rattle.bng_steps.specs.Placed.{ArePlaced};
 ghost use Rattle.bng_steps.specs.Hearing.{Does};
 ghost use Rattle.bng_steps.specs.Limited.{limits_of};
 ghost use Rattle.bng_steps.specs.Link.{IsToldVerdict};
-ghost use Rattle.bng_steps.specs.Made.{Question as Asked};
+ghost use Rattle.bng_steps.specs.LinkService.{Question as Asked};
 ghost use Rattle.bng_steps.specs.Metered.{meters_of};
 ghost use Rattle.bng_steps.specs.Passing.{place_in};
 ghost use Rattle.bng_steps.specs.Protocol.{entry_with};
 ghost use Rattle.bng_steps.specs.Questions.{open_of};
-ghost use Rattle.bng_steps.specs.Running.{tenures_in, whole, MayBegin, SumsStay};
+ghost use Rattle.bng_steps.specs.TermRows.{tenures_in, whole, MayBegin, SumsStay};
 ghost use Rattle.bng_steps.specs.State.{beside_at, Beside};
 ghost use Rattle.bng_steps.specs.Verdicts.{next_lease, next_term, settled_by, HearsVerdict};
 ghost use Rattle.bng_steps.specs.Wished.{IsAnswered};
@@ -33,12 +33,12 @@ use crate::served::Served;
 use crate::session::{Lease, Session};
 use crate::store::Store;
 use crate::term_rows::copied;
-use crate::terms::{Running, Terms};
+use crate::terms::{TermRow, Terms};
 use crate::wish::pool_for;
 use arrayvec::ArrayVec;
 use bng_base::{Batch, Book, Claim, Fate, Ip4, NamedRange, OutRecord, SessionNo, TermId};
 use bng_grant::{Grant, grant_of};
-use bng_ppp::WholeInput;
+use bng_ppp::Input;
 use bng_term::{Lifetime, Limits};
 use bng_verdict::verdict_of;
 use std::marker::Model;
@@ -234,7 +234,7 @@ fn begin_term<S: Store>(
         profile: plan.profile,
         life: Lifetime::new(limits, now),
     });
-    terms.begin(Running {
+    terms.begin(TermRow {
         term: TermId {
             session: session.number,
             serial,
@@ -283,7 +283,7 @@ fn settle_question<S: Store>(
         limits,
         plan,
     } = told;
-    let input = WholeInput::Verdict { yes, lease, text };
+    let input = Input::Verdict { yes, lease, text };
     let asked = served.asked();
     let (asked, _) = drive(served, &mut session, asked, incoming, input, outs);
     served.count_asked(asked);

@@ -8,7 +8,7 @@ use bng_l2tp_call::Call;
 
 /// A call of a tunnel (RFC 2661): the tunnel's peer and number, the peer's own number for the tunnel, and how far the call has come.
 #[derive(Drop)]
-pub struct Called {
+pub struct TunnelCall {
     pub peer: Peer,
     pub tunnel: TunnelNo,
     pub far: u16,
@@ -19,10 +19,10 @@ pub struct Called {
 #[derive(Drop)]
 pub enum Way {
     Port { port: u8, mac: Mac },
-    Call(Called),
+    Call(TunnelCall),
 }
 
-impl Called {
+impl TunnelCall {
     ghost use Rattle.bng_l2tp_call.specs.Steps.{to_peer};
 
     /// The peer's own number for the call, 0 where it is not known.

@@ -12,7 +12,7 @@ use Rattle.bng_sessions.specs.Listed.{values}
 use Rattle.bng_sessions.proofs.Entries.{Inserted, Removed}
 use Rattle.bng_steps.specs.declared.session.Lease.{Lease}
 use Rattle.bng_steps.specs.declared.session.Service.{Service}
-use Rattle.bng_steps.specs.declared.session.Service.TheVariants.{Provisioned, Discovered}
+use Rattle.bng_steps.specs.declared.session.Service.TheVariants.{Provisioned, Linked}
 use Rattle.bng_steps.specs.declared.session.Session.{Session}
 use Rattle.bng_steps_tests.specs.Plain.{seen}
 use Rattle.bng_steps.specs.Serving.{AreOfShard, KeepsLease}
@@ -75,4 +75,4 @@ few shard es sorted own =
 -- a lease in the place of another
 pub leased_again : (s : Service) (l k : Lease) → KeepsLease s (Some l) → KeepsLease s (Some k)
 leased_again (Provisioned over) l k h = tt
-leased_again (Discovered m) l k h = (h.0, λ some. h.1 refl)
+leased_again (Linked m) l k h = (h.0, λ some. h.1 refl)

@@ -5,14 +5,14 @@ ghost use Rattle.bng_base.specs.declared.item.Entry.{Entry as EntryOf};
 ghost use Rattle.bng_pppoe_wire.specs.View.{frame_of};
 ghost use Rattle.bng_forward.specs.Fates.{IsFrame};
 ghost use Rattle.bng_steps.specs.Changes.{IsAnswerOf};
-ghost use Rattle.bng_steps.specs.declared.changes.Answer.{Answer as AnswerOf};
+ghost use Rattle.bng_steps.specs.declared.changes.ChangeAnswer.{ChangeAnswer as AnswerOf};
 ghost use Rattle.bng_steps.specs.Doing.{DoesWith};
 ghost use Rattle.bng_steps.specs.Placed.{ArePlaced};
 ghost use Rattle.bng_steps.specs.Frames.{HearsAccess, HearsFrame};
 ghost use Rattle.bng_steps.specs.Hearing.{Does, outs_most};
 ghost use Rattle.bng_steps.specs.Protocol.{entry_with};
 ghost use Rattle.bng_base.specs.declared.address.Ip4.{Ip4 as Address};
-ghost use Rattle.bng_steps.specs.Running.{AreTied, KeepSums, MayBegin, SumsStay, tenures_in, whole};
+ghost use Rattle.bng_steps.specs.TermRows.{AreTied, KeepSums, MayBegin, SumsStay, tenures_in, whole};
 ghost use Rattle.bng_steps.specs.Step.{Step};
 ghost use Rattle.bng_steps.specs.Wished.{IsAnswered};
 ghost use Rattle.std.specs.Prelude.{false, None as Nothing};
@@ -23,7 +23,7 @@ ghost use Rattle.bng_steps.specs.State.{with_session};
 
 use crate::plain::Plain;
 use bng_base::{Batch, Claim, Fate, OutRecord};
-use bng_steps::{Answer, Incoming, Served, Session, Terms, hear, hear_core};
+use bng_steps::{ChangeAnswer, Incoming, Served, Session, Terms, hear, hear_core};
 
 /// Puts a session at a number that is not used, whoever has its address.
 pub(crate) fn put_plainly(served: &mut Served<Plain>, session: Session)
@@ -61,7 +61,7 @@ pub(crate) fn hear_plainly(
     incoming: &Incoming<'_>,
     claim: Claim,
     limited: bool,
-    answers: &mut Vec<Answer>,
+    answers: &mut Vec<ChangeAnswer>,
     outs: &mut Batch<OutRecord>,
 ) -> Fate
     requires moment { incoming.now.moment < 2 ^ 60 }

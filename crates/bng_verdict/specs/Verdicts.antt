@@ -6,14 +6,14 @@ use Rattle.bng_radius_wire.specs.AttributeTypes as types
 use Rattle.bng_radius_wire.specs.Codes.{access_accept, access_reject, access_challenge}
 use Rattle.bng_radius_wire.specs.Attributes.{Field}
 use Rattle.bng_radius_wire.specs.Grammar.{Packet, IsRadius}
-use Rattle.bng_verdict.specs.declared.verdict.Verdict.{Verdict}
+use Rattle.bng_verdict.specs.declared.verdict.AccessVerdict.{AccessVerdict}
 
 -- whether the peer is accepted, and the text that tells it so
 pub record Saying : Type 0 where
   pub yes : Bool
   pub text : List ℕ
 
-abbrev pub said : Verdict → Saying
+abbrev pub said : AccessVerdict → Saying
 said v = record { yes = v.yes; text = v.text.items }
 
 -- of a server that was silent to the last

@@ -11,4 +11,4 @@ mod verdict;
 
 pub use crate::law::{verdicts_are_one, yes_is_an_accept};
 pub use crate::question::{AuthAsk, QuestionNo};
-pub use crate::verdict::{Verdict, verdict_of};
+pub use crate::verdict::{AccessVerdict, verdict_of};

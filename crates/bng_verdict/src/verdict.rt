@@ -12,7 +12,7 @@ use bng_radius_wire::{Radius, read};
 
 /// What was found of a peer: whether it is accepted, and the text of the reply that tells it so.
 #[derive(Drop)]
-pub struct Verdict {
+pub struct AccessVerdict {
     pub yes: bool,
     pub text: ArrayVec<u8, 253>,
 }
@@ -30,7 +30,7 @@ fn text_of(octets: &[u8]) -> ArrayVec<u8, 253>
 
 // What a packet says. An Access-Challenge is taken as an Access-Reject.
 #[tactic(auto, using(crate::proofs::Texts::text_fits))]
-fn verdict_in(packet: &Radius<'_>) -> Option<Verdict>
+fn verdict_in(packet: &Radius<'_>) -> Option<AccessVerdict>
     requires { AllByRecursion Fits (fields packet.now.attributes.items) }
     ensures { option_map said result ≡ verdict_in (whole packet.now) }
 {
@@ -40,7 +40,7 @@ fn verdict_in(packet: &Radius<'_>) -> Option<Verdict>
         ACCESS_REJECT | ACCESS_CHALLENGE => false,
         _ => return None,
     };
-    Some(Verdict {
+    Some(AccessVerdict {
         yes,
         text: text_of(reply_text(attributes)),
     })
@@ -51,11 +51,11 @@ fn verdict_in(packet: &Radius<'_>) -> Option<Verdict>
 /// another than Framed (RFC 2865 section 5.6); an Access-Reject and an Access-Challenge are a no. The text is the first
 /// Reply-Message, else empty. None where octets are there that begin with no packet of at most 64 attributes, or
 /// with a packet of another code.
-pub fn verdict_of(reply: &[u8]) -> Option<Verdict>
+pub fn verdict_of(reply: &[u8]) -> Option<AccessVerdict>
     ensures { IsVerdict reply.now (option_map said result) }
 {
     if reply.is_empty() {
-        return Some(Verdict {
+        return Some(AccessVerdict {
             yes: false,
             text: text_of(b"timeout"),
         });

@@ -7,7 +7,7 @@ ghost use Rattle.bng_vlan.specs.Waiting.{AreFew, Holds, Keeps, Gives, counted, f
 ghost use Rattle.bng_vlan.specs.Tags.{tags_of};
 
 use crate::map::{VlanEntry, VlanMap};
-use crate::queue::Queue;
+use crate::queue::FrameQueue;
 use crate::tag::{Tags, tags_of};
 use crate::tagging::width_of;
 use bng_base::{Frame, Peer, Role};
@@ -18,20 +18,20 @@ use std::alloc::{AllocError, Global};
 pub struct Backlog {
     peers: Vec<Peer>,
     entries: Vec<VlanEntry>,
-    queues: Vec<Queue>,
+    queues: Vec<FrameQueue>,
     strays: u64,
     pub ghost sound: { IsMap (record { peers = peers.items; entries = entries.items }) },
     pub ghost one_each: { length queues.items ≡ length entries.items },
     pub ghost few: { AreFew entries.items queues.items },
 }
 
-fn queues(alloc: Global, number: usize) -> Result<Vec<Queue>, AllocError>
+fn queues(alloc: Global, number: usize) -> Result<Vec<FrameQueue>, AllocError>
     ensures size { IfOk result (λ v. length v.items ≡ number) }
     ensures empty { IfOk result (λ v. (i : _) → frames_at i v.items ≡ []) }
 {
     let mut queues = Vec::new(alloc);
     for _ in 0..number {
-        queues.push(Queue::new(alloc)?)?;
+        queues.push(FrameQueue::new(alloc)?)?;
     }
     Ok(queues)
 }

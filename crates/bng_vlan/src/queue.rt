@@ -13,13 +13,13 @@ pub(crate) const PLACES: usize = 17;
 /// Frames, the oldest first, in places that are kept: a frame is written over what stood there. No call but `new` takes memory.
 /// A contract sees the list of their octets.
 #[derive(Drop)]
-pub struct Queue {
+pub struct FrameQueue {
     places: Vec<Frame>,
     oldest: usize,
     size: usize,
 }
 
-impl Model for Queue {
+impl Model for FrameQueue {
     ghost use Rattle.std.specs.Prelude.{◌≡◌, ◌<◌, ◌≤◌, List, ℕ, length};
     ghost use Rattle.bng_vlan.specs.Ring.{window, payloads, HaveHeadroom};
 
@@ -42,12 +42,12 @@ fn places(alloc: Global) -> Result<Vec<Frame>, AllocError>
     Ok(places)
 }
 
-impl Queue {
+impl FrameQueue {
     /// A queue without a frame.
-    pub(crate) fn new(alloc: Global) -> Result<Queue, AllocError>
+    pub(crate) fn new(alloc: Global) -> Result<FrameQueue, AllocError>
         ensures { IfOk result (λ q. q ≡ []) }
     {
-        Ok(Queue {
+        Ok(FrameQueue {
             places: places(alloc)?,
             oldest: 0,
             size: 0,

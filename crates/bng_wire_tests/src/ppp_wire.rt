@@ -4,7 +4,7 @@ use bng_base::Frame;
 use bng_ppp_wire::code::{CODE_REJECT, CONFIGURE_REJECT, CONFIGURE_REQUEST};
 use bng_ppp_wire::protocol::{IPCP, LCP};
 use bng_ppp_wire::{
-    Good, Judged, MadeOpt, Opt, Packet, Ppp, ReadError, Reply, Row, Width, Written, judge, made,
+    Good, Judged, MadeOpt, Opt, Packet, Ppp, ReadError, ConfigureReply, OptionRow, Width, Written, judge, made,
     options, read_reply, write_options,
 };
 use std::alloc::{AllocError, Global};
@@ -204,22 +204,22 @@ fn full_is_one_octet_more_than_fits(rt: HostRuntime) {
 
 // A number of two octets from 100 to 200, for which 150 is suggested, and one of four octets that is neither 0 nor 7, for
 // which 9 is suggested. The third is 5 alone, and must be named.
-const TABLE: [Row; 3] = [
-    Row {
+const TABLE: [OptionRow; 3] = [
+    OptionRow {
         kind: 1,
         width: Width::Two,
         good: Good::Within(100, 200),
         suggestion: 150,
         must_be_named: false,
     },
-    Row {
+    OptionRow {
         kind: 2,
         width: Width::Four,
         good: Good::Neither(0, 7),
         suggestion: 9,
         must_be_named: false,
     },
-    Row {
+    OptionRow {
         kind: 3,
         width: Width::Two,
         good: Good::Only(5),
@@ -346,10 +346,10 @@ fn asked() -> [MadeOpt; 3] {
 // What a packet is to the request.
 fn read_as_reply(alloc: Global, packet: &Packet<'_>) -> Result<String, AllocError> {
     match read_reply(7, &asked(), packet) {
-        Reply::Ack => String::from_str(alloc, "Ack"),
-        Reply::Nak(options) => listed(alloc, "Nak", options.as_slice()),
-        Reply::Reject(options) => listed(alloc, "Reject", options.as_slice()),
-        Reply::Other => String::from_str(alloc, "Other"),
+        ConfigureReply::Ack => String::from_str(alloc, "Ack"),
+        ConfigureReply::Nak(options) => listed(alloc, "Nak", options.as_slice()),
+        ConfigureReply::Reject(options) => listed(alloc, "Reject", options.as_slice()),
+        ConfigureReply::Other => String::from_str(alloc, "Other"),
     }
 }
 

@@ -4,7 +4,7 @@ use super::{
 };
 use crate::asserts::{assert_holds, assert_same};
 use bng_base::{Ip4, Peer, TunnelNo};
-use bng_lns::{Taken, Tunnels};
+use bng_lns::{MessageOutcome, Tunnels};
 use std::alloc::Global;
 use std::process::Abort;
 use std::test::Fail;
@@ -85,7 +85,7 @@ fn assert_unknown(
 fn assert_passed(rt: &impl Abort, alloc: Global, lns: &mut Tunnels) -> Result<(), Fail> {
     let none = "c802001400000000000100018008000000000003";
     let taken = hears_datagram(alloc, lns, &came(PLAIN, 0), none)?;
-    assert_holds(rt, matches!(taken, Taken::Passed));
+    assert_holds(rt, matches!(taken, MessageOutcome::Ignored));
     Ok(())
 }
 

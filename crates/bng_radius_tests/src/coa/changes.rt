@@ -1,7 +1,7 @@
 use crate::asserts::{assert_holds, assert_same};
 use arrayvec::ArrayVec;
 use bng_base::{Frame, Ip4, Peer};
-use bng_coa::{Admitted, ChangeVerdict, CoaDesk, CoaRules, Ignored};
+use bng_coa::{Admitted, ChangeVerdict, CoaDesk, CoaRules, IgnoredRequest};
 use std::alloc::Global;
 use std::process::Abort;
 use std::test::Fail;
@@ -136,7 +136,7 @@ fn cause(
     from: Peer,
     datagram: &str,
     wall: u64,
-) -> Result<Option<Ignored>, Fail> {
+) -> Result<Option<IgnoredRequest>, Fail> {
     let octets = hex::decode(alloc, datagram)?;
     assert_holds(rt, desk.in_hand() == 0);
     match desk.admit(from, octets.as_slice(), 0, wall) {
@@ -152,7 +152,7 @@ fn assert_ignored(
     desk: &mut CoaDesk,
     datagram: &str,
     wall: u64,
-    why: Ignored,
+    why: IgnoredRequest,
 ) -> Result<(), Fail> {
     assert_holds(
         rt,
@@ -182,19 +182,19 @@ fn take_in(rt: &impl Abort, desk: &mut CoaDesk, request: &[u8]) {
 }
 
 // Datagrams, each with the second at which it comes, and the cause for which it is passed over.
-const IGNORED: &[(&str, u64, Ignored)] = &[
-    ("2b00", 0, Ignored::Malformed),
-    (REPLY, 0, Ignored::Malformed),
-    (CHANGED, 0, Ignored::WrongDigest),
-    (STAMPED, 1_699_999_699, Ignored::Stale),
-    (STAMPED, 1_700_000_301, Ignored::Stale),
+const IGNORED: &[(&str, u64, IgnoredRequest)] = &[
+    ("2b00", 0, IgnoredRequest::Malformed),
+    (REPLY, 0, IgnoredRequest::Malformed),
+    (CHANGED, 0, IgnoredRequest::WrongDigest),
+    (STAMPED, 1_699_999_699, IgnoredRequest::Stale),
+    (STAMPED, 1_700_000_301, IgnoredRequest::Stale),
 ];
 
 #[test]
 fn passes_datagrams_over_for_their_first_cause(rt: HostRuntime) -> Result<(), Fail> {
     let mut desk = CoaDesk::open(rt.alloc(), &rules())?;
     let stranger = cause(&rt, rt.alloc(), &mut desk, STRANGER, "", 0)?;
-    assert_holds(&rt, stranger == Some(Ignored::Stranger));
+    assert_holds(&rt, stranger == Some(IgnoredRequest::Stranger));
     for (datagram, wall, why) in IGNORED {
         assert_ignored(&rt, rt.alloc(), &mut desk, datagram, *wall, *why)?;
     }

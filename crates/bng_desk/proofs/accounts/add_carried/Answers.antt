@@ -4,14 +4,14 @@ use Rattle.std.proofs.lemmas.List.{with_items_is}
 use Rattle.bng_engine.specs.Terms.{Stop}
 use Rattle.bng_engine.proofs.Walks.{Walked, same_at, walk_none, walk_more, walk_all}
 use Rattle.bng_steps.specs.Protocol.{stop_of}
-use Rattle.bng_desk.specs.declared.line.Line.{Line}
+use Rattle.bng_desk.specs.declared.line.CircuitLine.{CircuitLine}
 use Rattle.bng_desk.specs.Model.{line_after}
 use Rattle.bng_desk.specs.Taking.{TakesIn}
 use Rattle.bng_desk.proofs.Lines.{IsAfter, all_after}
 use Rattle.bng_desk.proofs.accounts.add_carried.Goals as goal
 
 -- the line that stands in the loop's place where there is none
-abbrev no_line : Line
+abbrev no_line : CircuitLine
 no_line = record { session = record { 0 = 0 }; address = record { 0 = 0 }; stopped = record { input = 0; output = 0 } }
 
 pub loop-line-init : goal.loop-line-init
@@ -22,8 +22,8 @@ add_to-requires c =
     let stops : List Stop = stop_of c.args.ended.now ∷ [] in
     let olds = c.deref_mut-line-items.result.now in
     let i = c.loop-line.line-index in
-    let all : All (TakesIn stops) olds = subst (λ (ls : List Line). All (TakesIn stops) ls) (sym c.deref_mut-line-items.ensures.value) c.requires in
-    subst (λ (l : Line). TakesIn stops l) (sym (same_at olds c.loop-line.line-items i no_line c.loop-line.invariant.rest)) (all i no_line c.loop-line-test.true)
+    let all : All (TakesIn stops) olds = subst (λ (ls : List CircuitLine). All (TakesIn stops) ls) (sym c.deref_mut-line-items.ensures.value) c.requires in
+    subst (λ (l : CircuitLine). TakesIn stops l) (sym (same_at olds c.loop-line.line-items i no_line c.loop-line.invariant.rest)) (all i no_line c.loop-line-test.true)
 
 pub loop-line-preserved : goal.loop-line-preserved
 loop-line-preserved c =

@@ -2,7 +2,7 @@ use Rattle.std.proofs.Common.{◌≡◌, ◌<◌, ℕ, List, [], ◌∷◌, ◌+
 use Rattle.bng_base.specs.declared.outside.Role.TheVariants.{Acct}
 use Rattle.bng_base.proofs.StretchLaws.{plant_stays}
 use Rattle.bng_billing.specs.Replies.{Takes}
-use Rattle.bng_desk.specs.declared.reading.Ended.TheVariants.{Full}
+use Rattle.bng_desk.specs.declared.reading.ReadEnd.TheVariants.{Full}
 use Rattle.bng_desk.specs.Accounting.{Acknowledged}
 use Rattle.bng_desk.proofs.RecordLaws.{acct_read, heard_more, heard_none}
 use Rattle.bng_desk.proofs.TakeLaws.{over}

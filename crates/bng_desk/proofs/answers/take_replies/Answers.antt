@@ -2,7 +2,7 @@ use Rattle.std.proofs.Common.{◌≡◌, ◌<◌, [], ◌∷◌, ◌++◌, lengt
 use Rattle.bng_base.specs.declared.outside.Role.TheVariants.{Auth}
 use Rattle.bng_base.specs.FateOf.{Arrival}
 use Rattle.bng_base.proofs.StretchLaws.{plant_stays}
-use Rattle.bng_desk.specs.declared.reading.Ended.TheVariants.{Full}
+use Rattle.bng_desk.specs.declared.reading.ReadEnd.TheVariants.{Full}
 use Rattle.bng_desk.specs.Logins.{Answered}
 use Rattle.bng_desk.proofs.LoginLaws.{auth_read, heard_more, heard_none}
 use Rattle.bng_desk.proofs.TakeLaws.{over}

@@ -3,7 +3,7 @@ use Rattle.bng_base.specs.declared.outside.Role.TheVariants.{Coa}
 use Rattle.bng_base.specs.FateOf.{Arrival}
 use Rattle.bng_base.proofs.StretchLaws.{plant_stays}
 use Rattle.bng_desk.specs.declared.lists.Lists.{Lists}
-use Rattle.bng_desk.specs.declared.reading.Ended.TheVariants.{Full}
+use Rattle.bng_desk.specs.declared.reading.ReadEnd.TheVariants.{Full}
 use Rattle.bng_desk.specs.Coa.{Requested, replies_in}
 use Rattle.bng_desk.proofs.CoaLaws.{asked_more, asked_none, coa_read}
 use Rattle.bng_desk.proofs.TakeLaws.{over}

@@ -4,7 +4,7 @@ use Rattle.bng_base.specs.declared.item.Item.{Item}
 use Rattle.bng_base.specs.Batches.{Batch}
 use Rattle.bng_base.specs.FateOf.{Arrival}
 use Rattle.bng_base.proofs.StretchLaws.{plant_stays}
-use Rattle.bng_desk.specs.declared.reading.Ended.TheVariants.{Full}
+use Rattle.bng_desk.specs.declared.reading.ReadEnd.TheVariants.{Full}
 use Rattle.bng_desk.specs.Random.{draw}
 use Rattle.bng_desk.proofs.TakeLaws.{item_is, over, taken_more, role_read}
 use Rattle.bng_desk.proofs.intake.take_role.Goals as goal

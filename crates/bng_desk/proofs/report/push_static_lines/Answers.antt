@@ -1,12 +1,12 @@
 use Rattle.std.proofs.Common.{◌≡◌, ◌++◌, ◌+◌, ◌<◌, ℕ, zero, suc, List, [], ◌∷◌, length, take, get_or, sym, ap, ◌∙◌, append_assoc, append-nil, arith, string_bytes}
-use Rattle.bng_desk.specs.declared.line.Line.{Line}
+use Rattle.bng_desk.specs.declared.line.CircuitLine.{CircuitLine}
 use Rattle.bng_steps.specs.declared.sums.Traffic.{Traffic}
 use Rattle.bng_desk.specs.Model.{no_traffic}
 use Rattle.bng_desk.specs.Report.{static_line, static_lines}
 use Rattle.bng_desk.proofs.report.push_static_lines.Goals as goal
 
 -- the line of one more circuit
-lines_more : (ss : List Line) (ts : List Traffic) (i : ℕ) (s : Line) → i < length ss → i < length ts
+lines_more : (ss : List CircuitLine) (ts : List Traffic) (i : ℕ) (s : CircuitLine) → i < length ss → i < length ts
     → static_lines (take (suc i) ss) ts ≡ static_lines (take i ss) ts ++ static_line (get_or ss i s).address (get_or ts i no_traffic)
 lines_more [] ts i s in_circuits in_traffic = absurd (omega arith)
 lines_more (x ∷ ss) [] i s in_circuits in_traffic = absurd (omega arith)
@@ -17,9 +17,9 @@ lines_more (x ∷ ss) (t ∷ ts) (suc i) s in_circuits in_traffic =
 pub loop-place-preserved : goal.loop-place-preserved
 loop-place-preserved c =
     let n : ℕ = c.loop-place.place in
-    let ss : List Line = c.args.circuits.now in
+    let ss : List CircuitLine = c.args.circuits.now in
     let ts : List Traffic = c.args.traffic.now in
-    let no_line : Line = record { session = record { 0 = 0 }; address = record { 0 = 0 }; stopped = no_traffic } in
+    let no_line : CircuitLine = record { session = record { 0 = 0 }; address = record { 0 = 0 }; stopped = no_traffic } in
     let circuit = get_or ss n no_line in
     let traffic = get_or ts n no_traffic in
     let old = string_bytes c.args.text.now in

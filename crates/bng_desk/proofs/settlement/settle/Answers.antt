@@ -5,7 +5,7 @@ use Rattle.bng_base.specs.declared.item.Loose.{Loose}
 use Rattle.bng_steps.specs.Interims.{Reports}
 use Rattle.bng_desk.specs.declared.accounts.Stopped.{Stopped}
 use Rattle.bng_desk.specs.declared.coa.Repeated.{Repeated}
-use Rattle.bng_desk.specs.declared.line.Line.{Line}
+use Rattle.bng_desk.specs.declared.line.CircuitLine.{CircuitLine}
 use Rattle.bng_desk.specs.declared.settlement.Works.{Works}
 use Rattle.bng_desk.specs.Coa.{replies_in}
 use Rattle.bng_desk.specs.Intake.{SendsReplies, SendsRequests}
@@ -127,7 +127,7 @@ returns-clause-keeps g c =
       low = kept.low;
       books = kept.books;
       tally = keeps.tally;
-      tallied = subst (λ (ls : List Line). AreTallied h.tally shards ls) (sym (ap (λ (a : Accounts). a.lines) c.send.ensures.others)) kept.tallied;
+      tallied = subst (λ (ls : List CircuitLine). AreTallied h.tally shards ls) (sym (ap (λ (a : Accounts). a.lines) c.send.ensures.others)) kept.tallied;
       adds_up = subst (λ (t : Stopped). AddsUp h.tally shards t) (sym (ap (λ (a : Accounts). a.stopped) c.send.ensures.others)) kept.adds_up;
       billed = billed_kept (keys_in shards) booked c.send.new.self.billing (settled_keeps moment booked c.send.new.self.billing bills.requests bills.settles) kept.billed;
       counts = keeps.counts;

@@ -1,5 +1,5 @@
 use Rattle.std.proofs.Common.{◌≡◌, ◌↔◌, List, [], subst, All}
-use Rattle.bng_ppp_wire.specs.declared.option_table.Row.{Row}
+use Rattle.bng_ppp_wire.specs.declared.option_table.OptionRow.{OptionRow}
 use Rattle.bng_ppp_wire.specs.declared.judgement.Class.TheVariants as class
 use Rattle.bng_ppp_wire.specs.declared.judgement.Judged.TheVariants as judged
 use Rattle.bng_ppp_wire.specs.View.{option_of, options_of}
@@ -11,7 +11,7 @@ pub returns-clause-ack : goal.returns-clause-ack
 returns-clause-ack c =
     let n = c.args.rules.now.no_more_naks in
     let request = c.args.request.now in
-    let P : List Row → Type 0 = λ rows.
+    let P : List OptionRow → Type 0 = λ rows.
     (c.judge.result ≡ judged.Ack)
     ↔ (All (λ o. class_of rows n (option_of o) ≡ class.Ack) request × (added rows n (options_of request) ≡ [])) in
     let ack = subst P c.rows-rows.ensures c.judge.ensures.ack in

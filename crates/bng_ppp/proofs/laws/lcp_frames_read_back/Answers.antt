@@ -1,7 +1,7 @@
 use Rattle.bng_ppp.specs.Said.{said}
 use Rattle.bng_ppp.proofs.LcpOuts.{steps_lcp}
 use Rattle.bng_ppp.proofs.MessageLaws.{all_read_back}
-use Rattle.bng_ppp.proofs.WholeOuts.{all_of_lcp}
+use Rattle.bng_ppp.proofs.LinkOuts.{all_of_lcp}
 use Rattle.bng_ppp.proofs.laws.lcp_frames_read_back.Goals as goal
 
 pub returns : goal.returns

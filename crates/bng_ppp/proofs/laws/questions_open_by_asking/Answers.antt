@@ -1,5 +1,5 @@
 use Rattle.std.proofs.Common.{inl, inr}
-use Rattle.bng_ppp.proofs.WholeQuestions.{asked_is_open, open_was_asked, begins_unasked, accepted_by_verdict, only_frames_ask}
+use Rattle.bng_ppp.proofs.LinkQuestions.{asked_is_open, open_was_asked, begins_unasked, accepted_by_verdict, only_frames_ask}
 use Rattle.bng_ppp.proofs.laws.questions_open_by_asking.Goals as goal
 
 pub returns : goal.returns

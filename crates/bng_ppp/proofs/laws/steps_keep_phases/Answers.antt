@@ -1,4 +1,4 @@
-use Rattle.bng_ppp.proofs.WholePhases.{phases_kept, heard_phases, settled_phases}
+use Rattle.bng_ppp.proofs.LinkPhases.{phases_kept, heard_phases, settled_phases}
 use Rattle.bng_ppp.proofs.laws.steps_keep_phases.Goals as goal
 
 pub returns : goal.returns

@@ -6,10 +6,10 @@ use Rattle.bng_l2tp_call.specs.CallState.{CallState, fresh}
 use Rattle.bng_l2tp_tunnel.specs.TunnelState.{TunnelState}
 use Rattle.bng_l2tp_wire.specs.View.{payloads, said, control_of}
 use Rattle.bng_lns.specs.Tunnels.{tunnel_at, with_step}
-use Rattle.bng_steps.specs.declared.way.Called.{Called}
+use Rattle.bng_steps.specs.declared.way.TunnelCall.{TunnelCall}
 use Rattle.bng_steps.specs.Calls.{MakesSession, call_after, call_step, called_over, number_for}
 use Rattle.bng_steps.specs.Deed.{tunnel_outs}
-use Rattle.bng_steps.specs.Running.{whole}
+use Rattle.bng_steps.specs.TermRows.{whole}
 use Rattle.bng_steps.specs.State.{with_tunnels}
 use Rattle.bng_steps.proofs.Calling.{asks, makes_so, vacancy_kept, vacancy_number}
 use Rattle.bng_steps.proofs.Tunnelling.{payloads_length, standing}
@@ -66,12 +66,12 @@ returns-clause-does g c terms =
     let told = c.answer_call-told.result in
     let free = option_map (λ (k : SessionNo). k.0) c.vacant-vacant.result in
     let call = fresh t.secret (number_for free) in
-    let its : c.new_call-called.result.call ≡ call = ap (λ (k : Called). k.call) (its_call g d t stands) ∙ ap (fresh t.secret) (its_number g d) in
+    let its : c.new_call-called.result.call ≡ call = ap (λ (k : TunnelCall). k.call) (its_call g d t stands) ∙ ap (fresh t.secret) (its_number g d) in
     let said_is = c.answer_call-told.ensures.said t stands ∙ ap (λ (k : CallState). (call_step t heard k m now).said) its in
     let after = c.answer_call-told.ensures.after t stands ∙ ap (λ (k : CallState). with_tunnels s (with_step now s.tunnels n (call_step t heard k m now).after)) its in
     let then = c.answer_call-told.ensures.call ∙ ap (λ (k : CallState). call_after k m) its in
-    let over : (let k : Called = record c.new_call-called.result { call = c.answer_call-told.new.call } in k) ≡ called_over item.from n t (call_after call m) =
-    ap (λ (k : Called). let q : Called = record k { call = c.answer_call-told.new.call } in q) (its_call g d t stands) ∙ ap (λ (k : CallState). called_over item.from n t k) then in
+    let over : (let k : TunnelCall = record c.new_call-called.result { call = c.answer_call-told.new.call } in k) ≡ called_over item.from n t (call_after call m) =
+    ap (λ (k : TunnelCall). let q : TunnelCall = record k { call = c.answer_call-told.new.call } in q) (its_call g d t stands) ∙ ap (λ (k : CallState). called_over item.from n t k) then in
     let makes = makes_so free (told.ended || told.left_out) (record c.new_call-called.result { call = c.answer_call-told.new.call }) (called_over item.from n t (call_after call m)) item.random s c.answer_call-told.new.self c.make_session.new.served (with_step now s.tunnels n (call_step t heard call m now).after) terms after over
     (subst (λ (b : Bool). MakesSession free b (record c.new_call-called.result { call = c.answer_call-told.new.call }) item.random c.answer_call-told.new.self c.make_session.new.served) c.is_unmade-unmade.ensures c.make_session.ensures) in
     asks r (whole s terms) a item c.args.outs.now.items c.requires.here now n heard m t stands free c.vacant-vacant.ensures (said told) said_is (c.answer_call-told.ensures.spelled c.requires.taken.spelled) c.answer_call-told.ensures.few (whole c.make_session.new.served terms) makes

@@ -1,12 +1,12 @@
 use Rattle.std.proofs.Common.{◌∙◌, ℕ, Option, Some, ap, arith, length, length-append, subst, sym}
-use Rattle.bng_ppp.specs.PppRelation.{PppSteps}
-use Rattle.bng_ppp.specs.declared.whole_input.WholeInput.TheVariants.{Start}
+use Rattle.bng_ppp.specs.LinkRelation.{LinkSteps}
+use Rattle.bng_ppp.specs.declared.input.Input.TheVariants.{Start}
 use Rattle.bng_steps.specs.declared.session.Lease.{Lease}
 use Rattle.bng_steps.specs.declared.session.Session.{Session}
 use Rattle.bng_steps.specs.Calls.{linked, linked_anew}
 use Rattle.bng_steps.specs.Driven.{Driven}
 use Rattle.bng_steps.specs.Placed.{IsPlaced}
-use Rattle.bng_steps.specs.Running.{TermsView, closed_rows}
+use Rattle.bng_steps.specs.TermRows.{TermsView, closed_rows}
 use Rattle.bng_steps.specs.State.{beside_at, made_one}
 use Rattle.bng_steps.proofs.FewOuts.{new_by_start}
 use Rattle.bng_steps.proofs.calls.connect.Goals as goal
@@ -26,7 +26,7 @@ returns-clause-driven g c =
     let cause = c.drive-asked.result.1 in
     let x' = c.drive-asked.new.session in
     let after = beside_at now c.drive-asked.result.0 c.drive-asked.new.served.tunnels in
-    let Steps = PppSteps r.link Start now c.args.incoming.now.item.now.random in (
+    let Steps = LinkSteps r.link Start now c.args.incoming.now.item.now.random in (
       link,
       new,
       cause,

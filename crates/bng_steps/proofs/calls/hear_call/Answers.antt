@@ -2,7 +2,7 @@ use Rattle.std.proofs.Common.{◌∙◌, ap, is_some, sym}
 use Rattle.bng_l2tp_wire.specs.View.{said, control_of}
 use Rattle.bng_sessions.specs.Sessions.{value_at}
 use Rattle.bng_steps.specs.Calls.{is_icrq}
-use Rattle.bng_steps.specs.Running.{whole}
+use Rattle.bng_steps.specs.TermRows.{whole}
 use Rattle.bng_steps.specs.State.{call_of}
 use Rattle.bng_steps.specs.Timers.{does_live}
 use Rattle.bng_steps.proofs.Calling.{hears_asked, hears_none, hears_taken}

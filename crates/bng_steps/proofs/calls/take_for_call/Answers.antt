@@ -15,7 +15,7 @@ use Rattle.bng_steps.specs.Deed.{tunnel_outs}
 use Rattle.bng_steps.specs.Placed.{IsPlaced}
 use Rattle.bng_steps.specs.Indexed.{address_of}
 use Rattle.bng_steps.specs.Protocol.{entry_of}
-use Rattle.bng_steps.specs.Running.{whole}
+use Rattle.bng_steps.specs.TermRows.{whole}
 use Rattle.bng_steps.specs.Serving.{KeepsLease}
 use Rattle.bng_steps.specs.State.{State, beside_at, with_tunnels}
 use Rattle.bng_steps.specs.Timed.{TurnedOnce}

@@ -3,10 +3,10 @@ use Rattle.bng_base.specs.Packet.{Packet}
 use Rattle.bng_l2tp_call.specs.CallState.{CallState, fresh}
 use Rattle.bng_l2tp_wire.specs.View.{payloads, said, control_of}
 use Rattle.bng_lns.specs.Tunnels.{tunnel_at, with_step}
-use Rattle.bng_steps.specs.declared.way.Called.{Called}
+use Rattle.bng_steps.specs.declared.way.TunnelCall.{TunnelCall}
 use Rattle.bng_steps.specs.Calls.{call_step}
 use Rattle.bng_steps.specs.Deed.{tunnel_outs}
-use Rattle.bng_steps.specs.Running.{whole}
+use Rattle.bng_steps.specs.TermRows.{whole}
 use Rattle.bng_steps.specs.State.{State, with_tunnels}
 use Rattle.bng_steps.proofs.Calling.{takes_none}
 use Rattle.bng_steps.proofs.Tunnelling.{payloads_length, standing}
@@ -36,7 +36,7 @@ returns-clause-does g c terms =
     let heard = said c.args.heard in
     let m = control_of c.args.message.now in
     let told = c.answer_call-told.result in
-    let its : c.new_call-called.result.call ≡ fresh t.secret 0 = ap (λ (k : Called). k.call) (c.new_call-called.ensures t stands) in
+    let its : c.new_call-called.result.call ≡ fresh t.secret 0 = ap (λ (k : TunnelCall). k.call) (c.new_call-called.ensures t stands) in
     let said_is = c.answer_call-told.ensures.said t stands ∙ ap (λ (k : CallState). (call_step t heard k m now).said) its in
     let after = c.answer_call-told.ensures.after t stands ∙ ap (λ (k : CallState). with_tunnels s (with_step now s.tunnels n (call_step t heard k m now).after)) its in
     takes_none r (whole s terms) a item c.args.outs.now.items c.requires.here now n heard m t stands (said told) said_is (c.answer_call-told.ensures.spelled c.requires.taken.spelled) c.answer_call-told.ensures.few (whole c.answer_call-told.new.self terms)

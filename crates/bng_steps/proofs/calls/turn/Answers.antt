@@ -1,7 +1,7 @@
 use Rattle.std.proofs.Common.{◌∙◌, ℕ, Bool, false, Option, Some, ap, refl, subst, sym}
 use Rattle.bng_steps.specs.declared.session.Lease.{Lease}
 use Rattle.bng_steps.specs.declared.session.Session.{Session}
-use Rattle.bng_steps.specs.Running.{TermsView, closed_rows}
+use Rattle.bng_steps.specs.TermRows.{TermsView, closed_rows}
 use Rattle.bng_steps.specs.Serving.{KeepsLease}
 use Rattle.bng_steps.specs.State.{beside_at}
 use Rattle.bng_steps.specs.Timed.{TurnedOnce}

@@ -6,7 +6,7 @@ use Rattle.bng_radius_wire.specs.Grammar.{whole as packet_of}
 use Rattle.bng_steps.specs.declared.changes.Meant.{Meant}
 use Rattle.bng_steps.specs.Changes.{changed_to, meant}
 use Rattle.bng_steps.specs.Link.{admin_reset}
-use Rattle.bng_steps.specs.Running.{whole}
+use Rattle.bng_steps.specs.TermRows.{whole}
 use Rattle.bng_steps.specs.State.{State, with_session}
 use Rattle.bng_steps.proofs.Looking.{loses}
 use Rattle.bng_steps.proofs.Obeying.{changes, ends, meant_changed, meant_leased, meant_stays, meant_there}

@@ -4,7 +4,7 @@ use Rattle.bng_base.specs.declared.address.SessionNo.{SessionNo}
 use Rattle.bng_steps.specs.declared.session.Lease.{Lease}
 use Rattle.bng_steps.specs.declared.session.Session.{Session}
 use Rattle.bng_steps.specs.Changes.{lease_after, meters_after, with_change}
-use Rattle.bng_steps.specs.Running.{whole}
+use Rattle.bng_steps.specs.TermRows.{whole}
 use Rattle.bng_steps.specs.State.{State, with_session}
 use Rattle.bng_steps.proofs.Obeying.{keeps_leased, whole_changed}
 use Rattle.bng_steps.proofs.Replacing.{number_back, put_back, vacant_back}

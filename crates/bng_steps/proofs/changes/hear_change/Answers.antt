@@ -2,9 +2,9 @@ use Rattle.std.proofs.Common.{◌∙◌, ℕ, List, [], ◌∷◌, ◌++◌, Non
 use Rattle.std.proofs.lemmas.List.{append-nil}
 use Rattle.bng_coa.specs.Admission.{IsRequestIn}
 use Rattle.bng_radius_wire.specs.Grammar.{Packet, whole as packet_of}
-use Rattle.bng_steps.specs.declared.changes.Answer.{Answer}
+use Rattle.bng_steps.specs.declared.changes.ChangeAnswer.{ChangeAnswer}
 use Rattle.bng_steps.specs.Changes.{answer_to}
-use Rattle.bng_steps.specs.Running.{whole}
+use Rattle.bng_steps.specs.TermRows.{whole}
 use Rattle.bng_steps.proofs.Obeying.{answers_it, answers_none, hears_it, its_answer, reads_none}
 use Rattle.bng_steps.proofs.changes.hear_change.Goals as goal
 
@@ -24,7 +24,7 @@ returns-in-Some-clause-answered g c e same =
     let reads = subst (λ (octets : List ℕ). IsRequestIn p octets) c.payload.ensures.octets c.in-Some.ensures.found in (
       Some (answer_to r s e p),
       answers_it r s item p reads e same,
-      c.push_reserved.ensures.items ∙ ap (λ (q : Answer). c.args.answers.now.items ++ q ∷ []) (its_answer r s item p c.obey-verdict.result c.obey-verdict.ensures.verdict e same),
+      c.push_reserved.ensures.items ∙ ap (λ (q : ChangeAnswer). c.args.answers.now.items ++ q ∷ []) (its_answer r s item p c.obey-verdict.result c.obey-verdict.ensures.verdict e same),
     )
 
 pub returns-in-None-clause-does : goal.returns-in-None-clause-does

@@ -1,7 +1,7 @@
 use Rattle.std.proofs.Common.{◌∙◌, ℕ, Option, ap, sym}
 use Rattle.bng_radius_wire.specs.Grammar.{whole as packet_of}
 use Rattle.bng_steps.specs.Changes.{found_by, refusal_of, verdict_by}
-use Rattle.bng_steps.specs.Running.{whole}
+use Rattle.bng_steps.specs.TermRows.{whole}
 use Rattle.bng_steps.proofs.Obeying.{obeys_so, refuses}
 use Rattle.bng_steps.proofs.changes.obey.Goals as goal
 

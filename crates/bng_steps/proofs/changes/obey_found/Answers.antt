@@ -1,7 +1,7 @@
 use Rattle.std.proofs.Common.{None, ap, sym}
 use Rattle.bng_radius_wire.specs.Grammar.{whole as packet_of}
 use Rattle.bng_steps.specs.Changes.{found_by, verdict_by}
-use Rattle.bng_steps.specs.Running.{whole}
+use Rattle.bng_steps.specs.TermRows.{whole}
 use Rattle.bng_steps.proofs.Obeying.{finds_none, found_meant, none_meant_found, obeys_found}
 use Rattle.bng_steps.proofs.changes.obey_found.Goals as goal
 

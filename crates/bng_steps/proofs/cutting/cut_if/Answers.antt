@@ -1,7 +1,7 @@
 use Rattle.std.proofs.Common.{◌∙◌, Bool, ap, sym}
 use Rattle.std.specs.Prelude.{if◌then◌else◌}
 use Rattle.bng_steps.specs.Cutting.{cut_off}
-use Rattle.bng_steps.specs.Running.{whole}
+use Rattle.bng_steps.specs.TermRows.{whole}
 use Rattle.bng_steps.proofs.SumsKept.{keeps_same}
 use Rattle.bng_steps.proofs.cutting.cut_if.Goals as goal
 

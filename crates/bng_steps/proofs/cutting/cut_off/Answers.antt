@@ -1,6 +1,6 @@
 use Rattle.std.proofs.Common.{◌≡◌, ◌+◌, ◌*◌, ◌∙◌, refl, subst, sym, arith}
 use Rattle.bng_steps.specs.Cutting.{Clears}
-use Rattle.bng_steps.specs.Running.{whole}
+use Rattle.bng_steps.specs.TermRows.{whole}
 use Rattle.bng_steps.proofs.Clearing.{cut_off_clears}
 use Rattle.bng_steps.proofs.CutLaws.{cuts_begin, cuts_done, cuts_more}
 use Rattle.bng_steps.proofs.SumsKept.{keeps_same, keeps_then}

@@ -4,7 +4,7 @@ use Rattle.std.specs.List.{range_with_len}
 use Rattle.bng_steps.specs.declared.rules.Rules.{Rules}
 use Rattle.bng_steps.specs.Cutting.{cut_at}
 use Rattle.bng_steps.specs.Placed.{ArePlaced}
-use Rattle.bng_steps.specs.Running.{KeepSums, whole}
+use Rattle.bng_steps.specs.TermRows.{KeepSums, whole}
 use Rattle.bng_steps.proofs.cutting.cut_off.Given as goal
 
 abbrev pub invariant-loop-n : goal.invariant-loop-n

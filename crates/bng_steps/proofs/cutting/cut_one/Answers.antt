@@ -9,7 +9,7 @@ use Rattle.bng_steps.specs.Placed.{ArePlaced}
 use Rattle.bng_steps.specs.Indexed.{address_of}
 use Rattle.bng_steps.specs.Link.{ended}
 use Rattle.bng_steps.specs.Listing.{does_pass}
-use Rattle.bng_steps.specs.Running.{whole}
+use Rattle.bng_steps.specs.TermRows.{whole}
 use Rattle.bng_steps.specs.Serving.{KeepsLease}
 use Rattle.bng_steps.specs.State.{State, is_way_of, lives_in, with_ended, with_session}
 use Rattle.bng_steps.specs.Timers.{does_live}

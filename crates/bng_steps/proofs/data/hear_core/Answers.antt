@@ -4,7 +4,7 @@ use Rattle.bng_base.specs.declared.fate.DropCause.TheVariants.{Malformed}
 use Rattle.bng_base.specs.declared.ipv4.Ipv4.{Ipv4}
 use Rattle.bng_forward.specs.Fates.{IsCorePacket}
 use Rattle.bng_steps.specs.Frames.{HearsCore, HearsPacket}
-use Rattle.bng_steps.specs.Running.{whole}
+use Rattle.bng_steps.specs.TermRows.{whole}
 use Rattle.bng_steps.proofs.Arriving.{does_more}
 use Rattle.bng_steps.proofs.Carrying.{nothing_done}
 use Rattle.bng_steps.proofs.data.hear_core.Goals as goal

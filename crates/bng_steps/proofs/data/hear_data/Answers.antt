@@ -5,7 +5,7 @@ use Rattle.bng_pppoe_wire.specs.View.{frame_of}
 use Rattle.bng_steps.specs.declared.session.Session.{Session}
 use Rattle.bng_steps.specs.Doing.{DoesWith}
 use Rattle.bng_steps.specs.Frames.{HearsData}
-use Rattle.bng_steps.specs.Running.{whole}
+use Rattle.bng_steps.specs.TermRows.{whole}
 use Rattle.bng_steps.specs.State.{session_of}
 use Rattle.bng_steps.proofs.Arriving.{frame_with}
 use Rattle.bng_steps.proofs.data.hear_data.Goals as goal

@@ -11,7 +11,7 @@ use Rattle.bng_steps.specs.Doing.{DoesWith}
 use Rattle.bng_steps.specs.Frames.{HearsPacket, found_among, found_down}
 use Rattle.bng_steps.specs.Metered.{meters_in}
 use Rattle.bng_steps.specs.Passing.{with_passed}
-use Rattle.bng_steps.specs.Running.{tenures_in, whole}
+use Rattle.bng_steps.specs.TermRows.{tenures_in, whole}
 use Rattle.bng_steps.specs.State.{State, leases}
 use Rattle.bng_steps.specs.Tenures.{has_kept}
 use Rattle.bng_steps.specs.declared.meters.Meters.{Meters}

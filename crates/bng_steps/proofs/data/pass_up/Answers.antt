@@ -11,7 +11,7 @@ use Rattle.bng_steps.specs.Doing.{DoesWith}
 use Rattle.bng_steps.specs.Frames.{HearsData, found_up}
 use Rattle.bng_steps.specs.Metered.{meters_found, view_in}
 use Rattle.bng_steps.specs.Passing.{with_passed}
-use Rattle.bng_steps.specs.Running.{whole}
+use Rattle.bng_steps.specs.TermRows.{whole}
 use Rattle.bng_sessions.specs.Sessions.{value_at}
 use Rattle.bng_steps.specs.State.{State, session_at}
 use Rattle.bng_steps.proofs.Carrying.{drops_up, goes_up}

@@ -3,7 +3,7 @@ use Rattle.bng_base.specs.declared.address.SessionNo.{SessionNo}
 use Rattle.bng_discovery.specs.declared.answers.Answer.TheVariants.{Offer, Refuse}
 use Rattle.bng_discovery.specs.Reply.{pado_of, refusal_of}
 use Rattle.bng_pppoe_wire.specs.View.{frame_of}
-use Rattle.bng_steps.specs.Running.{whole}
+use Rattle.bng_steps.specs.TermRows.{whole}
 use Rattle.bng_steps.proofs.Discovering.{short_uniq, said_nothing, frame_said, said_again, session_made}
 use Rattle.bng_steps.proofs.Driving.{offered}
 use Rattle.bng_steps.proofs.Values.{none_some}

@@ -2,12 +2,12 @@ use Rattle.std.proofs.Common.{ℕ, List, Option, ap, subst, sym, ◌∙◌}
 use Rattle.bng_steps.specs.Placed.{IsPlaced}
 use Rattle.bng_steps.specs.declared.session.Session.{Session}
 use Rattle.bng_sessions.specs.Sessions.{IsNumberOf, value_at}
-use Rattle.bng_ppp.specs.declared.whole_input.WholeInput.TheVariants.{Start}
-use Rattle.bng_ppp.specs.PppRelation.{PppSteps}
+use Rattle.bng_ppp.specs.declared.input.Input.TheVariants.{Start}
+use Rattle.bng_ppp.specs.LinkRelation.{LinkSteps}
 use Rattle.bng_steps.specs.Driven.{Driven}
 use Rattle.bng_steps.specs.Making.{IsNewSession}
 use Rattle.bng_steps.specs.declared.session.Lease.{Lease}
-use Rattle.bng_steps.specs.Running.{whole}
+use Rattle.bng_steps.specs.TermRows.{whole}
 use Rattle.bng_steps.specs.Tenures.{kept_lease}
 use Rattle.bng_steps.specs.Indexed.{address_of}
 use Rattle.bng_steps.specs.State.{State, made_one, with_session, beside_at, with_tunnels}
@@ -57,7 +57,7 @@ returns-clause-made g c ts are =
       cause,
       beside_at now count u,
       subst (λ (h : Option (List ℕ)). IsNewSession c.args.session.0 c.args.number c.args.frame.now.src h c.args.incoming.now.item.now.random c.new_session-made.result) (c.host_uniq-wanted.ensures ts are) c.new_session-made.ensures.is,
-      subst (λ (n : ℕ). Driven r c.args.incoming.now.at (PppSteps r.link Start now c.args.incoming.now.item.now.random) (beside_at now n s.tunnels) c.new_session-made.result cause c.drive-asked.new.session (beside_at now count u) c.args.outs.now.items c.drive-asked.new.outs.items) c.asked-asked.ensures
+      subst (λ (n : ℕ). Driven r c.args.incoming.now.at (LinkSteps r.link Start now c.args.incoming.now.item.now.random) (beside_at now n s.tunnels) c.new_session-made.result cause c.drive-asked.new.session (beside_at now count u) c.args.outs.now.items c.drive-asked.new.outs.items) c.asked-asked.ensures
           c.drive-asked.ensures.driven,
       λ t. ap (λ (q : State). whole q t) next,
     )

@@ -1,6 +1,6 @@
 use Rattle.std.proofs.Common.{◌≡◌, ◌++◌, ◌∙◌, ℕ, List, Option, ap, subst, sym}
 use Rattle.bng_base.specs.declared.item.OutRecord.{OutRecord}
-use Rattle.bng_ppp.specs.PppRelation.{PppSteps}
+use Rattle.bng_ppp.specs.LinkRelation.{LinkSteps}
 use Rattle.bng_ppp.specs.Said.{payloads}
 use Rattle.bng_steps.specs.declared.session.Session.{Session}
 use Rattle.bng_steps.specs.Driven.{Driven}
@@ -49,7 +49,7 @@ returns-then-steps-clause-driven g c =
     let u = c.part.new.served.tunnels in
     let items = c.args.outs.now.items in
     let all = c.part.new.outs.items in
-    let Steps = PppSteps r.link c.args.input now c.args.incoming.now.item.now.random in
+    let Steps = LinkSteps r.link c.args.input now c.args.incoming.now.item.now.random in
     let over = finished ∙ c.if-steps.true in
     let session = c.part.ensures.session ∙ ap (λ (y : Session). let z : Session = record y { way = parted_way y.way } in z) next
     ∙ finished_link r a Steps b x made is says link steps items c.send_frames.new.outs.items first tells are over in
@@ -72,7 +72,7 @@ returns-else-steps-clause-driven g c =
     let b = beside_at now c.args.asked u in
     let items = c.args.outs.now.items in
     let all = c.send_frames.new.outs.items in
-    let Steps = PppSteps r.link c.args.input now c.args.incoming.now.item.now.random in
+    let Steps = LinkSteps r.link c.args.input now c.args.incoming.now.item.now.random in
     let going = finished ∙ c.if-steps.false in
     let session = next ∙ going_link r a Steps b x made is says link steps items all first tells are going in
     subst (λ (q : Option ℕ). Driven r a Steps b x q c.step-asked.new.self (beside_at now c.step-asked.result u) items all) ends_term

@@ -2,7 +2,7 @@ use Rattle.std.proofs.Common.{◌≡◌, ◌∙◌, ℕ, ap, subst, sym}
 use Rattle.bng_lns.specs.Tunnels.{TunnelsState}
 use Rattle.bng_steps.specs.Indexed.{address_of}
 use Rattle.bng_steps.specs.declared.session.Session.{Session}
-use Rattle.bng_ppp.specs.PppRelation.{PppSteps}
+use Rattle.bng_ppp.specs.LinkRelation.{LinkSteps}
 use Rattle.bng_steps.specs.Driven.{Driven}
 use Rattle.bng_sessions.specs.Sessions.{value_at, NoneShares}
 use Rattle.bng_steps.specs.State.{State, beside_at, with_tunnels}
@@ -56,7 +56,7 @@ returns-clause-driven g c x is =
     let cause = c.drive-asked.result.1 in
     let u = c.drive-asked.new.served.tunnels in
     let after = beside_at now count u in
-    let Steps = PppSteps r.link c.args.input now c.args.incoming.now.item.now.random in
+    let Steps = LinkSteps r.link c.args.input now c.args.incoming.now.item.now.random in
     let same = number_of c.drive-asked.ensures.driven c.take-session.ensures.number in
     let asked = c.asked-asked.ensures ∙ ap (λ (t : State). t.asked) c.take-session.ensures.after in
     let spoke = ap (λ (t : State). t.tunnels) c.take-session.ensures.after in

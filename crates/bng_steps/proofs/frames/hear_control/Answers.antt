@@ -1,7 +1,7 @@
 use Rattle.bng_pppoe_wire.specs.View.{frame_of}
-use Rattle.bng_ppp.specs.declared.whole_input.WholeInput.TheVariants.{Frame}
-use Rattle.bng_ppp.specs.PppRelation.{PppSteps}
-use Rattle.bng_steps.specs.Running.{whole}
+use Rattle.bng_ppp.specs.declared.input.Input.TheVariants.{Frame}
+use Rattle.bng_ppp.specs.LinkRelation.{LinkSteps}
+use Rattle.bng_steps.specs.TermRows.{whole}
 use Rattle.bng_steps.proofs.Controls.{no_session, stays_idle, ends_it, hears_it}
 use Rattle.bng_steps.proofs.Speaking.{heard}
 use Rattle.bng_steps.proofs.frames.hear_control.Goals as goal
@@ -20,5 +20,5 @@ returns-then-frame-clause-does g c =
 
 pub returns-else-frame-clause-does : goal.returns-else-frame-clause-does
 returns-else-frame-clause-does g c =
-    hears_it c.args.incoming.now.rules.now (whole c.args.served.now c.args.terms.now) c.args.incoming.now.at c.args.incoming.now.item.now c.args.outs.now.items c.requires.here c.args.number (frame_of c.args.frame.now) (PppSteps c.args.incoming.now.rules.now.link (Frame c.args.frame.now.payload) c.args.incoming.now.moment c.args.incoming.now.item.now.random) c.args.incoming.now.moment
+    hears_it c.args.incoming.now.rules.now (whole c.args.served.now c.args.terms.now) c.args.incoming.now.at c.args.incoming.now.item.now c.args.outs.now.items c.requires.here c.args.number (frame_of c.args.frame.now) (LinkSteps c.args.incoming.now.rules.now.link (Frame c.args.frame.now.payload) c.args.incoming.now.moment c.args.incoming.now.item.now.random) c.args.incoming.now.moment
     (λ old says new h. heard c.args.incoming.now.rules.now.link c.args.frame.now.payload.now c.args.incoming.now.moment c.args.incoming.now.item.now.random old says new h.turn h.cause h.goes h.said h.state) c.in-Heard.ensures c.if-frame.false (whole c.drive_at.new.served c.drive_at.new.terms) c.drive_at.new.outs.items c.drive_at.ensures.driven c.drive_at.ensures.few

@@ -6,7 +6,7 @@ use Rattle.bng_steps.specs.Cutting.{cut_if, cut_told}
 use Rattle.bng_steps.specs.Deed.{tunnel_outs}
 use Rattle.bng_steps.specs.Placed.{ArePlaced}
 use Rattle.bng_steps.specs.L2tp.{TellsIts}
-use Rattle.bng_steps.specs.Running.{whole}
+use Rattle.bng_steps.specs.TermRows.{whole}
 use Rattle.bng_steps.specs.State.{State, with_tunnels}
 use Rattle.bng_steps.proofs.SumsKept.{keeps_same}
 use Rattle.bng_steps.proofs.Tunnelling.{others_kept, payloads_length}

@@ -1,5 +1,5 @@
 use Rattle.std.proofs.Common.{◌≡◌, refl, ◌∙◌, arith, rules}
-use Rattle.bng_steps.specs.Running.{whole}
+use Rattle.bng_steps.specs.TermRows.{whole}
 use Rattle.bng_steps.proofs.Reminding.{reminds_begin, reminds_done, reminds_more}
 use Rattle.bng_steps.proofs.SumsKept.{keeps_same, keeps_then}
 use Rattle.bng_steps.proofs.in_turn.remind_tunnels.Goals as goal

@@ -1,7 +1,7 @@
 use Rattle.std.proofs.Common.{◌≡◌, ◌+◌, ◌*◌, ◌≤◌, length}
 use Rattle.bng_steps.specs.declared.rules.Rules.{Rules}
 use Rattle.bng_steps.specs.Placed.{ArePlaced}
-use Rattle.bng_steps.specs.Running.{KeepSums, whole}
+use Rattle.bng_steps.specs.TermRows.{KeepSums, whole}
 use Rattle.bng_steps.proofs.Reminding.{RemindsOn}
 use Rattle.bng_steps.proofs.in_turn.remind_tunnels.Given as goal
 

@@ -2,7 +2,7 @@ use Rattle.std.proofs.Common.{arith, refl}
 use Rattle.bng_base.specs.declared.item.ItemKind.TheVariants.{Access, Core, Tunnel, Verdict, Change, Tick, End}
 use Rattle.bng_steps.specs.Changes.{HearsChange}
 use Rattle.bng_steps.specs.Frames.{HearsCore}
-use Rattle.bng_steps.specs.Running.{whole}
+use Rattle.bng_steps.specs.TermRows.{whole}
 use Rattle.bng_steps.proofs.Arriving.{does_more}
 use Rattle.bng_steps.proofs.ByKind.{answered_so, ended, stepped, stepped_with, ticked, unanswered, unasked}
 use Rattle.bng_steps.proofs.SumsKept.{keeps_stay}

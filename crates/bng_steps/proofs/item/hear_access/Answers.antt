@@ -6,7 +6,7 @@ use Rattle.bng_base.specs.declared.settings.AccessPort.{AccessPort}
 use Rattle.bng_forward.specs.Fates.{IsFrame}
 use Rattle.bng_pppoe_wire.specs.View.{frame_of}
 use Rattle.bng_steps.specs.Frames.{HearsAccess, HearsFrame}
-use Rattle.bng_steps.specs.Running.{whole}
+use Rattle.bng_steps.specs.TermRows.{whole}
 use Rattle.bng_steps.proofs.Arriving.{does_more}
 use Rattle.bng_steps.proofs.Carrying.{nothing_done}
 use Rattle.bng_steps.proofs.NoFrames.{no_frame}

@@ -1,6 +1,6 @@
 use Rattle.std.proofs.Common.{refl}
 use Rattle.bng_pppoe_wire.specs.View.{frame_of}
-use Rattle.bng_steps.specs.Running.{whole}
+use Rattle.bng_steps.specs.TermRows.{whole}
 use Rattle.bng_steps.proofs.Arriving.{by_discovery, by_data, by_control}
 use Rattle.bng_steps.proofs.item.hear_frame.Goals as goal
 

@@ -4,7 +4,7 @@ use Rattle.bng_l2tp_wire.specs.View.{said, control_of}
 use Rattle.bng_steps.specs.Datagrams.{TakesStep}
 use Rattle.bng_steps.specs.Doing.{DoesWith}
 use Rattle.bng_steps.specs.Placed.{ArePlaced}
-use Rattle.bng_steps.specs.Running.{whole}
+use Rattle.bng_steps.specs.TermRows.{whole}
 use Rattle.bng_steps.specs.State.{State}
 use Rattle.bng_steps.proofs.SumsKept.{keeps_same}
 use Rattle.bng_steps.proofs.Tunnelling.{message_passed, message_taken, message_unknown, others_kept, taken_from}
@@ -28,14 +28,14 @@ returns-in-Unknown-clause-does g c =
 pub returns-in-Unknown-clause-sums : goal.returns-in-Unknown-clause-sums
 returns-in-Unknown-clause-sums g c = keeps_same c.args.terms.now
 
-pub returns-in-Passed-clause-does : goal.returns-in-Passed-clause-does
-returns-in-Passed-clause-does g c =
+pub returns-in-Ignored-clause-does : goal.returns-in-Ignored-clause-does
+returns-in-Ignored-clause-does g c =
     let t = c.args.terms.now in
     message_passed c.args.incoming.now.rules.now (whole c.args.served.now t) (whole c.take_message.new.self t) c.args.outs.now.items c.args.outs.now.items c.args.incoming.now.at c.args.incoming.now.moment c.args.incoming.now.item.now (control_of c.args.message.now)
-    c.in-Passed.ensures.answer (ap (λ (s : State). whole s t) c.take_message.ensures.after) refl
+    c.in-Ignored.ensures.answer (ap (λ (s : State). whole s t) c.take_message.ensures.after) refl
 
-pub returns-in-Passed-clause-sums : goal.returns-in-Passed-clause-sums
-returns-in-Passed-clause-sums g c = keeps_same c.args.terms.now
+pub returns-in-Ignored-clause-sums : goal.returns-in-Ignored-clause-sums
+returns-in-Ignored-clause-sums g c = keeps_same c.args.terms.now
 
 pub returns-in-Step-clause-does : goal.returns-in-Step-clause-does
 returns-in-Step-clause-does g c =

@@ -1,7 +1,7 @@
 use Rattle.bng_l2tp_wire.specs.View.{data_of}
-use Rattle.bng_ppp.specs.PppRelation.{PppSteps}
-use Rattle.bng_ppp.specs.declared.whole_input.WholeInput.TheVariants.{Frame}
-use Rattle.bng_steps.specs.Running.{whole}
+use Rattle.bng_ppp.specs.LinkRelation.{LinkSteps}
+use Rattle.bng_ppp.specs.declared.input.Input.TheVariants.{Frame}
+use Rattle.bng_steps.specs.TermRows.{whole}
 use Rattle.bng_steps.proofs.Controls.{call_hears_it, call_lives, call_stays_idle, no_call}
 use Rattle.bng_steps.proofs.Speaking.{heard}
 use Rattle.bng_steps.proofs.SumsKept.{keeps_same}
@@ -29,5 +29,5 @@ returns-in-Heard-clause-does g c =
     let r = c.args.incoming.now.rules.now in
     let now = c.args.incoming.now.moment in
     let random = c.args.incoming.now.item.now.random in
-    call_hears_it r (whole c.args.served.now c.args.terms.now) c.args.incoming.now.at c.args.incoming.now.item.now c.args.outs.now.items c.requires.here (data_of c.args.message.now) (PppSteps r.link (Frame c.args.message.now.ppp) now random) now
+    call_hears_it r (whole c.args.served.now c.args.terms.now) c.args.incoming.now.at c.args.incoming.now.item.now c.args.outs.now.items c.requires.here (data_of c.args.message.now) (LinkSteps r.link (Frame c.args.message.now.ppp) now random) now
     (λ old says new h. heard r.link c.args.message.now.ppp.now now random old says new h.turn h.cause h.goes h.said h.state) c.in-Heard.ensures (whole c.drive_at.new.served c.drive_at.new.terms) c.drive_at.new.outs.items c.drive_at.ensures.driven c.drive_at.ensures.few

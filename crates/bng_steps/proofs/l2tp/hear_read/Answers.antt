@@ -2,7 +2,7 @@ use Rattle.std.proofs.Common.{inl, inr, subst, arith}
 use Rattle.bng_l2tp_wire.specs.View.{control_of, data_of}
 use Rattle.bng_lns.specs.Datagrams.{IsReadAs}
 use Rattle.bng_steps.specs.Datagrams.{HearsMessage, HearsTunnel, HearsTunnelData}
-use Rattle.bng_steps.specs.Running.{whole}
+use Rattle.bng_steps.specs.TermRows.{whole}
 use Rattle.bng_steps.proofs.Arriving.{does_more}
 use Rattle.bng_steps.proofs.l2tp.hear_read.Goals as goal
 

@@ -3,7 +3,7 @@ use Rattle.bng_base.specs.declared.fate.DropCause.TheVariants.{Malformed}
 use Rattle.bng_base.specs.declared.fate.Fate.TheVariants.{Dropped}
 use Rattle.bng_lns.specs.Datagrams.{IsNeither, IsReadAs}
 use Rattle.bng_steps.specs.Datagrams.{HearsTunnel}
-use Rattle.bng_steps.specs.Running.{whole}
+use Rattle.bng_steps.specs.TermRows.{whole}
 use Rattle.bng_steps.proofs.Carrying.{nothing_done}
 use Rattle.bng_steps.proofs.SumsKept.{keeps_same}
 use Rattle.bng_steps.proofs.l2tp.hear_tunnel.Goals as goal

@@ -2,7 +2,7 @@ use Rattle.std.proofs.Common.{inl, inr, arith}
 use Rattle.bng_l2tp_wire.specs.View.{data_of}
 use Rattle.bng_steps.specs.Datagrams.{HearsFor, HearsTunnelData}
 use Rattle.bng_steps.specs.Frames.{HearsData}
-use Rattle.bng_steps.specs.Running.{whole}
+use Rattle.bng_steps.specs.TermRows.{whole}
 use Rattle.bng_steps.specs.State.{call_of}
 use Rattle.bng_steps.proofs.Arriving.{does_more}
 use Rattle.bng_steps.proofs.Packets.{info_short}

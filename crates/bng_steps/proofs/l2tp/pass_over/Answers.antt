@@ -3,7 +3,7 @@ use Rattle.bng_base.specs.Packet.{Packet}
 use Rattle.bng_steps.specs.declared.session.Session.{Session}
 use Rattle.bng_steps.specs.Doing.{DoesWith}
 use Rattle.bng_steps.specs.Frames.{HearsData}
-use Rattle.bng_steps.specs.Running.{whole}
+use Rattle.bng_steps.specs.TermRows.{whole}
 use Rattle.bng_steps.specs.State.{call_of}
 use Rattle.bng_steps.proofs.l2tp.pass_over.Goals as goal
 

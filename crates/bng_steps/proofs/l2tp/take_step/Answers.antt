@@ -8,7 +8,7 @@ use Rattle.bng_steps.specs.Datagrams.{TakesStep}
 use Rattle.bng_steps.specs.Deed.{at_of, handled, tunnel_outs}
 use Rattle.bng_steps.specs.Doing.{DoesWith}
 use Rattle.bng_steps.specs.Protocol.{entry_of}
-use Rattle.bng_steps.specs.Running.{whole}
+use Rattle.bng_steps.specs.TermRows.{whole}
 use Rattle.bng_steps.proofs.Carrying.{its_place}
 use Rattle.bng_steps.proofs.Tunnelling.{payloads_length, tunnel_outs_length}
 use Rattle.bng_steps.proofs.l2tp.take_step.Goals as goal

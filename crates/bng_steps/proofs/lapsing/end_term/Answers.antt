@@ -3,7 +3,7 @@ use Rattle.bng_steps.specs.declared.session.Lease.{Lease}
 use Rattle.bng_steps.specs.declared.session.Session.{Session}
 use Rattle.bng_steps.specs.Placed.{IsPlaced}
 use Rattle.bng_steps.specs.Passing.{lapsed}
-use Rattle.bng_steps.specs.Running.{TermsView, closed_rows}
+use Rattle.bng_steps.specs.TermRows.{TermsView, closed_rows}
 use Rattle.bng_steps.specs.Serving.{KeepsLease}
 use Rattle.bng_steps.specs.State.{beside_at}
 use Rattle.bng_steps.specs.Timed.{ClosedLink}

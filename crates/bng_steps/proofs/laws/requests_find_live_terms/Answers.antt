@@ -5,9 +5,9 @@ use Rattle.std.proofs.lemmas.List.Elements.{All-contains}
 use Rattle.bng_coa.specs.Naming.{is_named}
 use Rattle.bng_steps.specs.declared.session.Lease.{Lease}
 use Rattle.bng_steps.specs.declared.session.Service.{Service}
-use Rattle.bng_steps.specs.declared.session.Service.TheVariants.{Provisioned, Discovered}
+use Rattle.bng_steps.specs.declared.session.Service.TheVariants.{Provisioned, Linked}
 use Rattle.bng_steps.specs.declared.session.Session.{Session}
-use Rattle.bng_steps.specs.Changes.{by_session, found_with, identity_of, is_asked_for, lease_for, lease_if, with_its_session}
+use Rattle.bng_steps.specs.Changes.{by_session, found_with, identity_of, is_named_by, lease_for, lease_if, with_its_session}
 use Rattle.bng_steps.specs.Lasting.{KeepsTerm}
 use Rattle.bng_steps.specs.State.{leaves, leaves_in}
 use Rattle.bng_steps.specs.Tenures.{Tenure, is_over}
@@ -21,7 +21,7 @@ no_cause (Some cause) e = absurd (false≢true e)
 
 stays_in : (v : Service) → KeepsTerm v → leaves_in v ≡ false
 stays_in (Provisioned over) keeps = keeps
-stays_in (Discovered m) keeps = keeps.1
+stays_in (Linked m) keeps = keeps.1
 
 -- the session of a live term has its lease
 its_lease : (t : Tenure) (x : Session) (l : Lease) → leaves x ≡ false → x.lease ≡ Some l → l.serial ≡ t.term.serial → by_session t (Some x) ≡ Some (found_with t x l)
@@ -32,7 +32,7 @@ its_lease t x l stays leased same =
 
 pub returns : goal.returns
 returns c r s fs t sound housed found =
-    let (among, passes) = found_is (is_asked_for r fs) s.terms t found in
+    let (among, passes) = found_is (is_named_by r fs) s.terms t found in
     let live = no_cause t.cause (and_parts (not (is_over t)) (is_named (identity_of r t) fs) passes).0 in
     let (x, l, at, leased, same) = All-contains (Housed s) s.terms t housed.housed among live in
     let stays = stays_in x.service (housed.lasting t.term.session.0 x l at leased) in

@@ -7,7 +7,7 @@ use Rattle.bng_l2tp_tunnel.specs.TunnelState.{TunnelState}
 use Rattle.bng_l2tp_wire.specs.View.{Said, payloads}
 use Rattle.bng_lns.specs.Exchange.{parted}
 use Rattle.bng_lns.specs.Tunnels.{with_step}
-use Rattle.bng_steps.specs.declared.way.Called.{Called}
+use Rattle.bng_steps.specs.declared.way.TunnelCall.{TunnelCall}
 use Rattle.bng_steps.specs.Deed.{tunnel_outs}
 use Rattle.bng_steps.specs.Link.{HangsUp}
 use Rattle.bng_steps.specs.State.{State}
@@ -36,7 +36,7 @@ returns-in-Some-clause-told g c =
     )
 
 pub returns-in-Some-clause-called : goal.returns-in-Some-clause-called
-returns-in-Some-clause-called g c = ap (λ (k : CallState). let called : Called = record c.args.called.now { call = k } in called) c.hang_up.ensures.call
+returns-in-Some-clause-called g c = ap (λ (k : CallState). let called : TunnelCall = record c.args.called.now { call = k } in called) c.hang_up.ensures.call
 
 pub returns-in-Some-clause-others : goal.returns-in-Some-clause-others
 returns-in-Some-clause-others g c =
@@ -58,7 +58,7 @@ returns-in-None-clause-told g c =
     )
 
 pub returns-in-None-clause-called : goal.returns-in-None-clause-called
-returns-in-None-clause-called g c = ap (λ (k : CallState). let called : Called = record c.args.called.now { call = k } in called) c.hang_up.ensures.call
+returns-in-None-clause-called g c = ap (λ (k : CallState). let called : TunnelCall = record c.args.called.now { call = k } in called) c.hang_up.ensures.call
 
 pub returns-in-None-clause-others : goal.returns-in-None-clause-others
 returns-in-None-clause-others g c =

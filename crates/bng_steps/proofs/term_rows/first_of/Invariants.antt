@@ -1,4 +1,4 @@
-use Rattle.bng_steps.specs.Running.{IsFirstOf}
+use Rattle.bng_steps.specs.TermRows.{IsFirstOf}
 use Rattle.bng_steps.proofs.term_rows.first_of.Given as goal
 
 abbrev pub invariant-loop-place : goal.invariant-loop-place

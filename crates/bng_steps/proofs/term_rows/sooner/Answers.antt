@@ -1,5 +1,5 @@
 use Rattle.std.proofs.Common.{subst, sym, ap, ◌∙◌, arith}
-use Rattle.bng_steps.specs.Running.{IsFirstOf}
+use Rattle.bng_steps.specs.TermRows.{IsFirstOf}
 use Rattle.bng_steps.proofs.RowOrder.{default, stays_first}
 use Rattle.bng_steps.proofs.term_rows.sooner.Goals as goal
 

@@ -1,7 +1,7 @@
 use Rattle.std.proofs.Common.{◌≡◌, ◌+◌, ◌-◌, ◌*◌, ◌++◌, ◌∷◌, ℕ, suc, List, [], arith, ap, subst, sym, ◌∙◌, length, length-append, append-nil, vec_capacity}
-use Rattle.bng_steps.specs.declared.terms.Running.{Running}
+use Rattle.bng_steps.specs.declared.terms.TermRow.{TermRow}
 use Rattle.bng_steps.specs.Opening.{in_order, tenures_after}
-use Rattle.bng_steps.specs.Running.{tenures_in}
+use Rattle.bng_steps.specs.TermRows.{tenures_in}
 use Rattle.bng_steps.proofs.InCircuits.{AreNew, circuits_from, new_more, new_rows, none_next, one_next}
 use Rattle.bng_steps.proofs.terms.rows_of.Goals as goal
 use Rattle.bng_steps.proofs.terms.rows_of.Goals.{in-Some, in_default}
@@ -11,7 +11,7 @@ loop-n-init c =
     let first = c.args.number * 1024 + 1 in
     let all : first + 1022 - first ≡ 1022 = omega arith in
     record {
-      tenures = ap (λ (rs : List Running). tenures_in rs ++ tenures_after c.args.now 0 (circuits_from c.args.circuits.now first (first + 1022 - first))) c.in_ok-rows.ensures.items
+      tenures = ap (λ (rs : List TermRow). tenures_in rs ++ tenures_after c.args.now 0 (circuits_from c.args.circuits.now first (first + 1022 - first))) c.in_ok-rows.ensures.items
           ∙ ap (λ (k : ℕ). tenures_after c.args.now 0 (circuits_from c.args.circuits.now first k)) all;
       new = subst AreNew (sym c.in_ok-rows.ensures.items) tt;
       count = omega (arith, ap length c.in_ok-rows.ensures.items);
@@ -34,7 +34,7 @@ loop-n-preserved c =
       | in-Some w ↦
           let items = ap (λ v. v.items) w.rows-is ∙ w.push_reserved.ensures.items in
           record {
-            tenures = ap (λ (rs : List Running). tenures_in rs ++ tenures_after c.args.now c.match-circuit_with.serial rest) items
+            tenures = ap (λ (rs : List TermRow). tenures_in rs ++ tenures_after c.args.now c.match-circuit_with.serial rest) items
                 ∙ ap (λ (s : ℕ). tenures_in (rows ++ w.begun.result ∷ []) ++ tenures_after c.args.now s rest) w.serial-is
                 ∙ one_next c.args.now serial circuits n (end - n) (end - (n + 1)) rows all w.in-Some.circuit.now w.begun.result left w.in-Some.ensures.found w.begun.ensures.tenure was.tenures;
             new = subst AreNew (sym items) (new_more rows w.begun.result was.new w.begun.ensures.carried);
@@ -45,7 +45,7 @@ loop-n-preserved c =
       | in_default w ↦
           let items = ap (λ v. v.items) w.rows-is in
           record {
-            tenures = ap (λ (rs : List Running). tenures_in rs ++ tenures_after c.args.now c.match-circuit_with.serial rest) items
+            tenures = ap (λ (rs : List TermRow). tenures_in rs ++ tenures_after c.args.now c.match-circuit_with.serial rest) items
                 ∙ ap (λ (s : ℕ). tenures_in rows ++ tenures_after c.args.now s rest) w.serial-is
                 ∙ none_next c.args.now serial circuits n (end - n) (end - (n + 1)) rows all left w.in_default.ensures.none was.tenures;
             new = subst AreNew (sym items) was.new;

@@ -1,6 +1,6 @@
 use Rattle.std.proofs.Common.{◌≡◌, ◌+◌, ◌-◌, ◌≤◌, ◌++◌, length, vec_capacity}
 use Rattle.bng_steps.specs.Opening.{in_order, tenures_after}
-use Rattle.bng_steps.specs.Running.{tenures_in}
+use Rattle.bng_steps.specs.TermRows.{tenures_in}
 use Rattle.bng_steps.proofs.InCircuits.{AreNew, circuits_from}
 use Rattle.bng_steps.proofs.terms.rows_of.Given as goal
 

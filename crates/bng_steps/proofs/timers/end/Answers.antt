@@ -1,5 +1,5 @@
 use Rattle.std.proofs.Common.{ap, arith, length, length-append}
-use Rattle.bng_steps.specs.Running.{whole}
+use Rattle.bng_steps.specs.TermRows.{whole}
 use Rattle.bng_steps.specs.State.{State}
 use Rattle.bng_steps.proofs.Timing.{end_done}
 use Rattle.bng_steps.proofs.timers.end.Goals as goal

@@ -1,6 +1,6 @@
 use Rattle.std.proofs.Common.{◌≡◌, ◌+◌, ◌≤◌, length}
 use Rattle.bng_steps.specs.Placed.{ArePlaced}
-use Rattle.bng_steps.specs.Running.{KeepSums, whole}
+use Rattle.bng_steps.specs.TermRows.{KeepSums, whole}
 use Rattle.bng_steps.proofs.Timing.{EndsOn}
 use Rattle.bng_steps.proofs.timers.end_sessions.Given as goal
 

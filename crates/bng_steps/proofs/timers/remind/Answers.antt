@@ -1,7 +1,7 @@
 use Rattle.std.proofs.Common.{◌∙◌, ap, arith, length, length-append, Option}
 use Rattle.bng_steps.specs.State.{beside_at}
 use Rattle.bng_steps.specs.declared.session.Lease.{Lease}
-use Rattle.bng_steps.specs.Running.{TermsView, closed_rows}
+use Rattle.bng_steps.specs.TermRows.{TermsView, closed_rows}
 use Rattle.bng_steps.proofs.FewOuts.{drives_by_timer, leased_by_timer}
 use Rattle.bng_steps.proofs.timers.remind.Goals as goal
 

@@ -1,4 +1,4 @@
-use Rattle.bng_steps.specs.Running.{whole}
+use Rattle.bng_steps.specs.TermRows.{whole}
 use Rattle.bng_steps.proofs.SumsKept.{keeps_then}
 use Rattle.bng_steps.proofs.Timing.{tick_done}
 use Rattle.bng_steps.proofs.timers.tick.Goals as goal

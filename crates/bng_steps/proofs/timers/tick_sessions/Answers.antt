@@ -1,6 +1,6 @@
 use Rattle.std.proofs.Common.{◌≡◌, ◌+◌, ◌≤◌, ℕ, length, subst, arith, rules}
 use Rattle.bng_steps.specs.Timed.{Ticked}
-use Rattle.bng_steps.specs.Running.{whole}
+use Rattle.bng_steps.specs.TermRows.{whole}
 use Rattle.bng_steps.specs.Timers.{at_once}
 use Rattle.bng_steps.proofs.SumsKept.{keeps_same, keeps_then}
 use Rattle.bng_steps.proofs.Timing.{ticks_begin, ticks_more, ticks_done, ticks_stop}

@@ -1,6 +1,6 @@
 use Rattle.std.proofs.Common.{◌≡◌, ◌∙◌, ℕ, List, None, Some, subst, sym}
 use Rattle.bng_steps.specs.Questions.{open_ask_at}
-use Rattle.bng_steps.specs.Running.{whole}
+use Rattle.bng_steps.specs.TermRows.{whole}
 use Rattle.bng_steps.specs.Wishes.{Decides}
 use Rattle.bng_steps.proofs.Telling.{answered_open, answered_other, asks_there, decided_lease, is_told, no_verdict, not_open, other_ask, same_ask}
 use Rattle.bng_steps.proofs.Wishing.{Answered}

@@ -1,7 +1,7 @@
 use Rattle.std.proofs.Common.{◌≡◌, ◌+◌, ◌++◌, ◌∷◌, [], ◌∙◌, ℕ, Some, ap, subst, sym, refl}
 use Rattle.std.specs.Prelude.{slice_set}
-use Rattle.bng_ppp.specs.declared.whole_input.WholeInput.TheVariants.{Verdict}
-use Rattle.bng_ppp.specs.PppRelation.{PppSteps}
+use Rattle.bng_ppp.specs.declared.input.Input.TheVariants.{Verdict}
+use Rattle.bng_ppp.specs.LinkRelation.{LinkSteps}
 use Rattle.bng_sessions.specs.Sessions.{value_at}
 use Rattle.bng_lns.specs.Tunnels.{TunnelsState}
 use Rattle.bng_steps.specs.declared.session.Session.{Session}
@@ -10,7 +10,7 @@ use Rattle.bng_steps.specs.Link.{IsToldVerdict, Told}
 use Rattle.bng_steps.specs.Metered.{meters_of}
 use Rattle.bng_steps.specs.Passing.{place_in}
 use Rattle.bng_steps.specs.Questions.{open_of}
-use Rattle.bng_steps.specs.Running.{tenures_in}
+use Rattle.bng_steps.specs.TermRows.{tenures_in}
 use Rattle.bng_steps.specs.Tenures.{Tenure}
 use Rattle.bng_steps.specs.Serving.{KeepsLease}
 use Rattle.bng_steps.specs.State.{State, beside_at, with_tunnels}
@@ -44,7 +44,7 @@ returns-in_default-clause-settled g c x q found asks =
     let before = c.asked-asked.ensures ∙ ap (λ (u : State). u.asked) c.take-session.ensures.after in
     let number = ap (λ n. n.0) (c.drive-asked.ensures.number ∙ c.take-session.ensures.number) in
     let Told_ = IsToldVerdict r.link t c.args.incoming.now.moment c.args.incoming.now.item.now.random in
-    let driven = driven_so r c.args.incoming.now.at (PppSteps r.link (Verdict inside.yes inside.lease inside.text) c.args.incoming.now.moment c.args.incoming.now.item.now.random) Told_ (beside_at now c.asked-asked.result c.take-session.new.self.tunnels) c.take-session.result cause x' after outs outs'
+    let driven = driven_so r c.args.incoming.now.at (LinkSteps r.link (Verdict inside.yes inside.lease inside.text) c.args.incoming.now.moment c.args.incoming.now.item.now.random) Told_ (beside_at now c.asked-asked.result c.take-session.new.self.tunnels) c.take-session.result cause x' after outs outs'
     (λ old says new h. judged r.link t h.turn h.cause c.args.incoming.now.moment c.args.incoming.now.item.now.random old says new h.goes h.said h.state) c.drive-asked.ensures.driven in
     let spoke = ap (λ (u : State). u.tunnels) c.take-session.ensures.after in
     let its = subst (λ (n : ℕ). Driven r c.args.incoming.now.at Told_ (beside_at now n s.tunnels) x cause x' after outs outs') before
@@ -95,7 +95,7 @@ put-requires-2-clause-leased g c =
     let accepted = ap (λ (u : Told). u.yes) c.told.view_is ∙ (c.requires.begins c.in-Some.address (ap (λ (u : Told). u.lease) (sym c.told.view_is) ∙ c.in-Some.is)).0 in
     let (x, q, found, asks) = c.requires.asks in
     let it : c.take-session.result ≡ x = same c.take-session.result x (c.take-session.ensures.value ∙ found) in
-    let driven = driven_so r c.args.incoming.now.at (PppSteps r.link (Verdict inside.yes inside.lease inside.text) c.args.incoming.now.moment c.args.incoming.now.item.now.random) (IsToldVerdict r.link t c.args.incoming.now.moment c.args.incoming.now.item.now.random) (beside_at now c.asked-asked.result c.take-session.new.self.tunnels)
+    let driven = driven_so r c.args.incoming.now.at (LinkSteps r.link (Verdict inside.yes inside.lease inside.text) c.args.incoming.now.moment c.args.incoming.now.item.now.random) (IsToldVerdict r.link t c.args.incoming.now.moment c.args.incoming.now.item.now.random) (beside_at now c.asked-asked.result c.take-session.new.self.tunnels)
     c.take-session.result cause x' after outs outs' (λ old says new h. judged r.link t h.turn h.cause c.args.incoming.now.moment c.args.incoming.now.item.now.random old says new h.goes h.said h.state) c.drive-asked.ensures.driven in
     subst (λ (y : Session). KeepsLease y.service y.lease) (sym c.begin_term.ensures.session)
     (begun_keeps r c.args.incoming.now.at t c.args.incoming.now.moment c.args.incoming.now.item.now.random (beside_at now c.asked-asked.result c.take-session.new.self.tunnels) c.take-session.result cause x' after outs outs' driven q c.in-Some.address (ap open_of it ∙ asks) accepted c.in-Some.is c.drive-asked.ensures.leased
@@ -120,7 +120,7 @@ returns-clause-settled g c x q found asks =
     let before = c.asked-asked.ensures ∙ ap (λ (u : State). u.asked) c.take-session.ensures.after in
     let number = ap (λ n. n.0) (c.drive-asked.ensures.number ∙ c.take-session.ensures.number) in
     let Told_ = IsToldVerdict r.link t c.args.incoming.now.moment c.args.incoming.now.item.now.random in
-    let driven = driven_so r c.args.incoming.now.at (PppSteps r.link (Verdict inside.yes inside.lease inside.text) c.args.incoming.now.moment c.args.incoming.now.item.now.random) Told_ (beside_at now c.asked-asked.result c.take-session.new.self.tunnels) c.take-session.result cause x' after outs outs'
+    let driven = driven_so r c.args.incoming.now.at (LinkSteps r.link (Verdict inside.yes inside.lease inside.text) c.args.incoming.now.moment c.args.incoming.now.item.now.random) Told_ (beside_at now c.asked-asked.result c.take-session.new.self.tunnels) c.take-session.result cause x' after outs outs'
     (λ old says new h. judged r.link t h.turn h.cause c.args.incoming.now.moment c.args.incoming.now.item.now.random old says new h.goes h.said h.state) c.drive-asked.ensures.driven in
     let spoke = ap (λ (u : State). u.tunnels) c.take-session.ensures.after in
     let its = subst (λ (n : ℕ). Driven r c.args.incoming.now.at Told_ (beside_at now n s.tunnels) x cause x' after outs outs') before

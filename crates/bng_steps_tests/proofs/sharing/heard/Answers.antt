@@ -3,7 +3,7 @@ use Rattle.bng_base.specs.declared.item.OutRecord.{OutRecord}
 use Rattle.bng_sessions.specs.Sessions.{Sessions}
 use Rattle.bng_steps.specs.State.{State}
 use Rattle.bng_steps.proofs.Opened.{opened_placed, opened_tied}
-use Rattle.bng_steps.specs.Running.{tenures_in}
+use Rattle.bng_steps.specs.TermRows.{tenures_in}
 use Rattle.bng_steps_tests.proofs.sharing.heard.Goals as goal
 
 pub hear_core_plainly-fate-requires-clause-tied : goal.hear_core_plainly-fate-requires-clause-tied

@@ -1,7 +1,7 @@
 use Rattle.std.proofs.Common.{rules, arith, subst, sym}
 use Rattle.std.proofs.lemmas.List.{length-take-le}
 use Rattle.bng_radius_wire.specs.Grammar.{AreOctets, length_in}
-use Rattle.bng_coa.specs.declared.request.Key.{Key}
+use Rattle.bng_coa.specs.declared.request.RequestKey.{RequestKey}
 use Rattle.bng_coa.specs.State.{State}
 use Rattle.bng_coa.specs.Requests.{key_of}
 use Rattle.bng_coa.specs.Admission.{TakesIn, Keeps}
@@ -31,7 +31,7 @@ returns-in-Ok-clause-after c =
     let new : State = record old { requests = c.take_in.new.requests } in
     let p = c.in-Ok.ensures.ok.0 in
     let takes : TakesIn old.requests c.take_in.new.requests (key_of c.args.from p) c.args.bytes.now c.args.now c.take_in.result =
-    subst (λ (k : Key). TakesIn old.requests c.take_in.new.requests k c.args.bytes.now c.args.now c.take_in.result) c.in-Ok.ensures.ok.2 c.take_in.ensures.after in
+    subst (λ (k : RequestKey). TakesIn old.requests c.take_in.new.requests k c.args.bytes.now c.args.now c.take_in.result) c.in-Ok.ensures.ok.2 c.take_in.ensures.after in
     subst (λ (s : State). Keeps s new c.args.from c.args.bytes.now c.args.now c.take_in.result) c.self.view_is
     (keeps_of old c.take_in.new.requests c.args.from c.args.bytes.now c.args.now c.take_in.result p c.in-Ok.ensures.ok.1.request takes)
 

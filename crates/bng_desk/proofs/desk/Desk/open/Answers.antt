@@ -27,7 +27,7 @@ use Rattle.bng_shard.specs.Handling.{HasPools}
 use Rattle.bng_steps.proofs.RowLaws.{new_keys}
 use Rattle.bng_steps.specs.Questions.{none_handed}
 use Rattle.bng_desk.specs.declared.accounts.Stopped.{Stopped}
-use Rattle.bng_desk.specs.declared.line.Line.{Line}
+use Rattle.bng_desk.specs.declared.line.CircuitLine.{CircuitLine}
 use Rattle.bng_desk.specs.Accounting.{AreBilled, IsStartOf, KnowsBegun}
 use Rattle.bng_desk.specs.Counting.{no_drops}
 use Rattle.bng_desk.specs.Kept.{rested}
@@ -170,7 +170,7 @@ returns c =
     let b = (goal.at.returns c).After-new-4 in
     let config = c.args.config in
     let r = made b in
-    let desk = λ (tallies : List Book) (lines : List Line) (stopped : Stopped) (shards : List (ShardView ShardState Entry)) (draws : Drawn) (handed : List (List ℕ)) (reports : List Reports) (kept : List Item) (coa : CoaState). let x : Desk = record {
+    let desk = λ (tallies : List Book) (lines : List CircuitLine) (stopped : Stopped) (shards : List (ShardView ShardState Entry)) (draws : Drawn) (handed : List (List ℕ)) (reports : List Reports) (kept : List Item) (coa : CoaState). let x : Desk = record {
       rules = r;
       lines = lines;
       stopped_book = stopped.carried;
@@ -220,7 +220,7 @@ returns c =
       forms = accounts.booked.forms;
       desk =
           ap (λ (bs : List Book). desk bs c.in_ok-accounts.accounts.lines c.in_ok-accounts.accounts.stopped (map rested c.in_ok-opens.opens.items) c.sixteen-key.new.self c.in_ok-handed.handed.items c.in_ok-accounts.accounts.reports c.in_ok-kept.kept.items c.in_ok-coa.coa) (tallies_are b)
-          ∙ ap (λ (ls : List Line). desk (empty_book ∷ []) ls c.in_ok-accounts.accounts.stopped (map rested c.in_ok-opens.opens.items) c.sixteen-key.new.self c.in_ok-handed.handed.items c.in_ok-accounts.accounts.reports c.in_ok-kept.kept.items c.in_ok-coa.coa) (lines_are b)
+          ∙ ap (λ (ls : List CircuitLine). desk (empty_book ∷ []) ls c.in_ok-accounts.accounts.stopped (map rested c.in_ok-opens.opens.items) c.sixteen-key.new.self c.in_ok-handed.handed.items c.in_ok-accounts.accounts.reports c.in_ok-kept.kept.items c.in_ok-coa.coa) (lines_are b)
           ∙ ap (λ (t : Stopped). desk (empty_book ∷ []) (map line_of config.statics) t (map rested c.in_ok-opens.opens.items) c.sixteen-key.new.self c.in_ok-handed.handed.items c.in_ok-accounts.accounts.reports c.in_ok-kept.kept.items c.in_ok-coa.coa) (stopped_is b)
           ∙ ap (λ (xs : List (ShardView ShardState Entry)). desk (empty_book ∷ []) (map line_of config.statics) no_stops xs c.sixteen-key.new.self c.in_ok-handed.handed.items c.in_ok-accounts.accounts.reports c.in_ok-kept.kept.items c.in_ok-coa.coa) shards
           ∙ ap (λ (x : Drawn). desk (empty_book ∷ []) (map line_of config.statics) no_stops opens x c.in_ok-handed.handed.items c.in_ok-accounts.accounts.reports c.in_ok-kept.kept.items c.in_ok-coa.coa) (draws_are b)

@@ -1,7 +1,7 @@
 use Rattle.std.proofs.Common.{ap, ◌∙◌}
 use Rattle.bng_l2tp_wire.specs.Messages.{control_text}
 use Rattle.bng_l2tp_tunnel.specs.declared.acknowledging.Acknowledging.TheVariants.{Never}
-use Rattle.bng_l2tp_tunnel.specs.declared.phase.Phase.TheVariants.{Cleared}
+use Rattle.bng_l2tp_tunnel.specs.declared.phase.TunnelPhase.TheVariants.{Cleared}
 use Rattle.bng_l2tp_wire.specs.declared.result_code.ResultCode.{ResultCode}
 use Rattle.bng_l2tp_wire.specs.View.{said}
 use Rattle.bng_l2tp_tunnel.specs.TunnelState.{TunnelState}

@@ -1,6 +1,6 @@
 use Rattle.std.proofs.Common.{rules, ◌≡◌, None, Option, sym, ap, ◌∙◌}
 use Rattle.bng_l2tp_wire.specs.View.{avps_of}
-use Rattle.bng_l2tp_tunnel.specs.declared.refusal.Refusal.{Refusal}
+use Rattle.bng_l2tp_tunnel.specs.declared.refusal.TunnelRefusal.{TunnelRefusal}
 use Rattle.bng_lac.specs.LacState.{LacState}
 use Rattle.bng_lac.specs.Refusals.{refusal_of}
 use Rattle.bng_lac.specs.Steps.{judged, learned}
@@ -11,4 +11,4 @@ returns-in-None-clause-after c =
     let avps = avps_of c.args.avps.now in
     let none : refusal_of c.args.self.now avps ≡ None = search rules in
     c.accept.ensures.after ∙ ap (λ (s : LacState). (judged s avps c.args.now None).after) c.learn.ensures
-    ∙ ap (λ (r : Option Refusal). (judged (learned c.args.self.now avps) avps c.args.now r).after) (sym none)
+    ∙ ap (λ (r : Option TunnelRefusal). (judged (learned c.args.self.now avps) avps c.args.now r).after) (sym none)

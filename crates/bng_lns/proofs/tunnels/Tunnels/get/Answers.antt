@@ -1,7 +1,7 @@
 use Rattle.std.proofs.Common.{◌≡◌, Option, Some, option_map, length, refl, sym, ap, ◌∙◌}
 use Rattle.std.specs.Prelude.{position}
 use Rattle.std.proofs.lemmas.Option.{slice_get_read}
-use Rattle.bng_lns.specs.declared.place.Place.{Place}
+use Rattle.bng_lns.specs.declared.place.TunnelPlace.{TunnelPlace}
 use Rattle.bng_lns.specs.Places.{is_numbered}
 use Rattle.bng_lns.specs.Tunnels.{TunnelsState, tunnel_at}
 use Rattle.bng_lns.proofs.Finding.{found_within, none_found}
@@ -12,7 +12,7 @@ pub returns-in_err-at : goal.returns-in_err-at
 returns-in_err-at c =
     let test = is_numbered c.args.number.0 in
     let none = none_found test c.self.inside.places.items (ap (position test) (sym c.as_slice.ensures.value) ∙ sym c.in_err-at.ensures) in
-    rw (← c.self.view_is, c.from_residual.ensures) (sym (ap (λ (o : Option Place). option_map (λ (p : Place). p.tunnel) o) none))
+    rw (← c.self.view_is, c.from_residual.ensures) (sym (ap (λ (o : Option TunnelPlace). option_map (λ (p : TunnelPlace). p.tunnel) o) none))
 
 pub returns : goal.returns
 returns c =

@@ -1,7 +1,7 @@
 use Rattle.std.proofs.Common.{◌≡◌, Some, true, length, slice_get, refl, sym, ap, ◌∙◌, arith}
 use Rattle.std.proofs.lemmas.Option.{slice_get_read}
 use Rattle.bng_l2tp_tunnel.specs.Steps.{stands, stop_step}
-use Rattle.bng_lns.specs.declared.place.Place.{Place}
+use Rattle.bng_lns.specs.declared.place.TunnelPlace.{TunnelPlace}
 use Rattle.bng_lns.specs.Places.{number_at, IsPlace}
 use Rattle.bng_lns.specs.Tunnels.{TunnelsState}
 use Rattle.bng_lns.specs.Timed.{Telling, Timed, stopped}
@@ -21,7 +21,7 @@ same : (c : After-stop_in) → c.index_mut.result.now ≡ c.index.result.now
 same c = let a = seen c in let b = there c in cc
 
 passes : (c : After-stop_in) → stands c.index_mut.result.now.tunnel.phase ≡ true
-passes c = ap (λ (p : Place). stands p.tunnel.phase) (same c) ∙ sym c.is_standing.ensures ∙ c.if-not-is_standing.false
+passes c = ap (λ (p : TunnelPlace). stands p.tunnel.phase) (same c) ∙ sym c.is_standing.ensures ∙ c.if-not-is_standing.false
 
 its_place : (c : After-stop_in) → IsPlace (number_at c.self.inside.shard c.args.at) c.index_mut.result.now
 its_place c = place_in c.self.inside.shard _ c.self.inside.places.items c.self.invariant c.args.at c.index_mut.result.now (there c)

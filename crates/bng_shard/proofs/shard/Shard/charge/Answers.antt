@@ -1,7 +1,7 @@
 use Rattle.std.proofs.Common.{◌≤◌, sym, ap, subst, ◌∙◌, arith}
 use Rattle.std.specs.List.{All}
-use Rattle.bng_steps.specs.declared.terms.Running.{Running}
-use Rattle.bng_steps.specs.Running.{AreTied, TermsView}
+use Rattle.bng_steps.specs.declared.terms.TermRow.{TermRow}
+use Rattle.bng_steps.specs.TermRows.{AreTied, TermsView}
 use Rattle.bng_steps.proofs.SameKeys.{same_apart, same_keys, same_numbered}
 use Rattle.bng_shard.proofs.shard.Shard.charge.Goals as goal
 
@@ -14,7 +14,7 @@ invariant_of-self c =
     let keys = same_keys t.rows t'.rows c.settle.ensures.terms in
     record {
       numbered = same_numbered begun t.rows t'.rows keys was.numbered;
-      numbered_news = subst (All (λ (r : Running). r.term.serial ≤ begun)) (sym (ap (λ (v : TermsView). v.news) c.settle.ensures.others)) was.numbered_news;
+      numbered_news = subst (All (λ (r : TermRow). r.term.serial ≤ begun)) (sym (ap (λ (v : TermsView). v.news) c.settle.ensures.others)) was.numbered_news;
       apart = same_apart t.rows t'.rows keys was.apart;
       tied = subst (AreTied c.self.inside.served.sessions) (sym c.settle.ensures.terms) was.tied;
       left = was.left;

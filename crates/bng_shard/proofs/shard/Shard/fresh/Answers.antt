@@ -1,7 +1,7 @@
 use Rattle.std.proofs.Common.{◌≤◌, ◌≢◌, false, List, sym, ap, subst, arith}
 use Rattle.std.specs.List.{All, AllPairs}
-use Rattle.bng_steps.specs.declared.terms.Running.{Running}
-use Rattle.bng_steps.specs.Running.{AreTied, TermsView, tenure_in, tenures_in}
+use Rattle.bng_steps.specs.declared.terms.TermRow.{TermRow}
+use Rattle.bng_steps.specs.TermRows.{AreTied, TermsView, tenure_in, tenures_in}
 use Rattle.bng_steps.proofs.LeavingFirst.{left_all}
 use Rattle.bng_shard.proofs.Reaping.{tells_so, told_shown}
 use Rattle.bng_shard.proofs.shard.Shard.fresh.Goals as goal
@@ -14,10 +14,10 @@ invariant_of-self-2 c =
     let one = c.in_ok-row.ensures.one in
     let rows = sym (ap (λ (v : TermsView). v.rows) one.1) in
     record {
-      numbered = subst (All (λ (r : Running). r.term.serial ≤ a.served.begun)) rows was.numbered;
-      numbered_news = left_all a.terms.news news c.in_ok-row.row false (λ (r : Running). r.term.serial ≤ a.served.begun) one.0 was.numbered_news;
-      apart = subst (AllPairs (λ (b d : Running). b.lease ≢ d.lease)) rows was.apart;
-      tied = subst (λ (rs : List Running). AreTied a.served.sessions (tenures_in rs)) rows was.tied;
+      numbered = subst (All (λ (r : TermRow). r.term.serial ≤ a.served.begun)) rows was.numbered;
+      numbered_news = left_all a.terms.news news c.in_ok-row.row false (λ (r : TermRow). r.term.serial ≤ a.served.begun) one.0 was.numbered_news;
+      apart = subst (AllPairs (λ (b d : TermRow). b.lease ≢ d.lease)) rows was.apart;
+      tied = subst (λ (rs : List TermRow). AreTied a.served.sessions (tenures_in rs)) rows was.tied;
       left = was.left;
       numbers = was.numbers;
       placed = was.placed;

@@ -5,7 +5,7 @@ use Rattle.bng_engine.specs.Views.{Row, ShardView}
 use Rattle.bng_sessions.specs.Sessions.{value_at}
 use Rattle.bng_steps.specs.Interims.{Reports, owed, reported_at, row_in, row_told}
 use Rattle.bng_steps.specs.Protocol.{ShardState}
-use Rattle.bng_steps.specs.Running.{rows_in}
+use Rattle.bng_steps.specs.TermRows.{rows_in}
 use Rattle.bng_steps.proofs.Owing.{first_owing, first_part, none_owing}
 use Rattle.bng_shard.proofs.shard.Shard.interim.Goals as goal
 

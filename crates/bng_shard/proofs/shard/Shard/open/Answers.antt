@@ -4,10 +4,10 @@ use Rattle.std.proofs.lemmas.List.{length-replicate}
 use Rattle.bng_base.specs.declared.book.Profile.{Profile}
 use Rattle.bng_base.specs.declared.item.Entry.{Entry}
 use Rattle.bng_engine.specs.Quantities.{empty_book}
-use Rattle.bng_steps.specs.declared.terms.Running.{Running}
+use Rattle.bng_steps.specs.declared.terms.TermRow.{TermRow}
 use Rattle.bng_shard.specs.Fits.{begun_in}
 use Rattle.bng_steps.specs.Opening.{opened_slots}
-use Rattle.bng_steps.specs.Running.{rows_in, whole}
+use Rattle.bng_steps.specs.TermRows.{rows_in, whole}
 use Rattle.bng_steps.specs.State.{State}
 use Rattle.bng_steps.proofs.Opened.{opened_numbered, opened_placed, opened_rows_apart, opened_tied, opened_view, opened_whole}
 use Rattle.bng_shard.proofs.shard.Shard.open.Goals as goal
@@ -22,7 +22,7 @@ invariant_of-result c =
     let none : begun_in c.new.result.items ≡ 0 = ap (λ (es : List Entry). begun_in es) c.new.ensures in
     record {
       numbered = opened_numbered c.args.number c.args.now served.begun cs rows c.requires.own begun c.in-Ok-open-2.ensures.terms;
-      numbered_news = subst (All (λ (r : Running). r.term.serial ≤ served.begun)) (sym c.in-Ok-open-2.ensures.none.0) (λ i d lt. absurd (omega (arith, lt)));
+      numbered_news = subst (All (λ (r : TermRow). r.term.serial ≤ served.begun)) (sym c.in-Ok-open-2.ensures.none.0) (λ i d lt. absurd (omega (arith, lt)));
       apart = opened_rows_apart c.args.number c.args.now cs rows c.requires.sessions c.requires.addresses c.in-Ok-open-2.ensures.terms;
       tied = opened_tied c.args.now c.args.number cs served.sessions sessions c.requires.sessions _ c.in-Ok-open-2.ensures.terms;
       left = λ some. omega (arith, none);

@@ -4,11 +4,11 @@ use Rattle.bng_base.specs.declared.item.Entry.{Entry}
 use Rattle.bng_engine.specs.Views.{ShardView}
 use Rattle.bng_sessions.specs.Sessions.{Sessions}
 use Rattle.bng_steps.specs.declared.session.Session.{Session}
-use Rattle.bng_steps.specs.declared.terms.Running.{Running}
+use Rattle.bng_steps.specs.declared.terms.TermRow.{TermRow}
 use Rattle.bng_steps.specs.Placed.{ArePlaced}
 use Rattle.bng_steps.specs.Protocol.{ShardState, terms_of}
 use Rattle.bng_shard.specs.Handling.{AreHeld}
-use Rattle.bng_steps.specs.Running.{AreTied, TermsView, tenures_in}
+use Rattle.bng_steps.specs.TermRows.{AreTied, TermsView, tenures_in}
 use Rattle.bng_steps.specs.State.{State, leaves}
 use Rattle.bng_steps.proofs.LeavingFirst.{left_all, left_pairs, none_over}
 use Rattle.bng_shard.proofs.Reaping.{ended_said, ended_so, held_here, held_still, placed_kept, reaped_shown, tied_kept, tied_left}
@@ -25,9 +25,9 @@ invariant_of-self c =
     let stay = kept (λ (x : Session). not (leaves x)) a.served.sessions in
     let sessions : stay ≡ c.settle.new.self.sessions = sym (ap (λ (s : State). s.sessions) now) in
     record {
-      numbered = subst (λ (t : TermsView). All (λ (r : Running). r.term.serial ≤ c.settle.new.self.begun) t.rows) same (subst (λ n. All (λ (r : Running). r.term.serial ≤ n) a.terms.rows) begun was.numbered);
-      numbered_news = subst (λ (t : TermsView). All (λ (r : Running). r.term.serial ≤ c.settle.new.self.begun) t.news) same (subst (λ n. All (λ (r : Running). r.term.serial ≤ n) a.terms.news) begun was.numbered_news);
-      apart = subst (λ (t : TermsView). AllPairs (λ (b d : Running). b.lease ≢ d.lease) t.rows) same was.apart;
+      numbered = subst (λ (t : TermsView). All (λ (r : TermRow). r.term.serial ≤ c.settle.new.self.begun) t.rows) same (subst (λ n. All (λ (r : TermRow). r.term.serial ≤ n) a.terms.rows) begun was.numbered);
+      numbered_news = subst (λ (t : TermsView). All (λ (r : TermRow). r.term.serial ≤ c.settle.new.self.begun) t.news) same (subst (λ n. All (λ (r : TermRow). r.term.serial ≤ n) a.terms.news) begun was.numbered_news);
+      apart = subst (λ (t : TermsView). AllPairs (λ (b d : TermRow). b.lease ≢ d.lease) t.rows) same was.apart;
       tied = subst (λ (t : TermsView). AreTied c.settle.new.self.sessions (tenures_in t.rows)) same
           (subst (λ (xs : Sessions Session). AreTied xs (tenures_in a.terms.rows)) sessions (tied_kept a.served.sessions (tenures_in a.terms.rows) was.tied));
       left = λ some. absurd (omega (arith, some));
@@ -69,9 +69,9 @@ invariant_of-self-2 c =
     let r = c.in-Some.row in
     let one = c.in-Some.ensures.one in
     record {
-      numbered = left_all a.terms.rows rows r true (λ (q : Running). q.term.serial ≤ a.served.begun) one.0 was.numbered;
-      numbered_news = subst (All (λ (q : Running). q.term.serial ≤ a.served.begun)) (sym (ap (λ (v : TermsView). v.news) one.1)) was.numbered_news;
-      apart = left_pairs a.terms.rows rows r true (λ (b d : Running). b.lease ≢ d.lease) one.0 was.apart;
+      numbered = left_all a.terms.rows rows r true (λ (q : TermRow). q.term.serial ≤ a.served.begun) one.0 was.numbered;
+      numbered_news = subst (All (λ (q : TermRow). q.term.serial ≤ a.served.begun)) (sym (ap (λ (v : TermsView). v.news) one.1)) was.numbered_news;
+      apart = left_pairs a.terms.rows rows r true (λ (b d : TermRow). b.lease ≢ d.lease) one.0 was.apart;
       tied = tied_left a.served.sessions a.terms.rows rows r one.0 was.tied;
       left = λ some. absurd (omega (arith, some));
       numbers = was.numbers;

@@ -11,7 +11,7 @@ use Rattle.bng_shard.specs.Fits.{begun_in, owed}
 use Rattle.bng_steps.specs.Protocol.{ShardState, entry_of, entry_with, terms_of}
 use Rattle.bng_shard.specs.Handling.{AreHeld, AnswersClaim, Handles, HasPools}
 use Rattle.bng_shard.specs.Room.{is_tick, is_end, has_tick, has_end}
-use Rattle.bng_steps.specs.Running.{rows_in, whole}
+use Rattle.bng_steps.specs.TermRows.{rows_in, whole}
 use Rattle.bng_steps.specs.Sums.{AreLow, Rises}
 use Rattle.bng_steps.specs.Wished.{IsAnswered}
 use Rattle.bng_shard.proofs.AskedPool.{claimed_within, wished_may}

@@ -1,6 +1,6 @@
 use Rattle.std.proofs.Common.{ℕ, Option, ap, ◌∙◌}
 use Rattle.bng_lns.specs.Timed.{due_of as tunnels_due}
-use Rattle.bng_ppp.specs.LinkRelation.{earliest}
+use Rattle.bng_ppp.specs.LcpRelation.{earliest}
 use Rattle.bng_steps.specs.Due.{sessions_due}
 use Rattle.bng_steps.specs.State.{State}
 use Rattle.bng_steps.proofs.served.Served.due.Goals as goal

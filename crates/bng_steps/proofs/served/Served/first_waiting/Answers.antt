@@ -3,7 +3,7 @@ use Rattle.bng_base.specs.declared.address.SessionNo.{SessionNo}
 use Rattle.bng_ppp.specs.Claims.{claim_of}
 use Rattle.bng_sessions.specs.Sessions.{value_at}
 use Rattle.bng_steps.specs.declared.session.Session.{Session}
-use Rattle.bng_steps.specs.Made.{Question}
+use Rattle.bng_steps.specs.LinkService.{Question}
 use Rattle.bng_steps.specs.Questions.{asking_of, open_of, place_of}
 use Rattle.bng_steps.specs.Serving.{AreAsking}
 use Rattle.bng_steps.proofs.Waiting.{head_is, head_none, number_of_session, place_of_session, rest_waiting}

@@ -1,7 +1,7 @@
 use Rattle.std.proofs.Common.{ap, ◌∙◌, arith}
 use Rattle.bng_engine.specs.Lists.{one_if}
 use Rattle.bng_engine.specs.Views.{row_keys}
-use Rattle.bng_steps.specs.Running.{rows_in}
+use Rattle.bng_steps.specs.TermRows.{rows_in}
 use Rattle.bng_steps.proofs.Closing.{over_rows}
 use Rattle.bng_steps.proofs.RowSums.{same_rising}
 use Rattle.bng_steps.proofs.SameKeys.{same_length}

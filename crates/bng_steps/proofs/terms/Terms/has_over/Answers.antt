@@ -1,6 +1,6 @@
 use Rattle.std.proofs.Common.{filter, sym, ap, ◌∙◌, arith}
 use Rattle.std.proofs.lemmas.Bool.{ltb-false, ltb-true}
-use Rattle.bng_steps.specs.Running.{has_ended}
+use Rattle.bng_steps.specs.TermRows.{has_ended}
 use Rattle.bng_steps.proofs.Idle.{none_over_counted}
 use Rattle.bng_steps.proofs.RowOrder.{none_counted, none_ended}
 use Rattle.bng_steps.proofs.terms.Terms.has_over.Goals as goal

@@ -1,7 +1,7 @@
 use Rattle.std.proofs.Common.{ap, sym, ◌∙◌, arith}
 use Rattle.std.specs.List.{list_any}
 use Rattle.std.proofs.lemmas.Bool.{le-ltb}
-use Rattle.bng_steps.specs.Running.{tenures_in}
+use Rattle.bng_steps.specs.TermRows.{tenures_in}
 use Rattle.bng_steps.specs.Tenures.{has_kept}
 use Rattle.bng_steps.proofs.RowOrder.{none_counted, none_kept}
 use Rattle.bng_steps.proofs.terms.Terms.keeps.Goals as goal

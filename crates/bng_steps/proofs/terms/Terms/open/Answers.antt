@@ -3,7 +3,7 @@ use Rattle.bng_engine.specs.Terms.{keys}
 use Rattle.bng_engine.specs.Views.{new_row}
 use Rattle.bng_steps.specs.Opening.{in_order}
 use Rattle.bng_steps.specs.Protocol.{term_in}
-use Rattle.bng_steps.specs.Running.{AreRising}
+use Rattle.bng_steps.specs.TermRows.{AreRising}
 use Rattle.bng_steps.specs.Tenures.{Tenure}
 use Rattle.bng_steps.proofs.InCircuits.{circuits_live, circuits_rise}
 use Rattle.bng_steps.proofs.terms.Terms.open.Goals as goal

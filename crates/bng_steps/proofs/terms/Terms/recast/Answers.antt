@@ -1,6 +1,6 @@
 use Rattle.std.proofs.Common.{count_by, sym, ap, ◌∙◌, arith}
 use Rattle.bng_engine.specs.Views.{row_keys}
-use Rattle.bng_steps.specs.Running.{has_ended, rows_in}
+use Rattle.bng_steps.specs.TermRows.{has_ended, rows_in}
 use Rattle.bng_steps.proofs.Recasting.{recast_over, recast_rows}
 use Rattle.bng_steps.proofs.RowSums.{same_rising}
 use Rattle.bng_steps.proofs.SameKeys.{same_length}

@@ -1,6 +1,6 @@
 use Rattle.std.proofs.Common.{List, false, sym, ap, ◌∙◌, arith}
-use Rattle.bng_steps.specs.declared.terms.Running.{Running}
-use Rattle.bng_steps.specs.Running.{TermsView}
+use Rattle.bng_steps.specs.declared.terms.TermRow.{TermRow}
+use Rattle.bng_steps.specs.TermRows.{TermsView}
 use Rattle.bng_steps.proofs.RowOrder.{length_either, none_if, none_left, rising_either}
 use Rattle.bng_steps.proofs.terms.Terms.take_first_new.Goals as goal
 
@@ -21,5 +21,5 @@ returns-clause-none c =
     let inside = c.self.inside in
     none_if c.take_first.result _ (λ none. (
       sym (ap (λ v. v.news) c.self.view_is) ∙ none_left inside.news.items none.0,
-      ap (λ (ns : List Running). let v : TermsView = record { rows = inside.rows.items; news = ns; room = inside.room } in v) none.1 ∙ c.self.view_is,
+      ap (λ (ns : List TermRow). let v : TermsView = record { rows = inside.rows.items; news = ns; room = inside.room } in v) none.1 ∙ c.self.view_is,
     )) c.take_first.ensures.none

@@ -1,6 +1,6 @@
 use Rattle.std.proofs.Common.{List, true, refl, sym, ap, ◌∙◌, arith, filter}
-use Rattle.bng_steps.specs.declared.terms.Running.{Running}
-use Rattle.bng_steps.specs.Running.{TermsView, has_ended}
+use Rattle.bng_steps.specs.declared.terms.TermRow.{TermRow}
+use Rattle.bng_steps.specs.TermRows.{TermsView, has_ended}
 use Rattle.bng_steps.proofs.RowOrder.{ended_taken, if_none, length_taken, none_counted, none_ended, rising_taken}
 use Rattle.bng_steps.proofs.terms.Terms.take_first_over.Goals as goal
 
@@ -16,7 +16,7 @@ returns-in_err-row-clause-none c =
     let none = c.in_err-row.ensures.none in
     if_none c.from_residual.result _ (
       ap (λ v. filter has_ended v.rows) (sym c.self.view_is) ∙ none_ended inside.rows.items none.0,
-      ap (λ (rs : List Running). let v : TermsView = record { rows = rs; news = inside.news.items; room = inside.room } in v) none.1 ∙ c.self.view_is,
+      ap (λ (rs : List TermRow). let v : TermsView = record { rows = rs; news = inside.news.items; room = inside.room } in v) none.1 ∙ c.self.view_is,
     )
 
 pub invariant_of-self-2 : goal.invariant_of-self-2

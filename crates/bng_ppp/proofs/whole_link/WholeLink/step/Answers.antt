@@ -1,4 +1,0 @@
-use Rattle.bng_ppp.proofs.whole_link.WholeLink.step.Goals as goal
-
-pub go-term_ended-requires-clause-fresh : goal.go-term_ended-requires-clause-fresh
-go-term_ended-requires-clause-fresh c = c.clear.ensures c.args.self.now

@@ -1,6 +1,0 @@
-use Rattle.std.proofs.Common.{rules}
-use Rattle.bng_ppp.specs.Said.{said}
-use Rattle.bng_ppp.proofs.whole_link.WholeLink.tell_lcp_timer.Goals as goal
-
-pub returns-clause-steps : goal.returns-clause-steps
-returns-clause-steps c = record { says = said c.remind.new.steps; lcp = c.remind.new.self; steps = search rules; above = search rules }
