@@ -7,7 +7,7 @@ use crate::configure_reply::{Taken, left_out};
 use crate::configure_request::{IpcpOptions, SentIpcpRequest, asked};
 use bng_base::{Frame, HEADROOM, Ip4};
 use bng_ppp_wire::code::CONFIGURE_REQUEST;
-use bng_ppp_wire::{Packet, ConfigureReply, put_made, read_reply};
+use bng_ppp_wire::{ConfigureReply, Packet, put_made, read_reply};
 use std::marker::Model;
 
 /// The gateway's side of IPCP on one link: what its next Configure-Request asks for, and the last one that it sent.

@@ -12,7 +12,7 @@ use crate::option::{AUTHENTICATION_PROTOCOL, MAGIC_NUMBER, MAXIMUM_RECEIVE_UNIT}
 use arrayvec::ArrayVec;
 use bng_base::{AuthKind, Frame, HEADROOM};
 use bng_ppp_wire::code::CONFIGURE_REQUEST;
-use bng_ppp_wire::{Opt, Packet, ConfigureReply, names, put_made, read_reply};
+use bng_ppp_wire::{ConfigureReply, Opt, Packet, names, put_made, read_reply};
 use std::marker::Model;
 
 /// The gateway's side of LCP on one link: what its next Configure-Request asks for, and the last one that it sent.

@@ -8,8 +8,8 @@ ghost use Rattle.bng_auth.specs.Replying.{reply_of};
 ghost use Rattle.bng_ppp.specs.Said.{said};
 
 use crate::encapsulation::put_protocol;
-use crate::protocol_reject::protocol_of;
 use crate::lcp_outcome::LcpOutcome;
+use crate::protocol_reject::protocol_of;
 use bng_auth::{AuthStep, Chap, Pap, Reply};
 use bng_base::Frame;
 use bng_ppp_wire::{Packet, protocol};

@@ -61,7 +61,14 @@ impl LcpLink {
     }
 
     // An event whose actions answer a packet at most by a Terminate-Ack.
-    pub(crate) fn plainly(&mut self, event: Event, id: u8, echo: u16, now: u64, steps: &mut LcpOutcome)
+    pub(crate) fn plainly(
+        &mut self,
+        event: Event,
+        id: u8,
+        echo: u16,
+        now: u64,
+        steps: &mut LcpOutcome,
+    )
         requires moment { now < 2 ^ 60 }
         requires quiet { said steps.old ≡ says_nothing }
         ensures moves { Moves event (plain self.old.kept id) echo now self.old (said steps.new) self.new }
@@ -159,7 +166,14 @@ impl LcpLink {
     }
 
     // Does one action.
-    fn act(&mut self, action: Action, cause: &Cause<'_>, echo: u16, now: u64, steps: &mut LcpOutcome)
+    fn act(
+        &mut self,
+        action: Action,
+        cause: &Cause<'_>,
+        echo: u16,
+        now: u64,
+        steps: &mut LcpOutcome,
+    )
         requires moment { now < 2 ^ 60 }
         requires answer { AnswerFits cause.now.answer }
         requires mru { cause.now.mru ≤ 1500 }

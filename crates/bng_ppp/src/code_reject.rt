@@ -6,8 +6,8 @@ ghost use Rattle.bng_ppp.specs.Automaton.{answering, Moves};
 ghost use Rattle.bng_ppp.specs.CodeReject.{code_reject};
 
 use crate::lcp_link::LcpLink;
-use crate::maximum_receive_unit::{body_most, cut};
 use crate::lcp_outcome::LcpOutcome;
+use crate::maximum_receive_unit::{body_most, cut};
 use bng_automaton::Event;
 use bng_base::Frame;
 use bng_ppp_wire::Packet;

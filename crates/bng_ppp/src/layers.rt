@@ -8,10 +8,10 @@ ghost use Rattle.bng_ppp.specs.Room.{most_of};
 
 use crate::authentication::{Authentication, send_challenge};
 use crate::identifiers::next_id;
-use crate::rules::{LcpInput, LinkRules};
 use crate::link::Link;
-use crate::steps::Steps;
 use crate::link_timers::CHALLENGE_AFTER;
+use crate::rules::{LcpInput, LinkRules};
+use crate::steps::Steps;
 use bng_auth::{Chap, Pap};
 use bng_automaton::Event;
 use bng_base::AuthKind;

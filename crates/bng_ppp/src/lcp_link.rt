@@ -8,9 +8,9 @@ ghost use Rattle.bng_automaton.specs.Timer.{TimerIsOut};
 
 use crate::counters::{Kept, NAKS_MOST};
 use crate::identifiers::first;
+use crate::lcp_outcome::LcpOutcome;
 use crate::lower_layer::first_ask;
 use crate::rules::{LcpInput, LinkKind, LinkRules, limit};
-use crate::lcp_outcome::LcpOutcome;
 use crate::timers::earliest;
 use bng_automaton::{Automaton, Event, State};
 use bng_base::AuthKind;

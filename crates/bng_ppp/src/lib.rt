@@ -21,6 +21,7 @@ mod echo;
 mod encapsulation;
 mod frame;
 mod identifiers;
+mod input;
 mod ipcp;
 mod ipcp_automaton;
 mod ipcp_codes;
@@ -31,23 +32,23 @@ mod judgement;
 mod laws;
 mod layers;
 mod lcp_link;
+mod lcp_outcome;
+mod link;
+mod link_frame;
+mod link_timers;
 mod lower_layer;
 mod maximum_receive_unit;
 mod protocol_reject;
 mod rules;
-mod lcp_outcome;
+mod steps;
 mod terminate;
 mod timers;
 mod verdict;
-mod link_frame;
-mod input;
-mod link;
-mod steps;
-mod link_timers;
 
 pub use crate::authentication::Authentication;
 pub use crate::counters::{ECHOES_UNANSWERED_MOST, Kept, NAKS_MOST};
 pub use crate::identifiers::Identifiers;
+pub use crate::input::Input;
 pub use crate::ipcp_counters::IpcpKept;
 pub use crate::laws::{
     finished_links_are_down, frames_read_back, lcp_frames_read_back, lcp_has_one_outcome,
@@ -55,8 +56,7 @@ pub use crate::laws::{
     questions_stand_in_frames, steps_keep_phases, terms_last, yes_needs_a_verdict,
 };
 pub use crate::lcp_link::LcpLink;
-pub use crate::rules::{LcpInput, LinkKind, LinkRules};
 pub use crate::lcp_outcome::LcpOutcome;
-pub use crate::input::Input;
 pub use crate::link::Link;
+pub use crate::rules::{LcpInput, LinkKind, LinkRules};
 pub use crate::steps::Steps;

@@ -13,12 +13,12 @@ ghost use Rattle.bng_ppp.specs.LcpRelation.{earliest as first_of};
 ghost use Rattle.bng_ppp.specs.Echo.{EchoIsDue};
 
 use crate::authentication::Authentication;
+use crate::input::Input;
 use crate::ipcp::Ipcp;
 use crate::lcp_link::LcpLink;
 use crate::rules::{LcpInput, LinkKind, LinkRules};
-use crate::timers::earliest;
-use crate::input::Input;
 use crate::steps::Steps;
+use crate::timers::earliest;
 use bng_base::AuthKind;
 use std::marker::Model;
 

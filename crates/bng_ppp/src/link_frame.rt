@@ -9,8 +9,8 @@ ghost use Rattle.bng_ppp_wire.specs.View.{packet_of};
 
 use crate::authentication::send_reply;
 use crate::frame::{FrameKind, frame_at};
-use crate::rules::LinkRules;
 use crate::link::Link;
+use crate::rules::LinkRules;
 use crate::steps::{Steps, cause_of};
 use bng_auth::AuthStep;
 use bng_automaton::Event;
@@ -159,13 +159,7 @@ impl Link {
     }
 
     // A packet of IPCP.
-    fn hear_ipcp(
-        &mut self,
-        rules: &LinkRules,
-        packet: &Packet<'_>,
-        now: u64,
-        steps: &mut Steps,
-    )
+    fn hear_ipcp(&mut self, rules: &LinkRules, packet: &Packet<'_>, now: u64, steps: &mut Steps)
         requires moment { now < 2 ^ 60 }
         requires body { length packet.now.body.now ≤ 4090 }
         requires room { length steps.old.layer.outs.items ≤ 0 }

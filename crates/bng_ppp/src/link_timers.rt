@@ -10,8 +10,8 @@ ghost use Rattle.bng_ppp.specs.Room.{most_of};
 
 use crate::authentication::{Authentication, send_challenge};
 use crate::ipcp_automaton::IpcpCause;
-use crate::rules::LinkRules;
 use crate::link::Link;
+use crate::rules::LinkRules;
 use crate::steps::{Steps, cause_of};
 use bng_automaton::Event;
 
@@ -63,13 +63,7 @@ impl Link {
     }
 
     // The timers above LCP: authentication's, else IPCP's restart timer.
-    fn remind_above(
-        &mut self,
-        rules: &LinkRules,
-        now: u64,
-        random: &[u8; 16],
-        steps: &mut Steps,
-    )
+    fn remind_above(&mut self, rules: &LinkRules, now: u64, random: &[u8; 16], steps: &mut Steps)
         requires moment { now < 2 ^ 60 }
         requires room { length steps.old.layer.outs.items ≤ 2 }
         ensures { AboveReminds rules.now now random.now (turn_of self.old steps.old) (turn_of self.new steps.new) }
@@ -92,13 +86,7 @@ impl Link {
     }
 
     // The Challenge goes out again, or LCP does Close.
-    fn remind_auth(
-        &mut self,
-        rules: &LinkRules,
-        now: u64,
-        random: &[u8; 16],
-        steps: &mut Steps,
-    )
+    fn remind_auth(&mut self, rules: &LinkRules, now: u64, random: &[u8; 16], steps: &mut Steps)
         requires moment { now < 2 ^ 60 }
         requires due { AuthIsDue self.old now }
         requires room { length steps.old.layer.outs.items ≤ 2 }
@@ -117,13 +105,7 @@ impl Link {
     }
 
     // LCP's timers, and what they are to the layers above.
-    fn tell_lcp_timer(
-        &mut self,
-        rules: &LinkRules,
-        now: u64,
-        random: &[u8; 16],
-        steps: &mut Steps,
-    )
+    fn tell_lcp_timer(&mut self, rules: &LinkRules, now: u64, random: &[u8; 16], steps: &mut Steps)
         requires moment { now < 2 ^ 60 }
         requires fresh { IsFresh self.old steps.old }
         ensures steps { LcpSteps rules.now (lcp_told rules.now input.Timer now random.now) now random.now self.old (turn_of self.new steps.new) }

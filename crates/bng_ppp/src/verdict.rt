@@ -5,8 +5,8 @@ ghost use Rattle.bng_ppp.specs.LinkState.{is_open as open_in};
 ghost use Rattle.bng_ppp.specs.LinkStep.{turn_of, IsFresh};
 
 use crate::authentication::send_reply;
-use crate::rules::LinkRules;
 use crate::link::Link;
+use crate::rules::LinkRules;
 use crate::steps::Steps;
 use bng_automaton::Event;
 use bng_base::Ip4;

@@ -41,7 +41,9 @@ pub fn read_reply<'a>(id: u8, asked: &[MadeOpt], packet: &Packet<'a>) -> Configu
     match packet.code {
         CONFIGURE_ACK if is_acked(asked, packet.body) => ConfigureReply::Ack,
         CONFIGURE_NAK => ConfigureReply::Nak(found),
-        CONFIGURE_REJECT if is_part(asked, found.as_slice(), packet.body) => ConfigureReply::Reject(found),
+        CONFIGURE_REJECT if is_part(asked, found.as_slice(), packet.body) => ConfigureReply::Reject(
+            found,
+        ),
         _ => ConfigureReply::Other,
     }
 }

@@ -65,7 +65,11 @@ fn first_class<'a>(rows: &[OptionRow], no_more_naks: bool, request: &[Opt<'a>]) 
 }
 
 // The options of a Configure-Reject.
-fn rejected<'a>(rows: &[OptionRow], no_more_naks: bool, request: &[Opt<'a>]) -> ArrayVec<Opt<'a>, 64>
+fn rejected<'a>(
+    rows: &[OptionRow],
+    no_more_naks: bool,
+    request: &[Opt<'a>],
+) -> ArrayVec<Opt<'a>, 64>
     requires { length request.now ≤ 64 }
     ensures { options_of result.items ≡ all_rejected rows.now no_more_naks (options_of request.now) }
 {
