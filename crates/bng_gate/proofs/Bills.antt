@@ -342,16 +342,20 @@ begun_by helds = flat_map (λ (h : Held). begun_in h.round) helds
 -- The bills of the terms that these turns began, and what their records say.
 pub record RunBills (bills : List Bill) (helds : List Held) (formed : List FormedRecord) : Type 0 where
   pub more : List Bill
+  pub are : more ≡ flat_map (λ (h : Held). new_bills h.desk.shards h.round) helds
+  pub owed : AllByRecursion (λ (h : Held). OweNone h.desk.shards) helds
   pub keys : Same (map (λ (b : Bill). b.key) more) (begun_by helds)
   pub say : AllByRecursion (SaysBill (bills ++ more)) formed
 
-then_bills : (d d' : Desk) (h : Held) (helds : List Held) (here rest : List FormedRecord) (bills : List Bill) → (now : TurnBills d h.round here bills d') → RunBills (bills ++ new_bills d.shards h.round) helds rest → RunBills bills (h ∷ helds) (here ++ rest)
-then_bills d d' h helds here rest bills now later =
+then_bills : (d d' : Desk) (h : Held) (helds : List Held) (here rest : List FormedRecord) (bills : List Bill) → h.desk ≡ d → HasBills d bills → (now : TurnBills d h.round here bills d') → RunBills (bills ++ new_bills d.shards h.round) helds rest → RunBills bills (h ∷ helds) (here ++ rest)
+then_bills d d' h helds here rest bills is has now later =
     let new = new_bills d.shards h.round in
     let all = bills ++ (new ++ later.more) in
     let same : (bills ++ new) ++ later.more ≡ all = append_assoc bills new later.more in
     record {
       more = new ++ later.more;
+      are = ap (λ (x : Desk). new_bills x.shards h.round ++ later.more) (sym is) ∙ ap (λ (bs : List Bill). new_bills h.desk.shards h.round ++ bs) later.are;
+      owed = (subst (λ (x : Desk). OweNone x.shards) (sym is) has.none, later.owed);
       keys = λ f. omega (
         arith,
         now.keys f,
@@ -367,11 +371,11 @@ then_bills d d' h helds here rest bills now later =
 
 endings_bills : (d d' : Desk) (endings : List MadeEnd) (bills : List Bill) → EndRun d endings d' → HasBills d bills
     → RunBills bills (map (λ m. record { desk = m.desk; items = items_of_end m.desk m.turn; round = round_of_end m.turn }) endings) (flat_map (λ m. end_formed_in m.turn) endings)
-endings_bills d d' [] bills goes h = record { more = []; keys = λ f. refl; say = tt }
+endings_bills d d' [] bills goes h = record { more = []; are = refl; owed = tt; keys = λ f. refl; say = tt }
 endings_bills d d' (m ∷ endings) bills goes h =
     let now = end_bills d goes.0 m.turn bills goes.1.1 h in
     then_bills d goes.0 (record { desk = m.desk; items = items_of_end m.desk m.turn; round = round_of_end m.turn })
-    (map (λ (x : MadeEnd). record { desk = x.desk; items = items_of_end x.desk x.turn; round = round_of_end x.turn }) endings) (end_formed_in m.turn) (flat_map (λ (x : MadeEnd). end_formed_in x.turn) endings) bills now
+    (map (λ (x : MadeEnd). record { desk = x.desk; items = items_of_end x.desk x.turn; round = round_of_end x.turn }) endings) (end_formed_in m.turn) (flat_map (λ (x : MadeEnd). end_formed_in x.turn) endings) bills goes.1.0 h now
     (endings_bills goes.0 d' endings (bills ++ new_bills d.shards (round_of_end m.turn)) goes.2 now.has)
 
 pub run_bills : (d over d' : Desk) (turns : List Made) (endings : List MadeEnd) (bills : List Bill) → Run d turns over → EndRun over endings d' → HasBills d bills → RunBills bills (held_of turns endings) (formed_of turns endings)
@@ -382,7 +386,7 @@ run_bills d over d' (m ∷ turns) endings bills goes ending h =
     let now = turn_bills d goes.0 m.turn bills goes.1.1 h in
     let rest = formed_of turns endings in
     let later = run_bills goes.0 over d' turns endings (bills ++ new_bills d.shards (round_of_turn m.turn)) goes.2 ending now.has in
-    let all = then_bills d goes.0 (record { desk = m.desk; items = items_of_turn m.desk m.turn; round = round_of_turn m.turn }) (held_of turns endings) (formed_in m.turn) rest bills now later in
+    let all = then_bills d goes.0 (record { desk = m.desk; items = items_of_turn m.desk m.turn; round = round_of_turn m.turn }) (held_of turns endings) (formed_in m.turn) rest bills goes.1.0 h now later in
     subst (RunBills bills (held_of (m ∷ turns) endings)) (sym (append_assoc (formed_in m.turn) (flat_map (λ (x : Made). formed_in x.turn) turns) (flat_map (λ (x : MadeEnd). end_formed_in x.turn) endings))) all
 
 -- The opening -------------------------------------------------------------------------------------------------------------------------

@@ -44,6 +44,7 @@ use Rattle.bng_radius_wire.specs.Attributes.{Field}
 use Rattle.bng_steps.specs.Protocol.{Handled, ShardState}
 use Rattle.bng_steps.specs.Tenures.{Tenure}
 use Rattle.bng_gate.specs.Billed.{AreBilled, Bill, IsOfBill, IsOtherRequest, IsRequestFor, IsStopOrOther, TellsStop}
+use Rattle.bng_gate.specs.LetIn.{IsOwed}
 use Rattle.bng_gate.specs.Recorded.{Recorded, SayRounds, SaysStart, SaysStop, again_calls, calls_in, calls_of, end_calls_in, end_formed_in, formed_call, formed_in, formed_of, given_calls, heard_call, request_calls, sent_by_calls, sent_for, sent_to, stopped_if}
 use Rattle.bng_gate.specs.Reported.{IsInterimIn, ReportsLive}
 use Rattle.bng_gate.specs.Rounds.{on_acct, rounds_of}
@@ -555,7 +556,7 @@ module _ (rules : BillingRules) (bills : List Bill) (reports starts formed : Lis
 
 module _ (config : Config) (wall : ℕ) (starts : List FormedRecord) (turns : List Made) (endings : List MadeEnd) (last : Desk) (taken sent : List Datagram) (recorded : Recorded config wall starts turns endings last taken sent)
     (begin : AllByRecursion (λ (f : FormedRecord). f.status ≡ Start) starts) (before after : History ShardState) (live : Chain ReportsLive before (zip (rounds_of turns endings) recorded.interims) after)
-    (terms : List Key) (bills : List Bill) (each_once : Same (map (λ (b : Bill). b.key) bills) terms) (say : AllByRecursion (SaysBill bills) (starts ++ formed_of turns endings)) where
+    (terms : List Key) (bills : List Bill) (each_once : Same (map (λ (b : Bill). b.key) bills) terms) (say : AllByRecursion (SaysBill bills) (starts ++ formed_of turns endings)) (owed : AllByRecursion (λ (b : Bill). IsOwed config taken sent b.key b.user b.class) bills) where
   abbrev rules : BillingRules
   rules = billing_rules config wall
 
@@ -604,10 +605,11 @@ module _ (config : Config) (wall : ℕ) (starts : List FormedRecord) (turns : Li
       (any_weaker (λ d. d.octets ≡ went.0) (λ d. IsRequestFor rules d.octets (report_of f)) (λ d e. subst (λ (o : List ℕ). IsRequestFor rules o (report_of f)) (sym e) is)
       (sent_by_calls config.acct_server calls) (sent_has config.acct_server calls went.0 went.1))
 
-  pub are_billed : (status : ℕ) → AllPairs (λ (s t : Stop). session_id wall s.key.term ≡ session_id wall t.key.term → ⊥) stops → (status ≡ 0 → StopsAreAcknowledged calls) → AreBilled config wall status terms sent stops
+  pub are_billed : (status : ℕ) → AllPairs (λ (s t : Stop). session_id wall s.key.term ≡ session_id wall t.key.term → ⊥) stops → (status ≡ 0 → StopsAreAcknowledged calls) → AreBilled config wall status terms taken sent stops
   are_billed status apart acks = record {
     bills = bills;
     one_bill_each = each_once;
+    owed = All-from_recursion (λ (b : Bill). IsOwed config taken sent b.key b.user b.class) bills owed;
     reports = map report_of kinds.reports;
     one_report_each = reports_tell stops kinds.reports kinds.tell;
     bill_of_each = All-from_recursion (λ (r : Record). AnyOf (IsOfBill r.facts) bills) (map report_of kinds.reports)

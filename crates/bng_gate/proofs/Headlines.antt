@@ -1,6 +1,6 @@
 -- The headline of a run, from its turns.
-use Rattle.std.proofs.Common.{◌≡◌, ◌≤◌, ◌+◌, ◌⊎◌, inl, inr, ℕ, Bool, List, [], ◌∷◌, length, map, Option, refl, sym, ap, subst, ◌∙◌, append-nil, arith}
-use Rattle.std.specs.Prelude.{◌↔◌, sum, zip}
+use Rattle.std.proofs.Common.{◌≡◌, ◌≤◌, ◌+◌, ◌⊎◌, ◌++◌, inl, inr, ℕ, Bool, List, [], ◌∷◌, length, map, Option, Some, refl, sym, ap, subst, ◌∙◌, append-nil, arith}
+use Rattle.std.specs.Prelude.{◌↔◌, slice_get, sum, zip}
 use Rattle.std.specs.List.{AllByRecursion, AllPairs, AllZip, Contains, flat_map, range_with_len, sum_by}
 use Rattle.std.proofs.lemmas.List.{map-append}
 use Rattle.std.proofs.lemmas.List.Sums.{sum_by-append}
@@ -41,7 +41,7 @@ use Rattle.bng_desk.specs.Counting.{by_number}
 use Rattle.bng_desk.specs.Model.{Desk, all_stopped as all_say, by_profile, carried_on, all_carried, line_after, live_of, live_terms, plus_book, state_of, sums_of, total_of, traffic_by, keys_in}
 use Rattle.bng_desk.specs.Opening.{billing_rules, coa_of, line_of, opened_shards}
 use Rattle.bng_desk.specs.Report.{report_text}
-use Rattle.bng_desk.specs.Round.{terms_in, view_of, views_of}
+use Rattle.bng_desk.specs.Round.{Round, handled_states, news_in, terms_in, view_of, views_of}
 use Rattle.bng_desk.specs.Taking.{states_of}
 use Rattle.bng_gate.specs.Billed.{Bill}
 use Rattle.bng_gate.specs.Changed.{AreAnswered, coa_calls_of}
@@ -51,6 +51,7 @@ use Rattle.bng_gate.specs.Exact.{StopsAccount}
 use Rattle.bng_gate.specs.Exercise.{Exercised, IsPlayed, Prints, exercise_seed, exercise_text, line_by, line_over, peers_beside, records_told}
 use Rattle.bng_gate.specs.Granted.{Granted, Held, Stage, held_of, stages_of}
 use Rattle.bng_gate.specs.Headline.{AreStopped, HaveTerms, calls_in_run, circuit_keys, Headline, AddsUpTo, IsSafe, IsQuiet, WasSafe, all_profile_traffic, all_terms_of, all_traffic, terms_of_run, total_in}
+use Rattle.bng_gate.specs.LetIn.{IsOwed}
 use Rattle.bng_gate.specs.Promise.{IsAddressedIn, IsExclusive, IsPassedOnIn, Passes, Promise, Span}
 use Rattle.bng_gate.specs.Recorded.{Recorded, formed_of}
 use Rattle.bng_gate.specs.Replied.{AreReplied}
@@ -63,6 +64,7 @@ use Rattle.bng_gate.proofs.AddressedLive.{live_addressed, new_live}
 use Rattle.bng_gate.proofs.Addressing.{all_addressed}
 use Rattle.bng_gate.proofs.Agreed.{agreed}
 use Rattle.bng_gate.proofs.Apart.{HaveOwnIds, run_apart}
+use Rattle.bng_gate.proofs.Begun.{BeganOf}
 use Rattle.bng_gate.proofs.Bills.{RunBills, SaysBill, bills_at, opened_has, opened_keys, opening_says, run_bills}
 use Rattle.bng_gate.proofs.Drops.{all_dropped}
 use Rattle.bng_gate.proofs.Exercising.{keeps_rules}
@@ -78,6 +80,7 @@ use Rattle.bng_gate.proofs.LoginsGranted.{logins_granted}
 use Rattle.bng_gate.proofs.Numbers.{AreFew, few_shown, opened_few, run_few_terms}
 use Rattle.bng_gate.proofs.Openings.{opens}
 use Rattle.bng_gate.proofs.Owning.{sends_ours}
+use Rattle.bng_gate.proofs.Owed.{begun_good, opened_good}
 use Rattle.bng_gate.proofs.Passing.{IsKnown}
 use Rattle.bng_gate.proofs.Promised.{AreSpans, Leads, all_of_stages, all_pass, all_passed_on, begun_in_spans, none_live as none_left_live, opened_live, run_spans, run_stops, spans_of}
 use Rattle.bng_gate.proofs.Recording.{Said, all_said, recorded_of}
@@ -215,10 +218,15 @@ module _ (config : Config) (rules : KeepsRules config) (most : ℕ) (seed : List
   drops : course.last.drops.counts ≡ by_number (drops_of_run course.turns course.endings)
   drops = all_dropped course.opening course.over course.last course.turns course.endings (ap (λ (d : Desk). d.drops) course.begins.is_opened.desk) course.run course.ending
 
-  granted : Granted config seed course.turns course.endings
-  granted =
+  logged_in : (g : Granted config seed course.turns course.endings)
+      × ((k : ℕ) (turn : Held) (round : Round) → slice_get (held_of course.turns course.endings) k ≡ Some turn → turn.round ≡ Some round
+      → ((p : ℕ) (v : ShardView ShardState Entry) → slice_get turn.desk.shards p ≡ Some v → v.state.slots.news ≡ []) → AllByRecursion (BeganOf (held_of course.turns course.endings) g.logins k) (news_in (handled_states turn.desk.shards round.shards)))
+  logged_in =
       logins_granted config most seed course.begins.bound.now course.begins.bound.wall course.opening course.over course.last course.turns course.endings rules course.begins.is_opened course.run course.ending
       course.few_turns course.few_endings
+
+  granted : Granted config seed course.turns course.endings
+  granted = logged_in.0
 
   replied : AreReplied config seed course.turns
   replied = replies_of config most seed course.begins.bound.now course.begins.bound.wall course.opening course.over course.turns course.begins.is_opened course.run
@@ -414,6 +422,17 @@ module _ (config : Config) (rules : KeepsRules config) (most : ℕ) (seed : List
         all_append (SaysBill bills) course.begins.is_opened.starts (formed_of course.turns course.endings)
         (opening_says config r now course.begins.bound.wall (keys_in (opened_shards config r now)) course.begins.is_opened.starts billing.more course.begins.is_opened.are_starts) billing.say
 
+    -- and is a circuit's, or a subscriber's whom the server let in
+    bills_owed : AllByRecursion (λ (b : Bill). IsOwed config (plant_of course.turns course.endings).taken sent b.key b.user b.class) bills
+    bills_owed =
+        let P = λ (b : Bill). IsOwed config (plant_of course.turns course.endings).taken sent b.key b.user b.class in
+        let helds = held_of course.turns course.endings in
+        all_append P first_bills billing.more (opened_good config (plant_of course.turns course.endings).taken sent r now)
+        (subst (AllByRecursion P) (sym billing.are)
+        (begun_good config seed (stages_of course.turns course.endings) helds (plant_of course.turns course.endings).taken sent
+        (stages_heard course.opening course.over course.turns course.endings course.run) (stages_sent course.turns course.endings)
+        logged_in.0.logins logged_in.0.right billing.owed logged_in.1))
+
     -- no two Stops have one Acct-Session-Id
     apart : AllPairs (HaveOwnIds course.begins.bound.wall) (stops_of rounds)
     apart =
@@ -442,7 +461,7 @@ module _ (config : Config) (rules : KeepsRules config) (most : ℕ) (seed : List
           are_billed config course.begins.bound.wall course.begins.is_opened.starts course.turns course.endings course.last (plant_of course.turns course.endings).taken sent recorded.0
           (opening_starts (terms_in (states_of (opened_shards config r now))) now course.begins.bound.wall (keys_in (opened_shards config r now)) course.begins.is_opened.starts course.begins.is_opened.are_starts)
           (nothing_yet start) goes.history (subst (λ (is : List (List FormedRecord)). Chain ReportsLive (nothing_yet start) (zip rounds is) goes.history) (sym recorded.1) goes.live)
-          (circuit_keys config ++ flat_map (λ (s : Span). s.begun) spans) bills once_billed all_say_bills status apart (λ zero. answered.0 (none zero));
+          (circuit_keys config ++ flat_map (λ (s : Span). s.begun) spans) bills once_billed all_say_bills bills_owed status apart (λ zero. answered.0 (none zero));
       one_stop_each = λ f. ap (λ (ss : List Stop). sum_by f (stopped_keys ss)) all_stops_are ∙ ap (sum_by f) (sym (append-nil (stopped_keys (flat_map (λ (s : Span). s.stops) spans)))) ∙ all_pass (circuit_keys config) [] spans passes f;
       passed_on = All-from_recursion (IsPassedOnIn config) spans (all_passed_on config (stages_of course.turns course.endings) (held_of course.turns course.endings) invented_in_stages);
     }

@@ -59,6 +59,8 @@ pub mod Recording
 pub mod Ids
 pub mod Numbers
 pub mod Bills
+pub mod Classing
+pub mod Owed
 pub mod Delivered
 pub mod Apart
 pub mod Addressing

@@ -13,6 +13,7 @@ use Rattle.bng_config.specs.declared.config.Config.{Config}
 use Rattle.bng_desk.specs.Opening.{billing_rules}
 use Rattle.bng_engine.specs.Lists.{AnyOf}
 use Rattle.bng_engine.specs.Terms.{Key, Stop}
+use Rattle.bng_gate.specs.LetIn.{IsOwed}
 use Rattle.bng_gate.specs.Rounds.{on_acct}
 
 -- What all records of a term say alike: its key, its User-Name (RFC 2865 section 5.1), the octets of its Class attributes (section 5.25), and
@@ -57,13 +58,14 @@ pub record IsOtherRequest (rules : BillingRules) (bills : List Bill) (octets : L
 abbrev pub IsStopOrOther : BillingRules → List Bill → List Record → Datagram → Type 0
 IsStopOrOther rules bills reports d = IsOtherRequest rules bills d.octets ⊎ AnyOf (IsRequestFor rules d.octets) reports
 
--- Each of these terms has one bill. Each Stop has one record, with a bill, and no two have one Acct-Session-Id. Whatever was sent for
+-- Each of these terms has one bill, which is a circuit's, or that of a subscriber whom the server let in. Each Stop has one record, with a bill, and no two have one Acct-Session-Id. Whatever was sent for
 -- accounting went to the configured server, and is the Accounting-Request of one of these records, or of a Start or an Interim with one of
 -- the bills: so a Stop says what its Start said, and what is sent again under an Acct-Session-Id is the same record. With status 0 that of
 -- each Stop was sent. `wall` is the second of the clock at which the run began, which Acct-Session-Ids tell.
-pub record AreBilled (config : Config) (wall status : ℕ) (terms : List Key) (sent : List Datagram) (stops : List Stop) : Type 0 where
+pub record AreBilled (config : Config) (wall status : ℕ) (terms : List Key) (taken sent : List Datagram) (stops : List Stop) : Type 0 where
   pub bills : List Bill
   pub one_bill_each : Same (map (λ (b : Bill). b.key) bills) terms
+  pub owed : All (λ (b : Bill). IsOwed config taken sent b.key b.user b.class) bills
   pub reports : List Record
   pub one_report_each : AllZip TellsStop stops reports
   pub bill_of_each : All (λ (r : Record). AnyOf (IsOfBill r.facts) bills) reports

@@ -63,6 +63,6 @@ pub record Promise (config : Config) (wall status : ℕ) (circuits : List Key) (
   pub one_stop_each : Same (stopped_keys stops) (circuits ++ flat_map (λ s. s.begun) spans)
   -- The server is told them: each Stop under an Acct-Session-Id of its own, by an Accounting-Request that was sent, where the server
   -- acknowledged all (status 0), with what the term's Start said, and nothing else as one.
-  pub billed : AreBilled config wall status (circuits ++ flat_map (λ s. s.begun) spans) sent stops
+  pub billed : AreBilled config wall status (circuits ++ flat_map (λ s. s.begun) spans) taken sent stops
   -- What was sent is what was taken: a subscriber gets its own packets, and nobody else's.
   pub passed_on : All (IsPassedOnIn config) spans
