@@ -57,7 +57,7 @@ shard_few v w moves =
       arith,
       ap (λ (s : ShardState). s.slots.begun) moves.state,
       numbered_count v.state.slots.begun begins.began end.slots.begun begins.numbered,
-      length-map begins.began (λ (k : Key). k.lease.0),
+      length-map begins.began (λ (k : Key). k.address.0),
       ap length begins.leases,
       run_few pppoe pppoe_laws w.allowance 0 v.state w.journal moves.steps moves.limits (omega arith),
     )
