@@ -420,5 +420,5 @@ module _ (r : Rules) (s : State) (limited : Bool) (d : Deed) where
   step_same h low n a b was old is same =
       elim (step_last r s limited d h low n b is) [
         | inl before ↦ same_some b a (sym before ∙ was)
-        | inr new ↦ let ask = ap (λ q. q.number) same in absurd (omega (arith, new.0, ask, old))
+        | inr new ↦ let ask = ap (λ q. q.ask) same in absurd (omega (arith, new.0, ask, old))
       ]

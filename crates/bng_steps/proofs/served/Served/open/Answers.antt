@@ -104,4 +104,4 @@ returns g c =
     let opens = subst (λ (k : ℕ). Opens c.args.now c.args.number c.args.circuits.now k (g.S.Store.sessions c.loop-n.sessions) c.loop-n.begun) all c.loop-n.invariant in
     let zeros : c.in_ok-passed.passed.items ≡ none_passed = c.in_ok-passed.ensures.items_if_clones_equal (λ y same. same) ∙ ap (λ (n : ℕ). replicate n 0) c.from.ensures in
     let opened = opened_is c.args.now c.args.number c.args.circuits.now (g.S.Store.sessions c.loop-n.sessions) c.loop-n.begun opens c.args.profiles.now c.requires.own in
-    record { opened = λ i. record { sessions = (opened i).sessions; begun = (opened i).begun; question_count = (opened i).asked; terms = []; news = (opened i).news; passed = zeros i; meters = c.in_ok-meters.ensures i; tunnels = c.in_ok-tunnels.ensures i } }
+    record { opened = λ i. record { sessions = (opened i).sessions; begun = (opened i).begun; question_count = (opened i).question_count; terms = []; news = (opened i).news; passed = zeros i; meters = c.in_ok-meters.ensures i; tunnels = c.in_ok-tunnels.ensures i } }
