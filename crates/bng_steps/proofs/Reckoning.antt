@@ -22,6 +22,8 @@ use Rattle.bng_radius_wire.specs.Grammar.{Packet}
 use Rattle.bng_base.specs.declared.book.Profile.{Profile}
 use Rattle.bng_base.specs.declared.settings.Static.{Static}
 use Rattle.bng_sessions.specs.Listed.{values}
+use Rattle.bng_term.specs.Lifetimes.{Life, leased as begun_with}
+use Rattle.bng_steps.specs.Limited.{no_limits}
 use Rattle.bng_steps.specs.Opening.{in_order, lease_from, numbered_after, opened_slots}
 use Rattle.bng_steps.proofs.InOrder.{apart_of, opened_entries}
 use Rattle.bng_steps.proofs.Silent.{none_at_opening}
@@ -309,19 +311,32 @@ settled_reckons moment s h = record { passed = h.passed; knows = λ n x l at lea
 
 -- The opening --------------------------------------------------------------------------------------------------------------
 
--- a circuit's term knows of no packet
-fresh_circuit : (now k : ℕ) (cs : List Static) (x : Session) → Contains (map (λ e. e.1) (numbered_after now k cs)) x → (l : Lease) → x.lease ≡ Some l → l.life.idle_from ≡ l.life.began
-fresh_circuit now k [] x (i, within, is) l leased = absurd (omega (arith, within))
-fresh_circuit now k (c ∷ cs) x (zero, within, is) l leased =
-    let one : lease_from now c (k + 1) ≡ l = same_some (lease_from now c (k + 1)) l (ap (λ (y : Session). y.lease) is ∙ leased) in
-    sym (ap (λ (j : Lease). j.life.idle_from) one) ∙ ap (λ (j : Lease). j.life.began) one
-fresh_circuit now k (c ∷ cs) x (suc i, within, is) l leased = fresh_circuit now (k + 1) cs x (i, omega (arith, within), is) l leased
+-- a circuit's term has no limits, and knows of no packet
+fresh_circuit : (now k : ℕ) (cs : List Static) (x : Session) → Contains (map (λ e. e.1) (numbered_after now k cs)) x → (l : Lease) → x.lease ≡ Some l → l.life ≡ begun_with no_limits now
+fresh_circuit now k [] x (i, within, is) l given = absurd (omega (arith, within))
+fresh_circuit now k (c ∷ cs) x (zero, within, is) l given = sym (ap (λ (j : Lease). j.life) (same_some (lease_from now c (k + 1)) l (ap (λ (y : Session). y.lease) is ∙ given)))
+fresh_circuit now k (c ∷ cs) x (suc i, within, is) l given = fresh_circuit now (k + 1) cs x (i, omega (arith, within), is) l given
 
-pub opened_reckons : (number : ℕ) (profiles : List Profile) (circuits : List Static) (now : ℕ) → AllPairs (λ a b. a.session ≢ b.session) circuits → Reckons now (opened_slots number profiles circuits now)
-opened_reckons number profiles circuits now apart =
+opened_life : (number : ℕ) (profiles : List Profile) (circuits : List Static) (now : ℕ) → AllPairs (λ a b. a.session ≢ b.session) circuits → (n : ℕ) (x : Session) (l : Lease)
+    → value_at (opened_slots number profiles circuits now).sessions n ≡ Some x → x.lease ≡ Some l → l.life ≡ begun_with no_limits now
+opened_life number profiles circuits now apart n x l at given =
     let s = opened_slots number profiles circuits now in
     let are : values s.sessions ≡ map (λ e. e.1) (numbered_after now 0 (in_order number circuits)) = ap (λ es. map (λ e. e.1) es) (opened_entries number circuits now (apart_of circuits apart)) in
-    record {
-      passed = λ n. let is = none_at_opening number profiles circuits now n in omega (arith, is);
-      knows = λ n x l at leased. let fresh = fresh_circuit now 0 (in_order number circuits) x (subst (λ (xs : List Session). Contains xs x) are (stands s.sessions n x at)) l leased in omega (arith, fresh);
-    }
+    fresh_circuit now 0 (in_order number circuits) x (subst (λ (xs : List Session). Contains xs x) are (stands s.sessions n x at)) l given
+
+pub opened_limits : (number : ℕ) (profiles : List Profile) (circuits : List Static) (now : ℕ) → AllPairs (λ a b. a.session ≢ b.session) circuits → (n : ℕ) (x : Session) (l : Lease)
+    → value_at (opened_slots number profiles circuits now).sessions n ≡ Some x → x.lease ≡ Some l
+    → (l.life.began ≡ now) × (l.life.limits.session_timeout ≡ 0) × (l.life.limits.idle_timeout ≡ 0) × (l.life.limits.interim ≡ None)
+opened_limits number profiles circuits now apart n x l at given =
+    let is = opened_life number profiles circuits now apart n x l at given in
+    (ap (λ (j : Life). j.began) is, ap (λ (j : Life). j.limits.session_timeout) is, ap (λ (j : Life). j.limits.idle_timeout) is, ap (λ (j : Life). j.limits.interim) is)
+
+pub opened_reckons : (number : ℕ) (profiles : List Profile) (circuits : List Static) (now : ℕ) → AllPairs (λ a b. a.session ≢ b.session) circuits → Reckons now (opened_slots number profiles circuits now)
+opened_reckons number profiles circuits now apart = record {
+  passed = λ n. let is = none_at_opening number profiles circuits now n in omega (arith, is);
+  knows = λ n x l at given.
+      let is = opened_life number profiles circuits now apart n x l at given in
+      let idle : l.life.idle_from ≡ now = ap (λ (j : Life). j.idle_from) is in
+      let began : l.life.began ≡ now = ap (λ (j : Life). j.began) is in
+      omega (arith, idle, began);
+}

@@ -57,9 +57,13 @@ pub fn moments_are_of_packets()
 {}
 
 /// The limits of a live term, and the moment from which they count, are those of before the step; or the step's entry is a CoA-Request that
-/// changes those that it names; or the Access-Accept that begins the term, which then counts from that entry.
+/// changes those that it names; or the Access-Accept that begins the term, which then counts from that entry. A circuit's term has
+/// no limits at the opening, and counts from then.
 pub fn limits_are_told()
-    ensures { (r : Rules) (s : State) (limited : Bool) (d : Deed) (n : ℕ) (x : Session) (l : Lease) → Step r s limited d → value_at d.next.sessions n ≡ Some x → x.lease ≡ Some l → IsLimitedBy r s d n l }
+    ensures told { (r : Rules) (s : State) (limited : Bool) (d : Deed) (n : ℕ) (x : Session) (l : Lease) → Step r s limited d → value_at d.next.sessions n ≡ Some x → x.lease ≡ Some l → IsLimitedBy r s d n l }
+    ensures opened { (number : ℕ) (profiles : List Profile) (circuits : List Static) (now : ℕ) → AllPairs (λ a b. a.session ≢ b.session) circuits → (n : ℕ) (x : Session) (l : Lease)
+        → value_at (opened_slots number profiles circuits now).sessions n ≡ Some x → x.lease ≡ Some l
+        → (l.life.began ≡ now) × (l.life.limits.session_timeout ≡ 0) × (l.life.limits.idle_timeout ≡ 0) × (l.life.limits.interim ≡ None) }
 {}
 
 /// No live term knows of a later packet than its session's last, which is no later than the shard's last entry. It is so at the opening, and from
@@ -72,7 +76,8 @@ pub fn terms_know_of_no_later_packet()
 
 /// A Tick ends a live term by Idle Timeout (4) only where it was silent for its Idle-Timeout, and by Session Timeout (5) only where it has
 /// lasted for its Session-Timeout and was not so silent (RFC 2865 sections 5.27 and 5.28, RFC 2866 section 5.10). No other entry ends
-/// one so. Where no session is due, no live term has lasted so long, and none was so silent. What these are by the journal `limits_are_told` and `moments_are_of_packets` say.
+/// one so. Where no session is due, no live term has lasted so long, and none was so silent. What these are by the journal `limits_are_told`
+/// and `moments_are_of_packets` say.
 pub fn ticks_end_what_is_over()
     ensures idle { (r : Rules) (s : State) (limited : Bool) (d : Deed) (t : Tenure) → Step r s limited d → d.entry.item.kind ≡ Tick → Contains d.next.terms t → t.cause ≡ Some 4 → Contains s.terms t ⊎ IsSilent s d.entry.moment t.term.serial }
     ensures session { (r : Rules) (s : State) (limited : Bool) (d : Deed) (t : Tenure) → Step r s limited d → d.entry.item.kind ≡ Tick → Contains d.next.terms t → t.cause ≡ Some 5 → Contains s.terms t ⊎ IsOld s d.entry.moment t.term.serial }
