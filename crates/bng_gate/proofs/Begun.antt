@@ -6,6 +6,7 @@ use Rattle.std.specs.Option.{option_map}
 use Rattle.std.proofs.lemmas.List.{append_assoc}
 use Rattle.std.proofs.lemmas.List.Elements.{All-from_recursion, recursion_from_All}
 use Rattle.std.proofs.lemmas.List.Sums.{sum_by-append}
+use Rattle.bng_base.specs.declared.item.Entry.{Entry}
 use Rattle.bng_base.specs.declared.item.Claim.{Claim}
 use Rattle.bng_base.specs.declared.item.Claim.TheVariants.{NoClaim, Claimed, Held as Kept, Exhausted}
 use Rattle.bng_base.specs.Listed.{Same}
@@ -27,7 +28,7 @@ use Rattle.bng_steps.proofs.ClaimedTerms.{step_by_claims}
 use Rattle.bng_steps.proofs.TermYeses.{step_by_yeses}
 use Rattle.bng_verdict.specs.declared.question.QuestionNo.{QuestionNo}
 use Rattle.bng_desk.specs.Model.{Desk}
-use Rattle.bng_desk.specs.Round.{Round, starts_of}
+use Rattle.bng_desk.specs.Round.{Round, handled_states, news_in, starts_of}
 use Rattle.bng_gate.specs.Granted.{BeganBy, BeganIn, Held, HandledIn, Login, held_of}
 use Rattle.bng_gate.specs.Replied.{AreReplied}
 use Rattle.bng_gate.specs.Serving.{Made, MadeEnd, Run, EndRun}
@@ -78,6 +79,24 @@ one_claim t u ts NoClaim e = cc
 one_claim t u ts (Claimed a) e = cc
 one_claim t u ts (Kept a) e = cc
 one_claim t u ts (Exhausted pool) e = cc
+
+-- what begins in each shard by its place
+news_by_place : (P : Tenure → Type 0) (vs : List (ShardView ShardState Entry)) (ws : List (ShardView ShardState Handled))
+    → ((p : ℕ) (v : ShardView ShardState Entry) (w : ShardView ShardState Handled) → slice_get vs p ≡ Some v → slice_get ws p ≡ Some w → AllByRecursion P (after pppoe v.state w.journal).slots.news)
+    → AllByRecursion P (news_in (handled_states vs ws))
+news_by_place P [] ws each = tt
+news_by_place P (v ∷ vs) [] each = tt
+news_by_place P (v ∷ vs) (w ∷ ws) each =
+    all_append P (after pppoe v.state w.journal).slots.news (news_in (handled_states vs ws)) (each zero v w refl refl) (news_by_place P vs ws (λ p x y at there. each (suc p) x y at there))
+
+-- The term began in the turn with this number, by a step of a shard then, and it is that of one of these logins.
+pub record BeganOf (held : List Held) (gs : List Login) (k : ℕ) (t : Tenure) : Type 0 where
+  pub state : ShardState
+  pub handled : Handled
+  pub at : HandledIn held k state handled
+  pub began : handled.deed.next.news ≡ state.slots.news ++ t ∷ []
+  pub step : Step state.rules state.slots handled.limited handled.deed
+  pub login : AnyOf (BeganBy state handled t k) gs
 
 -- The login of a term that begins -----------------------------------------------------------------------------------------
 
@@ -147,6 +166,17 @@ module _ (config : Config) (seed : List ℕ) (opening over last : Desk) (turns :
     all_began =
         each_began claims.began claims.one_each claims.news (step_by_yeses s.rules s.slots h.limited h.deed its_step.0.sound claims.began claims.news its_step.1)
 
+    each_of : (began : List Tenure) → map (λ (x : Tenure). x.address.0) began ≡ claimed_by h.deed.entry.claim → h.deed.next.news ≡ s.slots.news ++ began → All (BeginsByYes s.slots h.deed) began
+        → AllByRecursion (BeganOf held gs k) began
+    each_of [] one news yeses = tt
+    each_of (t ∷ u ∷ ts) one news yeses = absurd (one_claim t u ts h.deed.entry.claim one)
+    each_of (t ∷ []) one news yeses =
+        let by : BeginsByYes s.slots h.deed t = (recursion_from_All (BeginsByYes s.slots h.deed) (t ∷ []) yeses).0 in
+        (record { state = s; handled = h; at = at; began = news; step = its_step.1; login = its_login t by }, tt)
+
+    all_of : AllByRecursion (BeganOf held gs k) claims.began
+    all_of = each_of claims.began claims.one_each claims.news (step_by_yeses s.rules s.slots h.limited h.deed its_step.0.sound claims.began claims.news its_step.1)
+
     keys_after : keys (terms_of ((pppoe).next s h)) ≡ keys (terms_of s) ++ map key_in claims.began
     keys_after = keys_of h.deed.next.terms ∙ claims.keys ∙ ap (λ (ks : List Key). ks ++ map key_in claims.began) (sym (keys_of s.slots.terms))
 
@@ -159,6 +189,12 @@ module _ (config : Config) (seed : List ℕ) (opening over last : Desk) (turns :
       began : List Key
       each : AllByRecursion (BeganIn held gs k) began
       keys_are : keys (terms_of (after pppoe s es)) ≡ keys (terms_of s) ++ began
+
+    -- and the terms themselves
+    record BeginsOf (s : ShardState) (es : List Handled) : Type 0 where
+      tenures : List Tenure
+      of : AllByRecursion (BeganOf held gs k) tenures
+      news_are : (after pppoe s es).slots.news ≡ s.slots.news ++ tenures
 
     module _ (before : ShardState) (was : option_map (λ v. v.state) (slice_get turn.desk.shards p) ≡ Some before) where
       here : (s : ShardState) (done : List Handled) (h : Handled) (rest : List Handled) → s ≡ after pppoe before done → w.journal ≡ done ++ h ∷ rest → HandledIn held k s h
@@ -190,6 +226,25 @@ module _ (config : Config) (seed : List ℕ) (opening over last : Desk) (turns :
             keys_are = rest.keys_are ∙ ap (λ (ks : List Key). ks ++ rest.began) (keys_after k s h i) ∙ append_assoc (keys (terms_of s)) now rest.began;
           }
 
+      along_of : (s : ShardState) (done es : List Handled) → s ≡ after pppoe before done → w.journal ≡ done ++ es → BeginsOf s es
+      along_of s done [] is journal = record { tenures = []; of = tt; news_are = sym (append-nil s.slots.news) }
+      along_of s done (h ∷ es) is journal =
+          let i = here s done h es is journal in
+          let now = (claims k s h i).began in
+          let rest = along_of ((pppoe).next s h) (done ++ h ∷ []) es
+          (ap (λ (x : ShardState). (pppoe).next x h) is ∙ sym (after_more pppoe before done h))
+          (journal ∙ sym (append_assoc done (h ∷ []) es)) in
+          record {
+            tenures = now ++ rest.tenures;
+            of = all_append (BeganOf held gs k) now rest.tenures (all_of k s h i) rest.of;
+            news_are = rest.news_are ∙ ap (λ (ts : List Tenure). ts ++ rest.tenures) (claims k s h i).news ∙ append_assoc s.slots.news now rest.tenures;
+          }
+
+    shard_of : (v : ShardView ShardState Entry) → slice_get turn.desk.shards p ≡ Some v → v.state.slots.news ≡ [] → AllByRecursion (BeganOf held gs k) (after pppoe v.state w.journal).slots.news
+    shard_of v at_v none =
+        let bs = along_of v.state (ap (option_map (λ (x : ShardView ShardState Entry). x.state)) at_v) v.state [] w.journal refl refl in
+        subst (AllByRecursion (BeganOf held gs k)) (sym (bs.news_are ∙ ap (λ (ts : List Tenure). ts ++ bs.tenures) none)) bs.of
+
     shard_began : AllByRecursion (BeganIn held gs k) w.starts
     shard_began =
         let b = begun turn round p w (turn_made opening last held k turn holds at) opened there in
@@ -202,3 +257,9 @@ module _ (config : Config) (seed : List ℕ) (opening over last : Desk) (turns :
   terms_began k turn round at opened =
       All-from_recursion (BeganIn held gs k) (starts_of round)
       (all_started (BeganIn held gs k) round.shards (λ p w there. shard_began k turn at round opened p w there))
+
+  -- each term that began in a turn, where of none that began before a Start was owed
+  pub tenures_began : (k : ℕ) (turn : Held) (round : Round) → slice_get held k ≡ Some turn → turn.round ≡ Some round
+      → ((p : ℕ) (v : ShardView ShardState Entry) → slice_get turn.desk.shards p ≡ Some v → v.state.slots.news ≡ []) → AllByRecursion (BeganOf held gs k) (news_in (handled_states turn.desk.shards round.shards))
+  tenures_began k turn round at opened none =
+      news_by_place (BeganOf held gs k) turn.desk.shards round.shards (λ p v w at_v there. shard_of k turn at round opened p w there v at_v (none p v at_v))

@@ -1,7 +1,7 @@
 -- What a run sent of accounting, and for which of its Stops.
-use Rattle.std.proofs.Common.{◌≡◌, inl, inr, ◌⊎◌, ⊎_elim, ℕ, zero, suc, Bool, true, false, List, [], ◌∷◌, ◌++◌, map, Option, Some, None, refl, sym, ap, subst, ◌∙◌}
-use Rattle.std.specs.Prelude.{slice_get, zip}
-use Rattle.std.specs.List.{All, AllByRecursion, AllZip, flat_map}
+use Rattle.std.proofs.Common.{◌≡◌, inl, inr, ◌⊎◌, ⊎_elim, ℕ, zero, suc, ◌-◌, ◌/◌, ◌%◌, ◌^◌, Bool, true, false, List, [], ◌∷◌, ◌++◌, map, Option, Some, None, refl, sym, ap, subst, ◌∙◌}
+use Rattle.std.specs.Prelude.{min, slice_get, zip}
+use Rattle.std.specs.List.{All, AllByRecursion, AllPairs, AllZip, flat_map}
 use Rattle.std.proofs.lemmas.Bool.{false≢true}
 use Rattle.std.proofs.lemmas.List.Elements.{All-from_recursion, All-head, All-tail}
 use Rattle.std.proofs.lemmas.Option.{none-some, same_Some}
@@ -10,12 +10,23 @@ use Rattle.bng_acct.specs.declared.facts.StatusType.{StatusType}
 use Rattle.bng_acct.specs.declared.facts.StatusType.TheVariants.{Start, Interim, Stop as OfStop}
 use Rattle.bng_acct.specs.declared.facts.TermFacts.{TermFacts}
 use Rattle.bng_acct.specs.declared.facts.Moment.{Moment}
+use Rattle.bng_acct.specs.declared.rules.AcctRules.{AcctRules}
+use Rattle.bng_acct.specs.Attributes as fields
+use Rattle.bng_acct.specs.Request.{AreClasses}
+use Rattle.bng_acct.specs.Spool.{SameFacts}
+use Rattle.bng_acct.specs.Texts.{port_id, session_id}
+use Rattle.bng_base.specs.declared.address.Ip4.{Ip4}
 use Rattle.bng_base.specs.declared.address.Peer.{Peer}
+use Rattle.bng_base.specs.declared.book.Book.{Book}
+use Rattle.bng_base.specs.declared.circuit.Circuit.{Circuit}
+use Rattle.bng_base.specs.declared.circuit.TermId.{TermId}
 use Rattle.bng_base.specs.declared.outside.Datagram.{Datagram}
 use Rattle.bng_base.specs.Chain.{Chain}
+use Rattle.bng_base.specs.Listed.{Same}
 use Rattle.bng_billing.specs.declared.rules.BillingRules.{BillingRules}
 use Rattle.bng_billing.specs.Answered.{FormedAt}
 use Rattle.bng_billing.specs.Calls.{BillingCall, Formed, Given, Again, Told, Heard, Stopped, Does, StopsAreAcknowledged}
+use Rattle.bng_billing.specs.Invariant.{SaysRecord}
 use Rattle.bng_billing.specs.Sent.{ArePaired, AreRequests, GoesOut, IsRequestOf, IsToldSent, StopsAreSent, WasSent}
 use Rattle.bng_billing.proofs.Delivering.{are_requests, stops_sent}
 use Rattle.bng_config.specs.declared.config.Config.{Config}
@@ -29,14 +40,19 @@ use Rattle.bng_engine.specs.Lists.{AnyOf}
 use Rattle.bng_engine.specs.Terms.{Key, Stop}
 use Rattle.bng_engine.proofs.Everywhere.{all_append, all_weaker, any_all, any_left, any_right}
 use Rattle.bng_lane.specs.Sends.{LaneSend}
+use Rattle.bng_radius_wire.specs.Attributes.{Field}
 use Rattle.bng_steps.specs.Protocol.{Handled, ShardState}
 use Rattle.bng_steps.specs.Tenures.{Tenure}
-use Rattle.bng_gate.specs.Billed.{AreBilled, IsOtherRequest, IsStopOrOther, IsStopRequest}
+use Rattle.bng_gate.specs.Billed.{AreBilled, Bill, IsOfBill, IsOtherRequest, IsRequestFor, IsStopOrOther, TellsStop}
+use Rattle.bng_gate.specs.LetIn.{IsOwed}
 use Rattle.bng_gate.specs.Recorded.{Recorded, SayRounds, SaysStart, SaysStop, again_calls, calls_in, calls_of, end_calls_in, end_formed_in, formed_call, formed_in, formed_of, given_calls, heard_call, request_calls, sent_by_calls, sent_for, sent_to, stopped_if}
 use Rattle.bng_gate.specs.Reported.{IsInterimIn, ReportsLive}
 use Rattle.bng_gate.specs.Rounds.{on_acct, rounds_of}
 use Rattle.bng_gate.specs.Serving.{Ends, Late, Made, MadeEnd, Waits}
+use Rattle.bng_gate.proofs.Addressing.{all_map}
 use Rattle.bng_gate.proofs.Answering.{any_weaker}
+use Rattle.bng_gate.proofs.Bills.{SaysBill}
+use Rattle.bng_gate.proofs.Lists.{all_right}
 
 -- The calls of a run tell of each request right after it -----------------------------------------------------------------------
 
@@ -322,9 +338,9 @@ run_called starts turns endings =
 
 -- Of which kind they are -------------------------------------------------------------------------------------------------------------
 
--- a record of another kind, or the Stop of one of these
-abbrev IsOfKind : List Stop → FormedRecord → Type 0
-IsOfKind stops f = (f.status ≡ OfStop → ⊥) ⊎ AnyOf (λ s. SaysStop s f) stops
+-- a record of another kind, or one of these, which are those of the Stops
+abbrev IsOfKind : List FormedRecord → FormedRecord → Type 0
+IsOfKind reports f = (f.status ≡ OfStop → ⊥) ⊎ AnyOf (λ g. g ≡ f) reports
 
 start_not : (f : FormedRecord) → f.status ≡ Start → f.status ≡ OfStop → ⊥
 start_not f is e = cc
@@ -332,11 +348,9 @@ start_not f is e = cc
 interim_not : (f : FormedRecord) → f.status ≡ Interim → f.status ≡ OfStop → ⊥
 interim_not f is e = cc
 
-stops_are : (ss : List Stop) (fs : List FormedRecord) → AllZip SaysStop ss fs → AllByRecursion (λ f. AnyOf (λ s. SaysStop s f) ss) fs
-stops_are [] [] h = tt
-stops_are [] (f ∷ fs) h = absurd h
-stops_are (s ∷ ss) [] h = absurd h
-stops_are (s ∷ ss) (f ∷ fs) h = (inl h.0, all_weaker (λ g. AnyOf (λ x. SaysStop x g) ss) (λ g. AnyOf (λ x. SaysStop x g) (s ∷ ss)) (λ g is. inr is) fs (stops_are ss fs h.1))
+all_there : (fs : List FormedRecord) → AllByRecursion (λ f. AnyOf (λ g. g ≡ f) fs) fs
+all_there [] = tt
+all_there (f ∷ fs) = (inl refl, all_weaker (λ g. AnyOf (λ h. h ≡ g) fs) (λ g. AnyOf (λ h. h ≡ g) (f ∷ fs)) (λ g is. inr is) fs (all_there fs))
 
 starts_are : (ks : List Key) (fs : List FormedRecord) → AllZip SaysStart ks fs → AllByRecursion (λ f. f.status ≡ OfStop → ⊥) fs
 starts_are [] [] h = tt
@@ -344,12 +358,11 @@ starts_are [] (f ∷ fs) h = absurd h
 starts_are (k ∷ ks) [] h = absurd h
 starts_are (k ∷ ks) (f ∷ fs) h = (start_not f h.0.status, starts_are ks fs h.1)
 
--- and of each Stop there is a record
-stop_records : (ss : List Stop) (fs : List FormedRecord) → AllZip SaysStop ss fs → AllByRecursion (λ s. AnyOf (SaysStop s) fs) ss
-stop_records [] [] h = tt
-stop_records [] (f ∷ fs) h = absurd h
-stop_records (s ∷ ss) [] h = absurd h
-stop_records (s ∷ ss) (f ∷ fs) h = (inl h.0, all_weaker (λ x. AnyOf (SaysStop x) fs) (λ x. AnyOf (SaysStop x) (f ∷ fs)) (λ x is. inr is) ss (stop_records ss fs h.1))
+stops_append : (ss : List Stop) (fs : List FormedRecord) (ts : List Stop) (gs : List FormedRecord) → AllZip SaysStop ss fs → AllZip SaysStop ts gs → AllZip SaysStop (ss ++ ts) (fs ++ gs)
+stops_append [] [] ts gs h rest = rest
+stops_append [] (f ∷ fs) ts gs h rest = absurd h
+stops_append (s ∷ ss) [] ts gs h rest = absurd h
+stops_append (s ∷ ss) (f ∷ fs) ts gs h rest = (h.0, stops_append ss fs ts gs h.1 rest)
 
 one_by_one : {X : Type 0} (P : X → Type 0) (xs : List X) → All P xs → AllByRecursion P xs
 one_by_one P [] all = tt
@@ -362,16 +375,16 @@ all_interims h h' (ts ∷ rounds) [] run = tt
 all_interims h h' (ts ∷ rounds) (is ∷ interims) run =
     (all_weaker (IsInterimIn run.0.shards) (λ f. f.status ≡ Interim) (λ f x. x.says.status) is (one_by_one (IsInterimIn run.0.shards) is run.1.interims), all_interims run.0 h' rounds interims run.2)
 
+-- The records of the Stops, in their order, which are all the Stops among those that were formed.
 record AreKinds (stops : List Stop) (formed : List FormedRecord) : Type 0 where
-  kinds : AllByRecursion (IsOfKind stops) formed
-  records : AllByRecursion (λ s. AnyOf (SaysStop s) formed) stops
-
-more_kinds : (ss rest : List Stop) (f : FormedRecord) → IsOfKind rest f → IsOfKind (ss ++ rest) f
-more_kinds ss rest f is = ⊎_elim (λ other. inl other) (λ any. inr (any_right (λ s. SaysStop s f) ss rest any)) is
+  reports : List FormedRecord
+  tell : AllZip SaysStop stops reports
+  kinds : AllByRecursion (IsOfKind reports) formed
+  among : AllByRecursion (λ f. AnyOf (λ g. g ≡ f) formed) reports
 
 all_kinds : (rounds : List (List (ShardTurn Handled))) (interims : List (List FormedRecord)) (formed : List FormedRecord) → SayRounds rounds interims formed
     → AllByRecursion (λ is. AllByRecursion (λ (f : FormedRecord). f.status ≡ Interim) is) (map (λ (r : List (ShardTurn Handled) × List FormedRecord). r.1) (zip rounds interims)) → AreKinds (stops_of rounds) formed
-all_kinds [] [] formed say kinds = record { kinds = subst (AllByRecursion (IsOfKind [])) (sym say) tt; records = tt }
+all_kinds [] [] formed say kinds = record { reports = []; tell = tt; kinds = subst (AllByRecursion (IsOfKind [])) (sym say) tt; among = tt }
 all_kinds [] (is ∷ interims) formed say kinds = absurd say
 all_kinds (ts ∷ rounds) [] formed say kinds = absurd say
 all_kinds (ts ∷ rounds) (is ∷ interims) formed say kinds =
@@ -379,31 +392,74 @@ all_kinds (ts ∷ rounds) (is ∷ interims) formed say kinds =
     let rest = say.1 in
     let said = say.3 in
     let later = all_kinds rounds interims rest say.4 kinds.1 in
-    let ss = stops_in ts in
-    let all = stops_of (ts ∷ rounds) in
+    let all = said.stops ++ later.reports in
     let stops : AllByRecursion (IsOfKind all) said.stops =
-    all_weaker (λ f. AnyOf (λ s. SaysStop s f) ss) (IsOfKind all) (λ f any. inr (any_left (λ s. SaysStop s f) ss (stops_of rounds) any)) said.stops (stops_are ss said.stops said.are_stops) in
+    all_weaker (λ f. AnyOf (λ g. g ≡ f) said.stops) (IsOfKind all) (λ f any. inr (any_left (λ g. g ≡ f) said.stops later.reports any)) said.stops (all_there said.stops) in
     let starts : AllByRecursion (IsOfKind all) said.starts =
     all_weaker (λ f. f.status ≡ OfStop → ⊥) (IsOfKind all) (λ f not. inl not) said.starts (starts_are (flat_map (λ (t : ShardTurn Handled). t.settlement.starts) ts) said.starts said.are_starts) in
     let others : AllByRecursion (IsOfKind all) is = all_weaker (λ f. f.status ≡ Interim) (IsOfKind all) (λ f e. inl (interim_not f e)) is kinds.0 in
     let here : AllByRecursion (IsOfKind all) first =
     subst (AllByRecursion (IsOfKind all)) (sym said.are) (all_append (IsOfKind all) said.stops (said.starts ++ is) stops (all_append (IsOfKind all) said.starts is starts others)) in
-    let in_first : AllByRecursion (λ s. AnyOf (SaysStop s) first) ss =
-    subst (λ (fs : List FormedRecord). AllByRecursion (λ s. AnyOf (SaysStop s) fs) ss) (sym said.are)
-    (all_weaker (λ s. AnyOf (SaysStop s) said.stops) (λ s. AnyOf (SaysStop s) (said.stops ++ (said.starts ++ is))) (λ s any. any_left (SaysStop s) said.stops (said.starts ++ is) any) ss (stop_records ss said.stops said.are_stops)) in
+    let in_first : AllByRecursion (λ f. AnyOf (λ g. g ≡ f) first) said.stops =
+    subst (λ (fs : List FormedRecord). AllByRecursion (λ f. AnyOf (λ g. g ≡ f) fs) said.stops) (sym said.are)
+    (all_weaker (λ f. AnyOf (λ g. g ≡ f) said.stops) (λ f. AnyOf (λ g. g ≡ f) (said.stops ++ (said.starts ++ is))) (λ f any. any_left (λ g. g ≡ f) said.stops (said.starts ++ is) any) said.stops (all_there said.stops)) in
     record {
+      reports = all;
+      tell = stops_append (stops_in ts) said.stops (stops_of rounds) later.reports said.are_stops later.tell;
       kinds = subst (AllByRecursion (IsOfKind all)) (sym say.2)
-          (all_append (IsOfKind all) first rest here (all_weaker (IsOfKind (stops_of rounds)) (IsOfKind all) (λ f i. more_kinds ss (stops_of rounds) f i) rest later.kinds));
-      records = subst (λ (fs : List FormedRecord). AllByRecursion (λ s. AnyOf (SaysStop s) fs) all) (sym say.2)
-          (all_append (λ s. AnyOf (SaysStop s) (first ++ rest)) ss (stops_of rounds)
-          (all_weaker (λ s. AnyOf (SaysStop s) first) (λ s. AnyOf (SaysStop s) (first ++ rest)) (λ s any. any_left (SaysStop s) first rest any) ss in_first)
-          (all_weaker (λ s. AnyOf (SaysStop s) rest) (λ s. AnyOf (SaysStop s) (first ++ rest)) (λ s any. any_right (SaysStop s) first rest any) (stops_of rounds) later.records));
+          (all_append (IsOfKind all) first rest here
+          (all_weaker (IsOfKind later.reports) (IsOfKind all) (λ f i. ⊎_elim (λ other. inl other) (λ any. inr (any_right (λ g. g ≡ f) said.stops later.reports any)) i) rest later.kinds));
+      among = subst (λ (fs : List FormedRecord). AllByRecursion (λ f. AnyOf (λ g. g ≡ f) fs) all) (sym say.2)
+          (all_append (λ f. AnyOf (λ g. g ≡ f) (first ++ rest)) said.stops later.reports
+          (all_weaker (λ f. AnyOf (λ g. g ≡ f) first) (λ f. AnyOf (λ g. g ≡ f) (first ++ rest)) (λ f any. any_left (λ g. g ≡ f) first rest any) said.stops in_first)
+          (all_weaker (λ f. AnyOf (λ g. g ≡ f) rest) (λ f. AnyOf (λ g. g ≡ f) (first ++ rest)) (λ f any. any_right (λ g. g ≡ f) first rest any) later.reports later.among));
     }
+
+-- What a request says of a record -----------------------------------------------------------------------------------------------------
+
+-- a record's attributes, by what it says
+abbrev by_parts : AcctRules → StatusType → TermId → Circuit → Ip4 → List ℕ → ℕ → Book → Moment → List Field → List Field
+by_parts rules status term circuit address user began carried moment classes =
+    ((fields.octets 1 user ∷ fields.number 4 rules.nas_ip.0 ∷ fields.number 5 term.session.0 ∷ fields.number 6 2 ∷ fields.number 7 1 ∷ fields.number 8 address.0 ∷ [])
+    ++ classes ++ fields.station circuit ++ fields.sender rules status)
+    ++ (fields.unless_start status (fields.low_octets carried)
+    ++ fields.octets 44 (session_id rules.wall term) ∷ []
+    ++ fields.unless_start status (fields.number 46 (min 4294967295 ((moment.now - began) / 1000)) ∷ fields.number 47 (carried.input_packets % 2 ^ 32) ∷ fields.number 48 (carried.output_packets % 2 ^ 32) ∷ [])
+    ++ fields.in_stop status (fields.cause moment)
+    ++ fields.unless_start status (fields.gigawords carried)
+    ++ (fields.number 55 (moment.wall % 2 ^ 32) ∷ fields.number 61 5 ∷ fields.octets 87 (port_id circuit) ∷ []))
+
+attributes_same : (rules : AcctRules) (q r : Record) (classes : List Field) → r.status ≡ q.status → SameFacts q.facts r.facts → r.moment ≡ q.moment → fields.attributes rules r classes ≡ fields.attributes rules q classes
+attributes_same rules q r classes status same moment =
+    let f = q.facts in
+    let g = r.facts in
+    ap (λ (x : StatusType). by_parts rules x g.term g.circuit g.address g.user.items g.began g.carried r.moment classes) status
+    ∙ ap (λ (x : TermId). by_parts rules q.status x g.circuit g.address g.user.items g.began g.carried r.moment classes) same.term
+    ∙ ap (λ (x : Circuit). by_parts rules q.status f.term x g.address g.user.items g.began g.carried r.moment classes) same.circuit
+    ∙ ap (λ (x : Ip4). by_parts rules q.status f.term f.circuit x g.user.items g.began g.carried r.moment classes) same.address
+    ∙ ap (λ (x : List ℕ). by_parts rules q.status f.term f.circuit f.address x g.began g.carried r.moment classes) same.user
+    ∙ ap (λ (x : ℕ). by_parts rules q.status f.term f.circuit f.address f.user.items x g.carried r.moment classes) same.began
+    ∙ ap (λ (x : Book). by_parts rules q.status f.term f.circuit f.address f.user.items f.began x r.moment classes) same.carried
+    ∙ ap (λ (x : Moment). by_parts rules q.status f.term f.circuit f.address f.user.items f.began f.carried x classes) moment
+
+-- what says one record says another with the same facts
+says_same : (rules : AcctRules) (secret : List ℕ) (q r : Record) (id : ℕ) (octets : List ℕ) → r.status ≡ q.status → SameFacts q.facts r.facts → r.moment ≡ q.moment → SaysRecord rules secret r id octets → SaysRecord rules secret q id octets
+says_same rules secret q r id octets status same moment says = record {
+  packet = says.packet;
+  reads = says.reads;
+  unpadded = says.unpadded;
+  code = says.code;
+  id_is = says.id_is;
+  classes = says.classes;
+  are = subst (AreClasses says.classes) same.class says.are;
+  attributes_are = says.attributes_are ∙ attributes_same rules q r says.classes status same moment;
+  authenticator = says.authenticator;
+}
 
 -- The run ------------------------------------------------------------------------------------------------------------------------------
 
 -- what a place holds, where each one that stands in the list is such
-at_place : {X : Type 0} (P : X → Type 0) (xs : List X) → AllByRecursion P xs → (i : ℕ) (x : X) → slice_get xs i ≡ Some x → P x
+pub at_place : {X : Type 0} (P : X → Type 0) (xs : List X) → AllByRecursion P xs → (i : ℕ) (x : X) → slice_get xs i ≡ Some x → P x
 at_place P [] all i x at = absurd (none-some x at)
 at_place P (y ∷ xs) all zero x at = subst P (same_Some y x at) all.0
 at_place P (y ∷ xs) all (suc i) x at = at_place P xs all.1 i x at
@@ -412,27 +468,68 @@ place_of : {X : Type 0} (xs : List X) (x : X) → AnyOf (λ y. y ≡ x) xs → (
 place_of [] x any = absurd any
 place_of {X} (y ∷ xs) x any = ⊎_elim (λ here. (0, ap (λ (z : X). Some z) here)) (λ later. let p = place_of xs x later in (suc p.0, p.1)) any
 
-module _ (rules : BillingRules) (stops : List Stop) (starts formed : List FormedRecord) (kinds : AllByRecursion (IsOfKind stops) (starts ++ formed)) (calls : List BillingCall) (of : AreFormedOf (starts ++ formed) calls) where
-  -- what was sent says one of the Stops, or a record of another kind
-  request_kind : (octets : List ℕ) → (j : ℕ) × IsRequestOf rules calls j octets → IsOtherRequest rules octets ⊎ AnyOf (IsStopRequest rules octets) stops
+all_both : {X : Type 0} (P Q : X → Type 0) (xs : List X) → AllByRecursion P xs → AllByRecursion Q xs → AllByRecursion (λ x. P x × Q x) xs
+all_both P Q [] p q = tt
+all_both P Q (x ∷ xs) p q = ((p.0, q.0), all_both P Q xs p.1 q.1)
+
+any_mapped : {X Y : Type 0} (P : X → Type 0) (Q : Y → Type 0) (f : X → Y) → ((x : X) → P x → Q (f x)) → (xs : List X) → AnyOf P xs → AnyOf Q (map f xs)
+any_mapped P Q f each [] h = h
+any_mapped P Q f each (x ∷ xs) (inl h) = inl (each x h)
+any_mapped P Q f each (x ∷ xs) (inr h) = inr (any_mapped P Q f each xs h)
+
+-- the record that was formed
+abbrev report_of : FormedRecord → Record
+report_of f = record { status = f.status; facts = f.facts; moment = f.moment }
+
+reports_tell : (ss : List Stop) (fs : List FormedRecord) → AllZip SaysStop ss fs → AllZip TellsStop ss (map report_of fs)
+reports_tell [] [] h = tt
+reports_tell [] (f ∷ fs) h = absurd h
+reports_tell (s ∷ ss) [] h = absurd h
+reports_tell (s ∷ ss) (f ∷ fs) h =
+    let is = h.0 in
+    (record { status = is.status; term = is.term; circuit = is.circuit; address = is.address; carried = is.carried; cause = is.cause }, reports_tell ss fs h.1)
+
+stops_tell : (ss : List Stop) (fs : List FormedRecord) → AllZip SaysStop ss fs → AllByRecursion (λ f. f.status ≡ OfStop) fs
+stops_tell [] [] h = tt
+stops_tell [] (f ∷ fs) h = absurd h
+stops_tell (s ∷ ss) [] h = absurd h
+stops_tell (s ∷ ss) (f ∷ fs) h = (h.0.status, stops_tell ss fs h.1)
+
+bill_again : (f g : TermFacts) (b : Bill) → SameFacts f g → IsOfBill f b → IsOfBill g b
+bill_again f g b same is = record {
+  term = same.term ∙ is.term;
+  circuit = same.circuit ∙ is.circuit;
+  address = same.address ∙ is.address;
+  user = same.user ∙ is.user;
+  class = same.class ∙ is.class;
+  began = same.began ∙ is.began;
+}
+
+module _ (rules : BillingRules) (bills : List Bill) (reports starts formed : List FormedRecord) (kinds : AllByRecursion (IsOfKind reports) (starts ++ formed)) (say : AllByRecursion (SaysBill bills) (starts ++ formed)) (calls : List BillingCall)
+    (of : AreFormedOf (starts ++ formed) calls) where
+  -- what was sent says the record of one of the Stops, or a record of another kind
+  request_kind : (octets : List ℕ) → (j : ℕ) × IsRequestOf rules calls j octets → IsOtherRequest rules bills octets ⊎ AnyOf (IsRequestFor rules octets) (map report_of reports)
   request_kind octets (j, r) =
       let g = r.formed in
-      any_all (λ f. (f.status ≡ g.status) × ((f.facts ≡ g.facts) × (f.moment ≡ g.moment))) (IsOfKind stops) (IsOtherRequest rules octets ⊎ AnyOf (IsStopRequest rules octets) stops)
-      (λ f same kind. ⊎_elim
-      (λ other. inl (record { report = r.report; status = λ e. other (same.0 ∙ sym g.status_is ∙ e); id = r.id; says = r.says }))
-      (λ any. inr (any_weaker (λ s. SaysStop s f) (IsStopRequest rules octets) (λ s says. record {
+      any_all (λ f. (f.status ≡ g.status) × ((f.facts ≡ g.facts) × (f.moment ≡ g.moment))) (λ f. IsOfKind reports f × SaysBill bills f) (IsOtherRequest rules bills octets ⊎ AnyOf (IsRequestFor rules octets) (map report_of reports))
+      (λ f same is. ⊎_elim
+      (λ other. inl (record {
         report = r.report;
-        status = g.status_is ∙ sym same.0 ∙ says.status;
-        term = g.facts_are.term ∙ ap (λ (x : TermFacts). x.term) (sym same.1.0) ∙ says.term;
-        circuit = g.facts_are.circuit ∙ ap (λ (x : TermFacts). x.circuit) (sym same.1.0) ∙ says.circuit;
-        address = g.facts_are.address ∙ ap (λ (x : TermFacts). x.address) (sym same.1.0) ∙ says.address;
-        carried = g.facts_are.carried ∙ ap (λ (x : TermFacts). x.carried) (sym same.1.0) ∙ says.carried;
-        cause = ap (λ (m : Moment). m.cause) (g.moment_is ∙ sym same.1.1) ∙ says.cause;
-        id = r.id;
-        says = r.says;
-      }) stops any))
-      kind)
-      (starts ++ formed) (at_place (IsFormedOf (starts ++ formed)) calls of j (Formed g.status g.facts g.moment r.number) g.at) kinds
+        status = λ e. other (same.0 ∙ sym g.status_is ∙ e);
+        bill = any_weaker (IsOfBill f.facts) (IsOfBill r.report.facts) (λ b says. bill_again g.facts r.report.facts b g.facts_are (subst (λ (x : TermFacts). IsOfBill x b) same.1.0 says)) bills is.1;
+        request = record { id = r.id; says = r.says };
+      }))
+      (λ any. inr (any_mapped (λ x. x ≡ f) (IsRequestFor rules octets) report_of (λ x e. subst (λ (y : FormedRecord). IsRequestFor rules octets (report_of y)) (sym e) (its f same)) reports any))
+      is.0)
+      (starts ++ formed) (at_place (IsFormedOf (starts ++ formed)) calls of j (Formed g.status g.facts g.moment r.number) g.at) (all_both (IsOfKind reports) (SaysBill bills) (starts ++ formed) kinds say)
+    where
+      its : (f : FormedRecord) → (f.status ≡ r.formed.status) × ((f.facts ≡ r.formed.facts) × (f.moment ≡ r.formed.moment)) → IsRequestFor rules octets (report_of f)
+      its f same =
+          let g = r.formed in
+          record {
+            id = r.id;
+            says = says_same rules.acct rules.secret.items (report_of f) r.report r.id octets (g.status_is ∙ sym same.0) (subst (λ (x : TermFacts). SameFacts x r.report.facts) (sym same.1.0) g.facts_are) (g.moment_is ∙ sym same.1.1) r.says;
+          }
 
   formed_status : (a b : StatusType) (f g : TermFacts) (m k : Moment) (n o : ℕ) → Formed a f m n ≡ Formed b g k o → a ≡ b
   formed_status a b f g m k n o e = cc
@@ -443,26 +540,23 @@ module _ (rules : BillingRules) (stops : List Stop) (starts formed : List Formed
   formed_moment : (a b : StatusType) (f g : TermFacts) (m k : Moment) (n o : ℕ) → Formed a f m n ≡ Formed b g k o → m ≡ k
   formed_moment a b f g m k n o e = cc
 
-  -- the request of the call that formed the record of a Stop says the Stop
-  says_stop : (s : Stop) (f : FormedRecord) → SaysStop s f → (j : ℕ) → slice_get calls j ≡ Some (formed_call f) → (octets : List ℕ) → IsRequestOf rules calls j octets → IsStopRequest rules octets s
-  says_stop s f says j at octets r =
+  -- the request of the call that formed a record says it
+  says_formed : (f : FormedRecord) (j : ℕ) → slice_get calls j ≡ Some (formed_call f) → (octets : List ℕ) → IsRequestOf rules calls j octets → IsRequestFor rules octets (report_of f)
+  says_formed f j at octets r =
       let g = r.formed in
       let same : Formed g.status g.facts g.moment r.number ≡ formed_call f = same_Some (Formed g.status g.facts g.moment r.number) (formed_call f) (sym g.at ∙ at) in
       let facts : g.facts ≡ f.facts = formed_facts g.status f.status g.facts f.facts g.moment f.moment r.number f.number same in
       record {
-        report = r.report;
-        status = g.status_is ∙ formed_status g.status f.status g.facts f.facts g.moment f.moment r.number f.number same ∙ says.status;
-        term = g.facts_are.term ∙ ap (λ (x : TermFacts). x.term) facts ∙ says.term;
-        circuit = g.facts_are.circuit ∙ ap (λ (x : TermFacts). x.circuit) facts ∙ says.circuit;
-        address = g.facts_are.address ∙ ap (λ (x : TermFacts). x.address) facts ∙ says.address;
-        carried = g.facts_are.carried ∙ ap (λ (x : TermFacts). x.carried) facts ∙ says.carried;
-        cause = ap (λ (m : Moment). m.cause) (g.moment_is ∙ formed_moment g.status f.status g.facts f.facts g.moment f.moment r.number f.number same) ∙ says.cause;
         id = r.id;
-        says = r.says;
+        says = says_same rules.acct rules.secret.items (report_of f) r.report r.id octets
+            (g.status_is ∙ formed_status g.status f.status g.facts f.facts g.moment f.moment r.number f.number same)
+            (subst (λ (x : TermFacts). SameFacts x r.report.facts) facts g.facts_are)
+            (g.moment_is ∙ formed_moment g.status f.status g.facts f.facts g.moment f.moment r.number f.number same) r.says;
       }
 
 module _ (config : Config) (wall : ℕ) (starts : List FormedRecord) (turns : List Made) (endings : List MadeEnd) (last : Desk) (taken sent : List Datagram) (recorded : Recorded config wall starts turns endings last taken sent)
-    (begin : AllByRecursion (λ (f : FormedRecord). f.status ≡ Start) starts) (before after : History ShardState) (live : Chain ReportsLive before (zip (rounds_of turns endings) recorded.interims) after) where
+    (begin : AllByRecursion (λ (f : FormedRecord). f.status ≡ Start) starts) (before after : History ShardState) (live : Chain ReportsLive before (zip (rounds_of turns endings) recorded.interims) after)
+    (terms : List Key) (bills : List Bill) (each_once : Same (map (λ (b : Bill). b.key) bills) terms) (say : AllByRecursion (SaysBill bills) (starts ++ formed_of turns endings)) (owed : AllByRecursion (λ (b : Bill). IsOwed config taken sent b.key b.user b.class) bills) where
   abbrev rules : BillingRules
   rules = billing_rules config wall
 
@@ -481,8 +575,8 @@ module _ (config : Config) (wall : ℕ) (starts : List FormedRecord) (turns : Li
   kinds : AreKinds stops formed
   kinds = all_kinds (rounds_of turns endings) recorded.interims formed recorded.formed (all_interims before after (rounds_of turns endings) recorded.interims live)
 
-  of_kinds : AllByRecursion (IsOfKind stops) (starts ++ formed)
-  of_kinds = all_append (IsOfKind stops) starts formed (all_weaker (λ (f : FormedRecord). f.status ≡ Start) (IsOfKind stops) (λ f e. inl (start_not f e)) starts begin) kinds.kinds
+  of_kinds : AllByRecursion (IsOfKind kinds.reports) (starts ++ formed)
+  of_kinds = all_append (IsOfKind kinds.reports) starts formed (all_weaker (λ (f : FormedRecord). f.status ≡ Start) (IsOfKind kinds.reports) (λ f e. inl (start_not f e)) starts begin) kinds.kinds
 
   of : AreFormedOf (starts ++ formed) calls
   of = run_formed starts turns endings
@@ -493,26 +587,41 @@ module _ (config : Config) (wall : ℕ) (starts : List FormedRecord) (turns : Li
   requests : AreRequests rules calls
   requests = are_requests rules recorded.opened last.billing calls recorded.is_new recorded.calls
 
-  record_sent : StopsAreAcknowledged calls → (s : Stop) (f : FormedRecord) → SaysStop s f → IsCalled calls f → AnyOf (λ d. IsStopRequest rules d.octets s) (on_acct sent)
-  record_sent acks s f says called =
+  -- each record of a Stop was formed in the turns
+  abbrev IsFormed : FormedRecord → Type 0
+  IsFormed f = AnyOf (λ g. g ≡ f) formed
+
+  its_bill : (f : FormedRecord) → IsFormed f → SaysBill bills f
+  its_bill f any = any_all (λ g. g ≡ f) (SaysBill bills) (SaysBill bills f) (λ g e says. subst (SaysBill bills) e says) formed any (all_right (SaysBill bills) starts formed say)
+
+  record_sent : StopsAreAcknowledged calls → (f : FormedRecord) → f.status ≡ OfStop → IsFormed f → AnyOf (λ d. IsRequestFor rules d.octets (report_of f)) (on_acct sent)
+  record_sent acks f status any =
+      let called : IsCalled calls f = any_all (λ g. g ≡ f) (IsCalled calls) (IsCalled calls f) (λ g e c. subst (IsCalled calls) e c) formed any (run_called starts turns endings) in
       let place = place_of calls (formed_call f) called in
-      let at : slice_get calls place.0 ≡ Some (Formed OfStop f.facts f.moment f.number) = place.1 ∙ ap (λ (x : StatusType). Some (Formed x f.facts f.moment f.number)) says.status in
+      let at : slice_get calls place.0 ≡ Some (Formed OfStop f.facts f.moment f.number) = place.1 ∙ ap (λ (x : StatusType). Some (Formed x f.facts f.moment f.number)) status in
       let went = stops_sent rules recorded.opened last.billing calls recorded.is_new recorded.calls paired acks place.0 f.number f.facts f.moment at in
-      let is : IsStopRequest rules went.0 s = says_stop rules stops starts formed of_kinds calls of s f says place.0 place.1 went.0 went.2 in
-      subst (λ (ds : List Datagram). AnyOf (λ d. IsStopRequest rules d.octets s) ds) (sym recorded.requests)
-      (any_weaker (λ d. d.octets ≡ went.0) (λ d. IsStopRequest rules d.octets s) (λ d e. subst (λ (o : List ℕ). IsStopRequest rules o s) (sym e) is)
+      let is : IsRequestFor rules went.0 (report_of f) = says_formed rules bills kinds.reports starts formed of_kinds say calls of f place.0 place.1 went.0 went.2 in
+      subst (λ (ds : List Datagram). AnyOf (λ d. IsRequestFor rules d.octets (report_of f)) ds) (sym recorded.requests)
+      (any_weaker (λ d. d.octets ≡ went.0) (λ d. IsRequestFor rules d.octets (report_of f)) (λ d e. subst (λ (o : List ℕ). IsRequestFor rules o (report_of f)) (sym e) is)
       (sent_by_calls config.acct_server calls) (sent_has config.acct_server calls went.0 went.1))
 
-  pub are_billed : (status : ℕ) → (status ≡ 0 → StopsAreAcknowledged calls) → AreBilled config status sent stops
-  are_billed status acks = record {
-    wall = wall;
+  pub are_billed : (status : ℕ) → AllPairs (λ (s t : Stop). session_id wall s.key.term ≡ session_id wall t.key.term → ⊥) stops → (status ≡ 0 → StopsAreAcknowledged calls) → AreBilled config wall status terms taken sent stops
+  are_billed status apart acks = record {
+    bills = bills;
+    one_bill_each = each_once;
+    owed = All-from_recursion (λ (b : Bill). IsOwed config taken sent b.key b.user b.class) bills owed;
+    reports = map report_of kinds.reports;
+    one_report_each = reports_tell stops kinds.reports kinds.tell;
+    bill_of_each = All-from_recursion (λ (r : Record). AnyOf (IsOfBill r.facts) bills) (map report_of kinds.reports)
+        (all_map (λ (r : Record). AnyOf (IsOfBill r.facts) bills) report_of kinds.reports (all_weaker IsFormed (SaysBill bills) its_bill kinds.reports kinds.among));
+    apart = apart;
     server = All-from_recursion (λ d. d.peer ≡ config.acct_server) (on_acct sent) (all_weaker (IsSentOf config.acct_server calls) (λ d. d.peer ≡ config.acct_server) (λ d h. h.0) (on_acct sent) all_of);
-    only = All-from_recursion (IsStopOrOther rules stops) (on_acct sent)
-        (all_weaker (IsSentOf config.acct_server calls) (IsStopOrOther rules stops) (λ d h. request_kind rules stops starts formed of_kinds calls of d.octets (requests d.octets h.1)) (on_acct sent) all_of);
-    each = λ zero. All-from_recursion (λ s. AnyOf (λ d. IsStopRequest rules d.octets s) (on_acct sent)) stops
-        (all_weaker (λ s. AnyOf (SaysStop s) formed) (λ s. AnyOf (λ d. IsStopRequest rules d.octets s) (on_acct sent))
-        (λ s any. any_all (SaysStop s) (IsCalled calls) (AnyOf (λ d. IsStopRequest rules d.octets s) (on_acct sent)) (λ f says called. record_sent (acks zero) s f says called) formed any (run_called starts turns endings))
-        stops kinds.records);
+    only = All-from_recursion (IsStopOrOther rules bills (map report_of kinds.reports)) (on_acct sent)
+        (all_weaker (IsSentOf config.acct_server calls) (IsStopOrOther rules bills (map report_of kinds.reports)) (λ d h. request_kind rules bills kinds.reports starts formed of_kinds say calls of d.octets (requests d.octets h.1)) (on_acct sent) all_of);
+    each = λ zero. All-from_recursion (λ (r : Record). AnyOf (λ d. IsRequestFor rules d.octets r) (on_acct sent)) (map report_of kinds.reports)
+        (all_map (λ (r : Record). AnyOf (λ d. IsRequestFor rules d.octets r) (on_acct sent)) report_of kinds.reports
+        (all_weaker (λ (f : FormedRecord). (f.status ≡ OfStop) × IsFormed f) (λ (f : FormedRecord). AnyOf (λ d. IsRequestFor rules d.octets (report_of f)) (on_acct sent)) (λ f is. record_sent (acks zero) f is.0 is.1) kinds.reports
+        (all_both (λ (f : FormedRecord). f.status ≡ OfStop) IsFormed kinds.reports (stops_tell stops kinds.reports kinds.tell) kinds.among)));
   }
 
 -- the Starts of the opening are such

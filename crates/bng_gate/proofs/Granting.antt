@@ -1,25 +1,29 @@
 -- Who was let in: what the subscribers, the shards and the lane say, put together.
 use Rattle.std.proofs.Common.{◌≡◌, inl, inr, ℕ, ◌+◌, ◌≤◌, List, [], Some, refl, sym, ap, subst, ◌∙◌, arith}
-use Rattle.std.specs.List.{Contains}
+use Rattle.std.specs.Prelude.{slice_get}
+use Rattle.std.specs.List.{AllByRecursion, Contains}
 use Rattle.bng_base.specs.declared.address.Mac.{Mac}
 use Rattle.bng_base.specs.declared.address.Peer.{Peer}
 use Rattle.bng_base.specs.declared.circuit.Circuit.{Circuit}
 use Rattle.bng_base.specs.declared.circuit.Circuit.TheVariants.{Pppoe, L2tp}
+use Rattle.bng_base.specs.declared.item.Entry.{Entry}
 use Rattle.bng_base.specs.declared.item.OutRecord.{OutRecord}
 use Rattle.bng_base.specs.declared.outside.Datagram.{Datagram}
 use Rattle.bng_config.specs.declared.config.Config.{Config}
 use Rattle.bng_engine.specs.Lists.{AnyOf}
+use Rattle.bng_engine.specs.Views.{ShardView}
 use Rattle.bng_steps.specs.declared.rules.Rules.{Rules}
 use Rattle.bng_steps.specs.Granting.{GivesYes, IsGrantedOver, IsYesOn, IsYesOver}
 use Rattle.bng_steps.specs.Protocol.{ShardState, Handled}
 use Rattle.bng_steps.specs.Questions.{Asking, asking_from}
 use Rattle.bng_verdict.specs.declared.question.QuestionNo.{QuestionNo}
 use Rattle.bng_desk.specs.Model.{Desk}
+use Rattle.bng_desk.specs.Round.{Round, handled_states, news_in}
 use Rattle.bng_gate.specs.Granted.{Granted, Held, HandledIn, IsLetIn, IsLetInOver, IsOverCall, Login, LetsIn, LetsInOver, LetsInOwn, SentBy, held_of, stages_of, stage_at}
 use Rattle.bng_gate.specs.Replied.{AreReplied}
 use Rattle.bng_gate.specs.Serving.{Made, MadeEnd, Run, EndRun}
 use Rattle.bng_gate.proofs.Accepting.{YesCause, over_has_cause, yes_has_cause, yes_is_over}
-use Rattle.bng_gate.proofs.Begun.{any_of_weaker, same_number, terms_began}
+use Rattle.bng_gate.proofs.Begun.{BeganOf, any_of_weaker, same_number, tenures_began, terms_began}
 use Rattle.bng_gate.proofs.HeardLogins.{all_heard}
 use Rattle.bng_gate.proofs.Hearing.{WorkBy}
 use Rattle.bng_gate.proofs.HeldRuns.{HasCount, HeldRun}
@@ -134,3 +138,11 @@ module _ (config : Config) (seed : List ℕ) (opening over last : Desk) (turns :
         own_over = own_over all.0 all.1;
         terms = terms_began config seed opening over last turns endings run ending none_kept fresh count replied all.0 all.1;
       }
+
+  -- and by which login each term began
+  pub began_of : (k : ℕ) (turn : Held) (round : Round) → slice_get held k ≡ Some turn → turn.round ≡ Some round
+      → ((p : ℕ) (v : ShardView ShardState Entry) → slice_get turn.desk.shards p ≡ Some v → v.state.slots.news ≡ []) → AllByRecursion (BeganOf held granted_of.logins k) (news_in (handled_states turn.desk.shards round.shards))
+  unfolding granted_of
+  began_of =
+      let all = logins config seed opening over turns endings run replied in
+      tenures_began config seed opening over last turns endings run ending none_kept fresh count replied all.0 all.1

@@ -1,13 +1,17 @@
 -- The headline of a run, from its turns.
-use Rattle.std.proofs.Common.{◌≡◌, ◌≤◌, ◌+◌, ◌⊎◌, inl, inr, ℕ, Bool, List, [], ◌∷◌, length, map, Option, refl, sym, ap, subst, ◌∙◌, append-nil, arith}
-use Rattle.std.specs.Prelude.{◌↔◌, sum, zip}
-use Rattle.std.specs.List.{AllByRecursion, AllZip, Contains, flat_map, range_with_len, sum_by}
+use Rattle.std.proofs.Common.{◌≡◌, ◌≤◌, ◌+◌, ◌⊎◌, ◌++◌, inl, inr, ℕ, Bool, List, [], ◌∷◌, length, map, Option, Some, refl, sym, ap, subst, ◌∙◌, append-nil, arith}
+use Rattle.std.specs.Prelude.{◌↔◌, slice_get, sum, zip}
+use Rattle.std.specs.List.{AllByRecursion, AllPairs, AllZip, Contains, flat_map, range_with_len, sum_by}
+use Rattle.std.proofs.lemmas.List.{map-append}
+use Rattle.std.proofs.lemmas.List.Sums.{sum_by-append}
 use Rattle.std.proofs.lemmas.List.Elements.{All-from_recursion}
 use Rattle.bng_base.specs.declared.book.Book.{Book}
 use Rattle.bng_base.specs.declared.book.Profile.{Profile}
 use Rattle.bng_base.specs.declared.outside.Datagram.{Datagram}
 use Rattle.bng_base.specs.declared.outside.Heard.{Heard}
+use Rattle.bng_base.specs.declared.item.Entry.{Entry}
 use Rattle.bng_base.specs.Chain.{Chain}
+use Rattle.bng_base.specs.Listed.{Same}
 use Rattle.bng_base.specs.Told.{PlantTold, TraceTold, Grows, GrowsIfTold}
 use Rattle.bng_billing.specs.Calls.{StopsAreAcknowledged}
 use Rattle.bng_billing.proofs.Stops.{stops_acknowledged}
@@ -22,7 +26,7 @@ use Rattle.bng_engine.specs.Sums.{is_any}
 use Rattle.bng_engine.specs.Terms.{Key, Stop, stopped_keys}
 use Rattle.bng_engine.specs.Views.{DeskView, ShardView, rows_where}
 use Rattle.bng_engine.specs.Wire.{went}
-use Rattle.bng_engine.proofs.Everywhere.{all_weaker}
+use Rattle.bng_engine.proofs.Everywhere.{all_append, all_weaker}
 use Rattle.bng_engine.proofs.Openings.{opening_accounted}
 use Rattle.bng_engine.proofs.Runs.{books_account, rounds_are_right, run_conserves_at, rows_account, rows_account_on_wire}
 use Rattle.bng_engine.proofs.Turns.{balanced}
@@ -37,8 +41,9 @@ use Rattle.bng_desk.specs.Counting.{by_number}
 use Rattle.bng_desk.specs.Model.{Desk, all_stopped as all_say, by_profile, carried_on, all_carried, line_after, live_of, live_terms, plus_book, state_of, sums_of, total_of, traffic_by, keys_in}
 use Rattle.bng_desk.specs.Opening.{billing_rules, coa_of, line_of, opened_shards}
 use Rattle.bng_desk.specs.Report.{report_text}
-use Rattle.bng_desk.specs.Round.{terms_in, view_of, views_of}
+use Rattle.bng_desk.specs.Round.{Round, handled_states, news_in, terms_in, view_of, views_of}
 use Rattle.bng_desk.specs.Taking.{states_of}
+use Rattle.bng_gate.specs.Billed.{Bill}
 use Rattle.bng_gate.specs.Changed.{AreAnswered, coa_calls_of}
 use Rattle.bng_gate.specs.declared.texts.Refusal.{Refusal}
 use Rattle.bng_gate.specs.declared.texts.Refusal.TheVariants.{Usage, Refused, CannotOpen, OutOfMemory, TraceFailed, OutputFailed}
@@ -46,17 +51,21 @@ use Rattle.bng_gate.specs.Exact.{StopsAccount}
 use Rattle.bng_gate.specs.Exercise.{Exercised, IsPlayed, Prints, exercise_seed, exercise_text, line_by, line_over, peers_beside, records_told}
 use Rattle.bng_gate.specs.Granted.{Granted, Held, Stage, held_of, stages_of}
 use Rattle.bng_gate.specs.Headline.{AreStopped, HaveTerms, calls_in_run, circuit_keys, Headline, AddsUpTo, IsSafe, IsQuiet, WasSafe, all_profile_traffic, all_terms_of, all_traffic, terms_of_run, total_in}
+use Rattle.bng_gate.specs.LetIn.{IsOwed}
 use Rattle.bng_gate.specs.Promise.{IsAddressedIn, IsExclusive, IsPassedOnIn, Passes, Promise, Span}
 use Rattle.bng_gate.specs.Recorded.{Recorded, formed_of}
 use Rattle.bng_gate.specs.Replied.{AreReplied}
 use Rattle.bng_gate.specs.Reported.{ReportsLive}
 use Rattle.bng_gate.specs.Rounds.{rounds_in, rounds_of, plant_of, on_data, drops_of_run}
-use Rattle.bng_gate.specs.Run.{World, outside, turns_most, Prepares, Concludes, Course, Runs, report_of, IsReady, IsUntouched, WantsToServe, Why, IsUnwritten, ServeEnds}
+use Rattle.bng_gate.specs.Run.{World, outside, turns_most, Prepares, Concludes, Course, Runs, report_of, Seeds, IsReady, IsUntouched, WantsToServe, Why, IsUnwritten, ServeEnds}
 use Rattle.bng_gate.specs.Unanswered.{unanswered_of, NamesStops}
 use Rattle.bng_gate.specs.Unchanged.{NothingIsInvented, lived_in}
 use Rattle.bng_gate.proofs.AddressedLive.{live_addressed, new_live}
 use Rattle.bng_gate.proofs.Addressing.{all_addressed}
 use Rattle.bng_gate.proofs.Agreed.{agreed}
+use Rattle.bng_gate.proofs.Apart.{HaveOwnIds, run_apart}
+use Rattle.bng_gate.proofs.Begun.{BeganOf}
+use Rattle.bng_gate.proofs.Bills.{RunBills, SaysBill, bills_at, opened_has, opened_keys, opening_says, run_bills}
 use Rattle.bng_gate.proofs.Drops.{all_dropped}
 use Rattle.bng_gate.proofs.Exercising.{keeps_rules}
 use Rattle.bng_gate.proofs.Delivered.{are_billed, opening_starts}
@@ -68,10 +77,12 @@ use Rattle.bng_gate.proofs.Leaving.{HasNoRows, HasNoTerms, IsEmpty, all_stopped,
 use Rattle.bng_gate.proofs.Lines.{lines_gone, one_worker, report_told, rules_gone, stopped_gone, stops_gone, tallies_gone}
 use Rattle.bng_gate.proofs.Lived.{IsLiveDesk, live_of as live_keys, opened_live as opened_desk_live}
 use Rattle.bng_gate.proofs.LoginsGranted.{logins_granted}
+use Rattle.bng_gate.proofs.Numbers.{AreFew, few_shown, opened_few, run_few_terms}
 use Rattle.bng_gate.proofs.Openings.{opens}
 use Rattle.bng_gate.proofs.Owning.{sends_ours}
+use Rattle.bng_gate.proofs.Owed.{begun_good, opened_good}
 use Rattle.bng_gate.proofs.Passing.{IsKnown}
-use Rattle.bng_gate.proofs.Promised.{AreSpans, Leads, all_of_stages, all_pass, all_passed_on, none_live as none_left_live, opened_live, run_spans, run_stops, spans_of}
+use Rattle.bng_gate.proofs.Promised.{AreSpans, Leads, all_of_stages, all_pass, all_passed_on, begun_in_spans, none_live as none_left_live, opened_live, run_spans, run_stops, spans_of}
 use Rattle.bng_gate.proofs.Recording.{Said, all_said, recorded_of}
 use Rattle.bng_gate.proofs.Refusals.{none_left as none_unanswered}
 use Rattle.bng_gate.proofs.Reporting.{GoesLive, reports_go_on}
@@ -207,10 +218,15 @@ module _ (config : Config) (rules : KeepsRules config) (most : ℕ) (seed : List
   drops : course.last.drops.counts ≡ by_number (drops_of_run course.turns course.endings)
   drops = all_dropped course.opening course.over course.last course.turns course.endings (ap (λ (d : Desk). d.drops) course.begins.is_opened.desk) course.run course.ending
 
-  granted : Granted config seed course.turns course.endings
-  granted =
+  logged_in : (g : Granted config seed course.turns course.endings)
+      × ((k : ℕ) (turn : Held) (round : Round) → slice_get (held_of course.turns course.endings) k ≡ Some turn → turn.round ≡ Some round
+      → ((p : ℕ) (v : ShardView ShardState Entry) → slice_get turn.desk.shards p ≡ Some v → v.state.slots.news ≡ []) → AllByRecursion (BeganOf (held_of course.turns course.endings) g.logins k) (news_in (handled_states turn.desk.shards round.shards)))
+  logged_in =
       logins_granted config most seed course.begins.bound.now course.begins.bound.wall course.opening course.over course.last course.turns course.endings rules course.begins.is_opened course.run course.ending
       course.few_turns course.few_endings
+
+  granted : Granted config seed course.turns course.endings
+  granted = logged_in.0
 
   replied : AreReplied config seed course.turns
   replied = replies_of config most seed course.begins.bound.now course.begins.bound.wall course.opening course.over course.turns course.begins.is_opened course.run
@@ -376,8 +392,58 @@ module _ (config : Config) (rules : KeepsRules config) (most : ℕ) (seed : List
         stops_acknowledged (billing_rules config course.begins.bound.wall) recorded.0.opened course.last.billing (calls_in_run config most seed old new course) recorded.0.is_new recorded.0.calls
         (agreed config most seed course.begins.bound.now course.begins.bound.wall course.opening course.over course.last course.turns course.endings course.begins.is_opened course.run course.ending ended)
 
+    -- each term has one bill, and the records say it
+    abbrev first_bills : List Bill
+    first_bills = bills_at (opened_shards config r now)
+
+    billing : RunBills first_bills (held_of course.turns course.endings) (formed_of course.turns course.endings)
+    billing =
+        run_bills course.opening course.over course.last course.turns course.endings first_bills course.run course.ending
+        (opened_has config r now course.opening (ap (λ (d : Desk). d.shards) course.begins.is_opened.desk))
+
+    abbrev bills : List Bill
+    bills = first_bills ++ billing.more
+
+    once_billed : Same (map (λ (b : Bill). b.key) bills) (circuit_keys config ++ flat_map (λ (s : Span). s.begun) spans)
+    once_billed f =
+        let begun = flat_map (λ (s : Span). s.begun) spans in
+        omega (
+          arith,
+          ap (sum_by f) (map-append (λ (b : Bill). b.key) first_bills billing.more),
+          sum_by-append f (map (λ (b : Bill). b.key) first_bills) (map (λ (b : Bill). b.key) billing.more),
+          opened_keys config r now (range_with_len 0 config.shards) f,
+          billing.keys f,
+          ap (sum_by f) (begun_in_spans IsOfStage (stages_of course.turns course.endings) (held_of course.turns course.endings) invented_in_stages),
+          sum_by-append f (circuit_keys config) begun,
+        )
+
+    all_say_bills : AllByRecursion (SaysBill bills) (course.begins.is_opened.starts ++ formed_of course.turns course.endings)
+    all_say_bills =
+        all_append (SaysBill bills) course.begins.is_opened.starts (formed_of course.turns course.endings)
+        (opening_says config r now course.begins.bound.wall (keys_in (opened_shards config r now)) course.begins.is_opened.starts billing.more course.begins.is_opened.are_starts) billing.say
+
+    -- and is a circuit's, or a subscriber's whom the server let in
+    bills_owed : AllByRecursion (λ (b : Bill). IsOwed config (plant_of course.turns course.endings).taken sent b.key b.user b.class) bills
+    bills_owed =
+        let P = λ (b : Bill). IsOwed config (plant_of course.turns course.endings).taken sent b.key b.user b.class in
+        let helds = held_of course.turns course.endings in
+        all_append P first_bills billing.more (opened_good config (plant_of course.turns course.endings).taken sent r now)
+        (subst (AllByRecursion P) (sym billing.are)
+        (begun_good config seed (stages_of course.turns course.endings) helds (plant_of course.turns course.endings).taken sent
+        (stages_heard course.opening course.over course.turns course.endings course.run) (stages_sent course.turns course.endings)
+        logged_in.0.logins logged_in.0.right billing.owed logged_in.1))
+
+    -- no two Stops have one Acct-Session-Id
+    apart : AllPairs (HaveOwnIds course.begins.bound.wall) (stops_of rounds)
+    apart =
+        run_apart config rules r now start shards_are (opening_accounted pppoe start start_opens).fine.sound goes.history rounds goes.run
+        (few_shown course.last.shards goes.history.shards shown
+        (run_few_terms course.opening course.over course.last course.turns course.endings course.run course.ending
+        (subst (λ (vs : List (ShardView ShardState Entry)). AreFew vs) (sym (ap (λ (d : Desk). d.shards) course.begins.is_opened.desk)) (opened_few config rules r now (range_with_len 0 config.shards)))))
+        course.begins.bound.wall
+
     -- the promise
-    kept : (status : ℕ) → (status ≡ 0 → unanswered_of course.last ≡ []) → Promise config status (circuit_keys config) (plant_of course.turns course.endings).taken sent (stops_of rounds)
+    kept : (status : ℕ) → (status ≡ 0 → unanswered_of course.last ≡ []) → Promise config course.begins.bound.wall status (circuit_keys config) (plant_of course.turns course.endings).taken sent (stops_of rounds)
     kept status none = record {
       spans = spans;
       passes = passes;
@@ -395,12 +461,12 @@ module _ (config : Config) (rules : KeepsRules config) (most : ℕ) (seed : List
           are_billed config course.begins.bound.wall course.begins.is_opened.starts course.turns course.endings course.last (plant_of course.turns course.endings).taken sent recorded.0
           (opening_starts (terms_in (states_of (opened_shards config r now))) now course.begins.bound.wall (keys_in (opened_shards config r now)) course.begins.is_opened.starts course.begins.is_opened.are_starts)
           (nothing_yet start) goes.history (subst (λ (is : List (List FormedRecord)). Chain ReportsLive (nothing_yet start) (zip rounds is) goes.history) (sym recorded.1) goes.live)
-          status (λ zero. answered.0 (none zero));
+          (circuit_keys config ++ flat_map (λ (s : Span). s.begun) spans) bills once_billed all_say_bills bills_owed status apart (λ zero. answered.0 (none zero));
       one_stop_each = λ f. ap (λ (ss : List Stop). sum_by f (stopped_keys ss)) all_stops_are ∙ ap (sum_by f) (sym (append-nil (stopped_keys (flat_map (λ (s : Span). s.stops) spans)))) ∙ all_pass (circuit_keys config) [] spans passes f;
       passed_on = All-from_recursion (IsPassedOnIn config) spans (all_passed_on config (stages_of course.turns course.endings) (held_of course.turns course.endings) invented_in_stages);
     }
 
-module _ (config : Config) (rules : KeepsRules config) (most status : ℕ) (seed : List ℕ) (old new : World) (run : Runs config most seed (outside old) (outside new) old.out new.out)
+module _ (config : Config) (rules : KeepsRules config) (most status : ℕ) (seed : List ℕ) (old new : World) (seeded : Seeds old.entropy new.entropy seed) (run : Runs config most seed (outside old) (outside new) old.out new.out)
     (none : status ≡ 0 → unanswered_of run.completes.course.last ≡ []) (some : status ≡ 6 → NamesStops run.completes.course.last old.err new.err) where
   abbrev turned : Course config most seed (outside old) (outside new)
   turned = run.completes.course
@@ -409,6 +475,7 @@ module _ (config : Config) (rules : KeepsRules config) (most status : ℕ) (seed
   unfolding safe_of
   headline_of = record {
     seed = seed;
+    seeded = seeded;
     run = run;
     safe = safe_of config rules most seed old new turned;
     promise = kept config rules most seed old new turned run.ended status none;
@@ -426,11 +493,11 @@ pub headline : (file : List ℕ) (most : ℕ) (old new : World) (status : ℕ) �
 headline file most old new status r (inl s) =
     let x = r.served s in
     let prepares = x.run.ready.prepares in
-    (x.run.config, prepares, headline_of x.run.config (read_keeps prepares.text x.run.config prepares.read) most status x.run.seed old new x.run.runs (λ _. x.acknowledged) (λ six. absurd (omega (arith, s, six))))
+    (x.run.config, prepares, headline_of x.run.config (read_keeps prepares.text x.run.config prepares.read) most status x.run.seed old new x.run.ready.seeds x.run.runs (λ _. x.acknowledged) (λ six. absurd (omega (arith, s, six))))
 headline file most old new status r (inr s) =
     let x = r.unanswered s in
     let prepares = x.run.ready.prepares in
-    (x.run.config, prepares, headline_of x.run.config (read_keeps prepares.text x.run.config prepares.read) most status x.run.seed old new x.run.runs (λ none. absurd (omega (arith, s, none))) (λ _. x.names))
+    (x.run.config, prepares, headline_of x.run.config (read_keeps prepares.text x.run.config prepares.read) most status x.run.seed old new x.run.ready.seeds x.run.runs (λ none. absurd (omega (arith, s, none))) (λ _. x.names))
 
 -- An exercise that came to its line ------------------------------------------------------------------------------------------
 
@@ -481,7 +548,7 @@ module _ (file : List ℕ) (most : ℕ) (old new : World) where
   turned_safe : (config : Config) (seed : List ℕ) → IsReady file old new config seed → Course config most seed (outside old) (outside new) → QuietOrSafe
   turned_safe config seed ready course =
       let prepares = ready.prepares in
-      inr (record { config = config; prepares = prepares; seed = seed; course = course; safe = safe_of config (read_keeps prepares.text config prepares.read) most seed old new course })
+      inr (record { config = config; prepares = prepares; seed = seed; seeded = ready.seeds; course = course; safe = safe_of config (read_keeps prepares.text config prepares.read) most seed old new course })
 
   wants_safe : (config : Config) (seed : List ℕ) → IsReady file old new config seed → WantsToServe config most seed (outside old) (outside new) → QuietOrSafe
   wants_safe config seed ready (inl w) = inl (record { heard = w.0.binds.heard; taken = w.0.binds.taken; sent = w.0.binds.sent })

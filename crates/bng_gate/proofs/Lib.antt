@@ -56,7 +56,13 @@ pub mod Calling
 pub mod Agreed
 pub mod Reporting
 pub mod Recording
+pub mod Ids
+pub mod Numbers
+pub mod Bills
+pub mod Classing
+pub mod Owed
 pub mod Delivered
+pub mod Apart
 pub mod Addressing
 pub mod AddressedLive
 pub mod Traffic

@@ -358,6 +358,13 @@ module _ (R : Stage → Held → Type 0) where
   all_of_stages {X} in_span in_stage same (s ∷ stages) (h ∷ helds) all =
       ap (λ (xs : List X). xs ++ flat_map in_stage stages) (sym (same s h)) ∙ ap (λ (xs : List X). in_span (span_of s h) ++ xs) (all_of_stages in_span in_stage same stages helds all.1)
 
+-- the terms that began in them are those that began in the turns
+pub begun_in_spans : (R : Stage → Held → Type 0) (stages : List Stage) (helds : List Held) → AllZip R stages helds → flat_map (λ (h : Held). begun_in h.round) helds ≡ flat_map (λ (s : Span). s.begun) (spans_of stages helds)
+begun_in_spans R [] [] all = refl
+begun_in_spans R [] (h ∷ helds) all = absurd all
+begun_in_spans R (s ∷ stages) [] all = absurd all
+begun_in_spans R (s ∷ stages) (h ∷ helds) all = ap (λ (ks : List Key). begun_in h.round ++ ks) (begun_in_spans R stages helds all.1)
+
 -- what each of them sent it took
 pub all_passed_on : (config : Config) (stages : List Stage) (helds : List Held) → AllZip (λ s h. NothingIsInvented config (lived_in h) s.taken s.sent) stages helds → AllByRecursion (IsPassedOnIn config) (spans_of stages helds)
 all_passed_on config [] [] all = tt

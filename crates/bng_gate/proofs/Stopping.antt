@@ -54,7 +54,7 @@ abbrev pub terms_so_far : ShardHistory ShardState → List Key
 terms_so_far h = stopped_keys h.stops ++ keys (terms_of h.state)
 
 -- a round adds those of its Starts
-next_terms : (h : ShardHistory ShardState) (t : ShardTurn Handled) (h' : ShardHistory ShardState) → NextInShard pppoe h t h' → Same (terms_so_far h') (terms_so_far h ++ t.settlement.starts)
+pub next_terms : (h : ShardHistory ShardState) (t : ShardTurn Handled) (h' : ShardHistory ShardState) → NextInShard pppoe h t h' → Same (terms_so_far h') (terms_so_far h ++ t.settlement.starts)
 next_terms h t h' n f =
     let now = keys (terms_of h'.state) in
     let left : Same (terms_of h'.state) (filter is_live (terms_of n.mid)) = λ g. ap (λ (s : ShardState). sum_by g (terms_of s)) n.settlement.state ∙ pppoe_laws.settles n.mid g in
@@ -120,7 +120,7 @@ settled_live s = none_ended (terms_of (pppoe.settled s)) (pppoe_laws.settles s (
 -- The Stops of a round -------------------------------------------------------------------------------------------------------
 
 -- a term that a Stop is of
-abbrev IsStopOf : Key → ℕ → Term → Type 0
+abbrev pub IsStopOf : Key → ℕ → Term → Type 0
 IsStopOf k c t = (t.key ≡ k) × (t.cause ≡ c)
 
 abbrev is_stop : Key → ℕ → Key → ℕ → Bool
@@ -156,7 +156,7 @@ count_each (s ∷ ss) = (
 )
 
 -- each is of a term that has ended
-stops_of_terms : (stops : List Stop) (terms : List Term) → OneEach stops terms → AllByRecursion (λ s. AnyOf (IsStopOf s.key s.cause) (filter is_ended terms)) stops
+pub stops_of_terms : (stops : List Stop) (terms : List Term) → OneEach stops terms → AllByRecursion (λ s. AnyOf (IsStopOf s.key s.cause) (filter is_ended terms)) stops
 stops_of_terms stops terms each =
     all_weaker (CountIn stops) (λ s. AnyOf (IsStopOf s.key s.cause) (filter is_ended terms))
     (λ s some. counted s.key s.cause (filter is_ended terms) (omega (arith, some, each (λ k c. one_if (is_stop s.key s.cause k c)))))
@@ -227,12 +227,12 @@ module _ (config : Config) (rules : KeepsRules config) where
   AreKept h = (n : ℕ) (x : ShardHistory ShardState) → slice_get h.shards n ≡ Some x → IsKept n x
 
   module _ (n : ℕ) (h : ShardHistory ShardState) (t : ShardTurn Handled) (h' : ShardHistory ShardState) (next : NextInShard pppoe h t h') (kept : IsKept n h) where
-    mid_keeps : Keeps n (circuits_in config n) next.mid.slots
+    pub mid_keeps : Keeps n (circuits_in config n) next.mid.slots
     mid_keeps =
         subst (λ (s : ShardState). Keeps n (circuits_in config n) s.slots) (sym next.round.state)
         (run_keeps n (circuits_in config n) h.state t.round.journal next.round.steps kept.keeps)
 
-    kept_next : IsKept n h'
+    pub kept_next : IsKept n h'
     kept_next = record {
       live = subst (λ (s : ShardState). AllByRecursion IsLive (terms_of s)) (sym next.settlement.state) (settled_live next.mid);
       keeps = subst (λ (s : ShardState). Keeps n (circuits_in config n) s.slots) (sym next.settlement.state) (settled_keeps n (circuits_in config n) next.mid.slots mid_keeps);
@@ -273,10 +273,10 @@ module _ (config : Config) (rules : KeepsRules config) where
 
   module _ (r : Rules) (now : ℕ) where
     -- a shard before the first round
-    abbrev shard_before : ℕ → ShardHistory ShardState
+    abbrev pub shard_before : ℕ → ShardHistory ShardState
     shard_before n = nothing_yet (opened n r (statics_of config n) now)
 
-    kept_before : (n : ℕ) → n < config.shards → IsKept n (shard_before n)
+    pub kept_before : (n : ℕ) → n < config.shards → IsKept n (shard_before n)
     kept_before n low =
         let cs = statics_of config n in
         let apart = AllPairs-filter (λ a b. a.session ≡ b.session → ⊥) (λ c. eqb (shard_of c) n) config.statics rules.sessions in
@@ -309,7 +309,7 @@ module _ (config : Config) (rules : KeepsRules config) where
     many_from a (suc k) = omega (arith, many_from (a + 1) k)
 
     module _ (v : DeskView ShardState Handled) (is : v.shards ≡ views_of (opened_shards config r now)) where
-      before_at : (n : ℕ) (x : ShardHistory ShardState) → slice_get (opening v).shards n ≡ Some x → IsBefore n x
+      pub before_at : (n : ℕ) (x : ShardHistory ShardState) → slice_get (opening v).shards n ≡ Some x → IsBefore n x
       before_at n x at =
           let there = before_from 0 config.shards n x (ap (λ (vs : List (ShardView ShardState Handled)). slice_get (map nothing_yet vs) n) (sym is) ∙ at) in
           record { low = there.0; is = there.1 ∙ ap shard_before (zero-add n) }

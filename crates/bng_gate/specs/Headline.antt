@@ -39,7 +39,7 @@ use Rattle.bng_gate.specs.Recorded.{Recorded, calls_of}
 use Rattle.bng_gate.specs.Replied.{AreReplied}
 use Rattle.bng_gate.specs.Reported.{ReportsLive}
 use Rattle.bng_gate.specs.Rounds.{rounds_of, history_of, plant_of, on_auth, on_data, on_acct, on_coa, beside_control, readings_of, requests_of, records_of, replies_of, is_unsent, is_lost, drops_of_run}
-use Rattle.bng_gate.specs.Run.{World, outside, Prepares, Course, Runs}
+use Rattle.bng_gate.specs.Run.{World, outside, Prepares, Course, Runs, Seeds}
 use Rattle.bng_gate.specs.Unanswered.{NamesStops}
 use Rattle.bng_gate.specs.Unchanged.{NothingIsInvented, lived_in}
 
@@ -216,12 +216,13 @@ calls_in_run config most seed old new course = calls_of course.begins.is_opened.
 -- What holds of a run that ended with its report, with status 0 or 6.
 pub record Headline (config : Config) (most status : ℕ) (old new : World) : Type 0 where
   -- The run was turns of serving from the opening on, and turns of the ending, until no session was left, and of the grace, until it was
-  -- over.
+  -- over. What it drew at random came from the one seed that was given.
   pub seed : List ℕ
+  pub seeded : Seeds old.entropy new.entropy seed
   pub run : Runs config most seed (outside old) (outside new) old.out new.out
   pub safe : IsSafe config most seed old new run.completes.course
   -- The promise was kept.
-  pub promise : Promise config status (circuit_keys config) safe.taken safe.sent (stops_of (rounds_of run.completes.course.turns run.completes.course.endings))
+  pub promise : Promise config run.completes.course.begins.bound.wall status (circuit_keys config) safe.taken safe.sent (stops_of (rounds_of run.completes.course.turns run.completes.course.endings))
   -- Each term, of a circuit or of a subscriber that logged in, has one Stop. What the Stops say, in octets and in packets, is exactly what
   -- was sent: whoever reads the sent octets alone finds for each address and for each circuit that the Stops with it sum to its packets.
   pub stopped : AllZip AreStopped safe.history.shards (terms_of_run config (rounds_of run.completes.course.turns run.completes.course.endings))
@@ -245,10 +246,11 @@ pub record IsQuiet (old new : World) : Type 0 where
   pub taken : new.plant.taken ≡ old.plant.taken
   pub sent : new.plant.sent ≡ old.plant.sent
 
--- the configuration was read in the file of this name, and these turns were made of it
+-- the configuration was read in the file of this name, a seed was given, and these turns were made of them
 pub record WasSafe (file : List ℕ) (most : ℕ) (old new : World) : Type 0 where
   pub config : Config
   pub prepares : Prepares file old.files new.files config
   pub seed : List ℕ
+  pub seeded : Seeds old.entropy new.entropy seed
   pub course : Course config most seed (outside old) (outside new)
   pub safe : IsSafe config most seed old new course

@@ -12,6 +12,7 @@ pub mod Unchanged
 pub mod Changed
 pub mod Addressed
 pub mod Exact
+pub mod LetIn
 pub mod Billed
 pub mod Promise
 pub mod Headline

@@ -44,9 +44,9 @@ IsAddressedIn s = All (IsAddressed (lived s)) s.sent
 abbrev pub IsPassedOnIn : Config → Span → Type 0
 IsPassedOnIn config s = NothingIsInvented config (lived s) s.taken s.sent
 
--- A run with this configuration that ended with status 0 or 6. It began with these terms of its circuits, took and sent this, in this order, and
--- formed these Stops. When it ended, no term was live.
-pub record Promise (config : Config) (status : ℕ) (circuits : List Key) (taken sent : List Datagram) (stops : List Stop) : Type 0 where
+-- A run with this configuration that began at this second of the clock and ended with status 0 or 6. It began with these terms of its circuits,
+-- took and sent this, in this order, and formed these Stops. When it ended, no term was live.
+pub record Promise (config : Config) (wall status : ℕ) (circuits : List Key) (taken sent : List Datagram) (stops : List Stop) : Type 0 where
   -- It is made of spans, one after another, and nothing was taken or sent there beside theirs.
   pub spans : List Span
   pub passes : Chain Passes circuits spans []
@@ -61,7 +61,8 @@ pub record Promise (config : Config) (status : ℕ) (circuits : List Key) (taken
   pub exact : StopsAccount stops sent
   -- Each term, of a circuit or begun later, has one Stop, and there is no other.
   pub one_stop_each : Same (stopped_keys stops) (circuits ++ flat_map (λ s. s.begun) spans)
-  -- The server is told them: each Stop by an Accounting-Request that was sent, where the server acknowledged all (status 0), and nothing else as one.
-  pub billed : AreBilled config status sent stops
+  -- The server is told them: each Stop under an Acct-Session-Id of its own, by an Accounting-Request that was sent, where the server
+  -- acknowledged all (status 0), with what the term's Start said, and nothing else as one.
+  pub billed : AreBilled config wall status (circuits ++ flat_map (λ s. s.begun) spans) taken sent stops
   -- What was sent is what was taken: a subscriber gets its own packets, and nobody else's.
   pub passed_on : All (IsPassedOnIn config) spans
