@@ -25,6 +25,7 @@ pub mod Awaiting
 pub mod RowsByNumber
 pub mod Owing
 pub mod Reading
+pub mod OnPorts
 pub mod Spelling
 pub mod Naming
 pub mod LinkSteps

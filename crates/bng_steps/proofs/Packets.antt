@@ -28,6 +28,7 @@ use Rattle.bng_steps.specs.State.{circuit_in}
 use Rattle.bng_steps.specs.declared.session.Lease.{Lease}
 use Rattle.bng_steps.specs.declared.session.Session.{Session}
 use Rattle.bng_steps.specs.Frames.{SentDown, charge_of}
+use Rattle.bng_steps.proofs.OnPorts.{circuit_spelled}
 
 -- The frame of a circuit --------------------------------------------------------------------------------------------------
 
@@ -124,6 +125,7 @@ module _ (x : Session) (l : Lease) (v : Ipv4) (before packet : List ℕ) (passed
         session = x.number;
         circuit = ap (λ (w : Way). circuit_in w x.number) way;
         role_is = refl;
+        framed = circuit_spelled port mac x.number.0 packet is;
         mac_is = all.mac;
         ether_type = all.ether_type;
         session_id = session_id port mac x.number.0 packet is;

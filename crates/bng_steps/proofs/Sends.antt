@@ -10,7 +10,7 @@ use Rattle.bng_base.specs.declared.item.OutRecord.{OutRecord}
 use Rattle.bng_base.specs.declared.outside.Role.{Role}
 use Rattle.bng_base.specs.declared.outside.Role.TheVariants as role
 use Rattle.bng_base.specs.declared.settings.AccessPort.{AccessPort}
-use Rattle.bng_base.specs.PppoeGrammar.{PppoeFrame, PppoeTag}
+use Rattle.bng_base.specs.PppoeGrammar.{PppoeFrame, PppoeTag, TagFits}
 use Rattle.bng_discovery.specs.declared.answers.Answer.{Answer}
 use Rattle.bng_discovery.specs.declared.answers.Answer.TheVariants.{Offer, Make, Again, Refuse, Ended, NoSession, Ignore}
 use Rattle.bng_discovery.specs.declared.port.PortRules.{PortRules}
@@ -50,6 +50,7 @@ use Rattle.bng_steps.specs.Timers.{Ticks, Ends, IsTimed, LooksAt, LosesTerm, Tim
 use Rattle.bng_steps.specs.Verdicts.{HearsVerdict}
 use Rattle.bng_steps.proofs.Changing.{Comes as Requests, change_comes}
 use Rattle.bng_steps.proofs.LinkSteps.{frame_of, verdict_of, frame_steps, verdict_steps}
+use Rattle.bng_steps.proofs.OnPorts.{pado_spelled, pads_spelled, refusal_spelled}
 use Rattle.bng_steps.proofs.Packets.{spelled_up, short_up, spelled_down, short_over}
 use Rattle.bng_steps.proofs.Spelling.{IsControl, AreControl, discovery_control, tunnel_control, drives_control, ends_with_control}
 use Rattle.bng_steps.proofs.Tunnelling.{Act, Did, Idles, Speaks, Cuts, Comes, TurnsOne, PartsOne, ConnectsOne, PassesUp, HearsOne, answers_to, tunnel_did}
@@ -169,19 +170,19 @@ module _ (r : Rules) (s : State) (e : Entry) (d : Deed) where
   abbrev Sends : Type 0
   Sends = SendsNone e d ⊎ SendsOne s e d
 
-  answers : (answer : Answer) (number : ℕ) (port : AccessPort) (offers : PortRules) (p : PppoeFrame) (tags : List PppoeTag) → Answers answer r s e number port offers p tags d → Sends
-  answers Offer number port offers p tags h = none s e d _ h (discovery_control (at_of s e) number port (pado_of offers p.src tags) refl) refl
-  answers Make number port offers p tags h =
+  answers : (answer : Answer) (number : ℕ) (port : AccessPort) (offers : PortRules) (p : PppoeFrame) (tags : List PppoeTag) → AllByRecursion TagFits tags → Answers answer r s e number port offers p tags d → Sends
+  answers Offer number port offers p tags fit h = none s e d _ h (discovery_control (at_of s e) number port (pado_of offers p.src tags) refl (pado_spelled offers p.src tags fit)) refl
+  answers Make number port offers p tags fit h =
       let confirmed = pads_of offers p.src h.session tags in
-      none s e d _ h.done (all_append (IsControl e.seat) (frame_outs (at_of s e) number port confirmed) h.outs (discovery_control (at_of s e) number port confirmed refl) (told_control r e (at_of s e) (beside_of s e) _ h.outs h.cause h.x h.beside Start h.starts)) refl
-  answers Again number port offers p tags h = none s e d _ h.done (discovery_control (at_of s e) number port (pads_of offers p.src h.x.number.0 tags) refl) refl
-  answers (Refuse error) number port offers p tags h = none s e d _ h (discovery_control (at_of s e) number port (refusal_of offers p.src error tags) refl) refl
-  answers Ended number port offers p tags h = none s e d _ h tt refl
-  answers NoSession number port offers p tags h = none s e d _ h tt refl
-  answers Ignore number port offers p tags h = none s e d _ h tt refl
+      none s e d _ h.done (all_append (IsControl e.seat) (frame_outs (at_of s e) number port confirmed) h.outs (discovery_control (at_of s e) number port confirmed refl (pads_spelled offers p.src h.session tags fit)) (told_control r e (at_of s e) (beside_of s e) _ h.outs h.cause h.x h.beside Start h.starts)) refl
+  answers Again number port offers p tags fit h = none s e d _ h.done (discovery_control (at_of s e) number port (pads_of offers p.src h.x.number.0 tags) refl (pads_spelled offers p.src h.x.number.0 tags fit)) refl
+  answers (Refuse error) number port offers p tags fit h = none s e d _ h (discovery_control (at_of s e) number port (refusal_of offers p.src error tags) refl (refusal_spelled offers p.src error tags fit)) refl
+  answers Ended number port offers p tags fit h = none s e d _ h tt refl
+  answers NoSession number port offers p tags fit h = none s e d _ h tt refl
+  answers Ignore number port offers p tags fit h = none s e d _ h tt refl
 
   discovers : (number : ℕ) (p : PppoeFrame) → Discovers r s e number p d → Sends
-  discovers number p h = answers h.answer number h.port h.offers p h.tags h.does
+  discovers number p h = answers h.answer number h.port h.offers p h.tags h.listed.fit h.does
 
   data_sends : (found : Option Session) (info : List ℕ) → ((v : Ipv4) (packet : List ℕ) → IsPassedOn v info packet → v.total ≤ length e.item.frame.payload) → HearsData r s e found info d → Sends
   data_sends found info short (fate, decides, inl (forwards, h)) =

@@ -1,5 +1,5 @@
 -- What stands in the frames that go out: no packet of a subscriber, but for the frame of a circuit.
-use Rattle.std.proofs.Common.{◌≡◌, ℕ, ◌<◌, Bool, true, false, ◌&&◌, List, [], ◌∷◌, ◌++◌, Option, None, Some, length, nat_le, if◌then◌else◌, refl, sym, ap, subst, ◌∙◌, arith, eqb}
+use Rattle.std.proofs.Common.{◌≡◌, ℕ, ◌<◌, ◌≤◌, Bool, true, false, ◌&&◌, List, [], ◌∷◌, ◌++◌, Option, None, Some, length, nat_le, if◌then◌else◌, refl, sym, ap, subst, ◌∙◌, arith, eqb}
 use Rattle.std.specs.Prelude.{slice_index}
 use Rattle.std.specs.List.{AllByRecursion}
 use Rattle.std.proofs.lemmas.Bool.{false≢true}
@@ -26,7 +26,7 @@ use Rattle.bng_steps.specs.declared.rules.Rules.{Rules}
 use Rattle.bng_steps.specs.declared.way.TunnelCall.{TunnelCall}
 use Rattle.bng_steps.specs.declared.way.Way.{Way}
 use Rattle.bng_steps.specs.declared.way.Way.TheVariants.{Port, Call}
-use Rattle.bng_steps.specs.Reader.{is_call_data, is_session_data, IsNoPacket}
+use Rattle.bng_steps.specs.Reader.{is_call_data, is_session_data, IsFrameSpelled, IsNoPacket}
 use Rattle.bng_steps.specs.State.{Beside}
 use Rattle.bng_engine.proofs.Everywhere.{all_append}
 use Rattle.bng_forward.specs.Framing.{session_frame}
@@ -39,6 +39,7 @@ use Rattle.bng_steps.specs.declared.session.Session.{Session}
 use Rattle.bng_steps.specs.Deed.{out, frame_outs, tunnel_outs}
 use Rattle.bng_steps.specs.Link.{Drives, EndsWith, HangsUp, IsParted, LinkStep, PartsOn, SaysOn, call_octets, call_outs, data_outs, padt_outs, ppp_outs}
 use Rattle.bng_ppp.proofs.MessageLaws.{IsWritten, AreWritten}
+use Rattle.bng_steps.proofs.OnPorts.{IsSpelledWhereHeld, padt_spelled, session_spelled}
 
 -- an out of an entry of that seat, that no one is charged for, and no packet of a subscriber
 pub record IsControl (seat : ℕ) (o : OutRecord) : Type 0 where
@@ -81,29 +82,36 @@ other_protocol n c info e = ap (λ (m : ℕ). eqb m 33) (big_number-reads_back 2
 -- Outs ------------------------------------------------------------------------------------------------------------------
 
 -- what goes out on an access port and is no session data is no packet
-no_data : (a : At) (number : ℕ) (port : AccessPort) (octets : List ℕ) → is_session_data octets ≡ false → IsControl a.seat (out a (Access number) port.peer octets None)
-no_data a number port octets h = record { seat_is = refl; charge = refl; unsent = refl; no_packet = record { on_way = refl; not_core = refl; not_data = λ e. h; not_call = λ e. absurd (false≢true e); control = λ e t. absurd (false≢true e); spelled = λ e t. absurd (false≢true e) } }
+no_data : (a : At) (number : ℕ) (port : AccessPort) (octets : List ℕ) → is_session_data octets ≡ false → IsFrameSpelled octets → IsControl a.seat (out a (Access number) port.peer octets None)
+no_data a number port octets h framed = record { seat_is = refl; charge = refl; unsent = refl; no_packet = record { on_way = refl; not_core = refl; framed = λ e. framed; not_data = λ e. h; not_call = λ e. absurd (false≢true e); control = λ e t. absurd (false≢true e); spelled = λ e t. absurd (false≢true e) } }
 
-where_fits : (seat : ℕ) (b c d : Bool) (o : OutRecord) → (b ≡ true → c ≡ true → IsControl seat o) → AreControl seat (if (b && c) && d then o ∷ [] else [])
+where_fits : (seat : ℕ) (b c d : Bool) (o : OutRecord) → (b ≡ true → c ≡ true → d ≡ true → IsControl seat o) → AreControl seat (if (b && c) && d then o ∷ [] else [])
 where_fits seat false c d o h = tt
 where_fits seat true false d o h = tt
 where_fits seat true true false o h = tt
-where_fits seat true true true o h = (h refl refl, tt)
+where_fits seat true true true o h = (h refl refl refl, tt)
 
 same_length : (n : ℕ) → eqb n 6 ≡ true → n ≡ 6
 same_length n e = grind (arith, nat_tests)
 
--- a frame with right addresses that is no session data
-frame_control : (a : At) (number : ℕ) (port : AccessPort) (p : PppoeFrame) → (length p.dst.0 ≡ 6 → length p.src.0 ≡ 6 → is_session_data (pppoe_text p) ≡ false) → AreControl a.seat (frame_outs a number port p)
-frame_control a number port p h =
+no_longer : (m n : ℕ) → nat_le m n ≡ true → m ≤ n
+no_longer m n e = grind (arith, nat_tests)
+
+-- a frame with right addresses that is no session data, in its one spelling
+frame_control : (a : At) (number : ℕ) (port : AccessPort) (p : PppoeFrame) → (length p.dst.0 ≡ 6 → length p.src.0 ≡ 6 → is_session_data (pppoe_text p) ≡ false) → IsSpelledWhereHeld p → AreControl a.seat (frame_outs a number port p)
+frame_control a number port p h framed =
     where_fits a.seat (eqb (length p.dst.0) 6) (eqb (length p.src.0) 6) (nat_le (length (pppoe_text p)) LONGEST) (out a (Access number) port.peer (pppoe_text p) None)
-    (λ d s. no_data a number port (pppoe_text p) (h (same_length (length p.dst.0) d) (same_length (length p.src.0) s)))
+    (λ d s few.
+    let dst = same_length (length p.dst.0) d in
+    let src = same_length (length p.src.0) s in
+    no_data a number port (pppoe_text p) (h dst src) (framed dst src (no_longer (length (pppoe_text p)) LONGEST few)))
 
 -- a frame of the discovery stage
-pub discovery_control : (a : At) (number : ℕ) (port : AccessPort) (p : PppoeFrame) → p.discovery ≡ true → AreControl a.seat (frame_outs a number port p)
-discovery_control a number port p e =
+pub discovery_control : (a : At) (number : ℕ) (port : AccessPort) (p : PppoeFrame) → p.discovery ≡ true → IsSpelledWhereHeld p → AreControl a.seat (frame_outs a number port p)
+discovery_control a number port p e framed =
     frame_control a number port p
     (λ d s. ap (λ (b : Bool). is_session_data (pppoe_text (made p.dst.0 p.src.0 b p.code p.session p.payload))) e ∙ discovery_shown p.dst.0 p.src.0 p.code p.session p.payload d s)
+    framed
 
 -- a session frame with a packet that a link writes
 written_control : (a : At) (number : ℕ) (port : AccessPort) (dst src : Mac) (session : ℕ) (f : List ℕ) → IsWritten f → AreControl a.seat (frame_outs a number port (session_frame dst src session f))
@@ -111,7 +119,8 @@ written_control a number port dst src session f is =
     let info = packet_text is.packet in
     subst (λ (g : List ℕ). AreControl a.seat (frame_outs a number port (session_frame dst src session g))) (sym is.spelled)
     (frame_control a number port (session_frame dst src session (ppp_text (record { protocol = is.number; info = info })))
-    (ppp_shown is.number dst.0 src.0 0 session info (other_protocol is.number is.packet.code info is.written)))
+    (ppp_shown is.number dst.0 src.0 0 session info (other_protocol is.number is.packet.code info is.written))
+    (session_spelled dst src session (ppp_text (record { protocol = is.number; info = info })) (omega arith)))
 
 -- PPP frames of a session's link
 ppp_control : (a : At) (number : ℕ) (mac : Mac) (n : SessionNo) (port : AccessPort) (fs : List (List ℕ)) → AreWritten fs → AreControl a.seat (ppp_outs a number mac n port fs)
@@ -121,7 +130,7 @@ ppp_control a number mac n port (f ∷ fs) h =
 
 -- the PADT of a session
 pub padt_control : (a : At) (number : ℕ) (mac : Mac) (n : SessionNo) (port : AccessPort) (offers : PortRules) → AreControl a.seat (padt_outs a number mac n port offers)
-padt_control a number mac n port offers = discovery_control a number port (padt_of offers mac n.0) refl
+padt_control a number mac n port offers = discovery_control a number port (padt_of offers mac n.0) refl (padt_spelled offers mac n.0)
 
 -- a message of a tunnel is no data of a call
 control_shown : (octets : List ℕ) → IsSpelled octets → is_call_data octets ≡ false
@@ -146,7 +155,7 @@ call_shown n t k info other = other
 pub tunnel_control : (a : At) (to : Peer) (frames : List (List ℕ)) → AllByRecursion IsSpelled frames → AreControl a.seat (tunnel_outs a to frames)
 tunnel_control a to [] h = tt
 tunnel_control a to (f ∷ frames) h = (
-  record { seat_is = refl; charge = refl; unsent = refl; no_packet = record { on_way = refl; not_core = refl; not_data = λ e. absurd (false≢true e); not_call = λ e. control_shown f h.0; control = λ e t. h.0; spelled = λ e t. absurd (control_type f h.0 t) } },
+  record { seat_is = refl; charge = refl; unsent = refl; no_packet = record { on_way = refl; not_core = refl; framed = λ e. absurd (false≢true e); not_data = λ e. absurd (false≢true e); not_call = λ e. control_shown f h.0; control = λ e t. h.0; spelled = λ e t. absurd (control_type f h.0 t) } },
   tunnel_control a to frames h.1,
 )
 
@@ -161,7 +170,7 @@ data_control a c f is =
     let other : is_call_data (call_octets c f) ≡ false =
     ap (λ (g : List ℕ). is_call_data (call_octets c g)) is.spelled ∙ call_shown is.number c.far (to_peer c.call) info (other_protocol is.number is.packet.code info is.written) in
     fits_control a.seat (nat_le (length (call_octets c f)) LONGEST) (out a Tunnel c.peer (call_octets c f) None)
-    (record { seat_is = refl; charge = refl; unsent = refl; no_packet = record { on_way = refl; not_core = refl; not_data = λ e. absurd (false≢true e); not_call = λ e. other; control = λ e t. absurd (data_type (slice_index (call_octets c f) 0) refl t); spelled = λ e t. (call_message c.far (to_peer c.call) f, refl) } })
+    (record { seat_is = refl; charge = refl; unsent = refl; no_packet = record { on_way = refl; not_core = refl; framed = λ e. absurd (false≢true e); not_data = λ e. absurd (false≢true e); not_call = λ e. other; control = λ e t. absurd (data_type (slice_index (call_octets c f) 0) refl t); spelled = λ e t. (call_message c.far (to_peer c.call) f, refl) } })
 
 call_control : (a : At) (c : TunnelCall) (fs : List (List ℕ)) → AreWritten fs → AreControl a.seat (call_outs a c fs)
 call_control a c [] h = tt

@@ -12,6 +12,7 @@ use Rattle.bng_base.specs.declared.item.OutRecord.{OutRecord}
 use Rattle.bng_base.specs.declared.outside.Role.{Role}
 use Rattle.bng_base.specs.declared.outside.Role.TheVariants.{Access, Core, Tunnel, Auth, Acct, Coa, Control}
 use Rattle.bng_base.specs.Ipv4Grammar.{IsIpv4}
+use Rattle.bng_base.specs.PppoeGrammar.{PppoeFrame, IsPppoe, pppoe_text}
 use Rattle.bng_base.specs.Roles.{is_core, is_access}
 use Rattle.bng_engine.specs.Wire.{WirePacket}
 use Rattle.bng_l2tp_tunnel.specs.Sound.{IsSpelled}
@@ -66,6 +67,10 @@ pub record IsInputOf (c : Charge) (role : Role) (octets : List ℕ) : Type 0 whe
   pub total : header.total ≡ length octets
   pub counted : c.octets ≡ length octets
 
+-- a PPPoE frame in its one spelling: whoever reads the octets by the grammar finds it, and nothing follows it (RFC 2516 section 4)
+abbrev pub IsFrameSpelled : List ℕ → Type 0
+IsFrameSpelled octets = (p : PppoeFrame) × IsPppoe p octets × (octets ≡ pppoe_text p)
+
 -- towards the subscriber: it goes out on the circuit's port, to its MAC and in its session, and after 22 octets it is a
 -- whole IPv4 packet whose destination is the term's address
 pub record IsOutputOf (c : Charge) (role : Role) (octets : List ℕ) : Type 0 where
@@ -74,6 +79,7 @@ pub record IsOutputOf (c : Charge) (role : Role) (octets : List ℕ) : Type 0 wh
   pub session : SessionNo
   pub circuit : c.circuit ≡ Pppoe port mac session
   pub role_is : role ≡ Access port
+  pub framed : IsFrameSpelled octets
   pub mac_is : take 6 octets ≡ mac.0
   pub ether_type : big_from 12 2 octets ≡ 34916
   pub session_id : big_from 16 2 octets ≡ session.0
@@ -123,12 +129,13 @@ is_tunnel Acct = false
 is_tunnel Coa = false
 is_tunnel Control = false
 
--- On an access port or to the peer of a tunnel, and no packet of a subscriber. To such a peer a datagram whose T bit is set is a control
--- message in its one spelling, and one whose T bit is 0 is a data message in its one spelling, so that its PPP protocol stands in octets 8
--- and 9.
+-- On an access port or to the peer of a tunnel, and no packet of a subscriber. On an access port it is a PPPoE frame in its one spelling.
+-- To such a peer a datagram whose T bit is set is a control message in its one spelling, and one whose T bit is 0 is a data message in its
+-- one spelling, so that its PPP protocol stands in octets 8 and 9.
 pub record IsNoPacket (role : Role) (octets : List ℕ) : Type 0 where
   pub on_way : (is_access role || is_tunnel role) ≡ true
   pub not_core : is_core role ≡ false
+  pub framed : is_access role ≡ true → IsFrameSpelled octets
   pub not_data : is_access role ≡ true → is_session_data octets ≡ false
   pub not_call : is_tunnel role ≡ true → is_call_data octets ≡ false
   pub control : is_tunnel role ≡ true → type_bit (slice_index octets 0) ≡ 1 → IsSpelled octets
