@@ -19,7 +19,7 @@ use Rattle.bng_l2tp_wire.specs.Messages.{type_bit}
 use Rattle.bng_engine.specs.Terms.{Key, key_in}
 use Rattle.bng_engine.specs.Wire.{datagram_of, went}
 use Rattle.bng_engine.proofs.Everywhere.{all_weaker, all_filter}
-use Rattle.bng_steps.specs.Reader.{IsDataSpelled, is_call_data, is_session_data, is_tunnel, IsInputOf, IsOutputOf, IsOutputOn, IsOutputOver, IsInDirection, IsNoPacket}
+use Rattle.bng_steps.specs.Reader.{IsDataSpelled, IsFrameSpelled, is_call_data, is_session_data, is_tunnel, IsInputOf, IsOutputOf, IsOutputOn, IsOutputOver, IsInDirection, IsNoPacket}
 use Rattle.bng_gate.specs.Addressed.{IsFromTerm, IsToCall, IsToTerm, IsAddressed}
 use Rattle.bng_gate.specs.Rounds.{carries_data, on_data}
 use Rattle.bng_gate.proofs.Keys.{IsOurs}
@@ -33,6 +33,7 @@ module _ (terms : List Key) where
   record IsAddressedAs (role : Role) (to : Peer) (octets : List ℕ) : Type 0 where
     to_core : is_core role ≡ true → IsFromTerm terms octets
     to_circuit : is_access role ≡ true → is_session_data octets ≡ true → IsToTerm terms role octets
+    framed : is_access role ≡ true → IsFrameSpelled octets
     to_call : is_tunnel role ≡ true → is_call_data octets ≡ true → IsToCall terms to octets
     spelled : is_tunnel role ≡ true → type_bit (slice_index octets 0) ≡ 0 → IsDataSpelled octets
     to_tunnel : is_tunnel role ≡ true → type_bit (slice_index octets 0) ≡ 1 → IsSpelled octets
@@ -80,6 +81,7 @@ module _ (terms : List Key) where
   on_circuit (Pppoe port mac session) c role to octets circuit h among = record {
     to_core = λ e. absurd (true≢false (sym e ∙ ap is_core h.role_is));
     to_circuit = λ e f. to_term c role octets h among;
+    framed = λ e. h.framed;
     to_call = λ e f. absurd (true≢false (sym e ∙ ap is_tunnel h.role_is));
     spelled = λ e f. absurd (true≢false (sym e ∙ ap is_tunnel h.role_is));
     to_tunnel = λ e f. absurd (true≢false (sym e ∙ ap is_tunnel h.role_is));
@@ -87,6 +89,7 @@ module _ (terms : List Key) where
   on_circuit (L2tp peer tunnel session) c role to octets circuit h among = record {
     to_core = λ e. absurd (true≢false (sym e ∙ ap is_core h.role_is));
     to_circuit = λ e f. absurd (true≢false (sym e ∙ ap is_access h.role_is));
+    framed = λ e. absurd (true≢false (sym e ∙ ap is_access h.role_is));
     to_call = λ e f. to_its_call peer tunnel session c role to octets circuit h among;
     spelled = λ e f. h.spelled;
     to_tunnel = λ e f. absurd (no_type (slice_index octets 0) h.type f);
@@ -97,6 +100,7 @@ module _ (terms : List Key) where
   directed true c role to octets h among = record {
     to_core = λ e. from_term c role octets h among;
     to_circuit = λ e f. absurd (true≢false (sym e ∙ ap is_access h.role_is));
+    framed = λ e. absurd (true≢false (sym e ∙ ap is_access h.role_is));
     to_call = λ e f. absurd (true≢false (sym e ∙ ap is_tunnel h.role_is));
     spelled = λ e f. absurd (true≢false (sym e ∙ ap is_tunnel h.role_is));
     to_tunnel = λ e f. absurd (true≢false (sym e ∙ ap is_tunnel h.role_is));
@@ -107,6 +111,7 @@ module _ (terms : List Key) where
   charged role to octets None h among = record {
     to_core = λ e. absurd (true≢false (sym e ∙ h.not_core));
     to_circuit = λ e f. absurd (true≢false (sym f ∙ h.not_data e));
+    framed = h.framed;
     to_call = λ e f. absurd (true≢false (sym f ∙ h.not_call e));
     spelled = h.spelled;
     to_tunnel = h.control;
@@ -116,7 +121,7 @@ module _ (terms : List Key) where
   one_addressed : (o : OutRecord) → IsOurs (Contains terms) o → IsAddressed terms (datagram_of o)
   one_addressed o h =
       let is = charged o.role o.to o.frame o.charge h.whole h.known in
-      record { to_core = is.to_core; to_circuit = is.to_circuit; to_call = is.to_call; spelled = is.spelled; to_tunnel = is.to_tunnel }
+      record { to_core = is.to_core; to_circuit = is.to_circuit; framed = is.framed; to_call = is.to_call; spelled = is.spelled; to_tunnel = is.to_tunnel }
 
   pub went_addressed : (os : List OutRecord) → AllByRecursion (IsOurs (Contains terms)) os → AllByRecursion (IsAddressed terms) (went os)
   went_addressed os h =
@@ -132,6 +137,7 @@ module _ (terms : List Key) where
       record {
         to_core = λ f. absurd (true≢false (sym f ∙ ways.1));
         to_circuit = λ f g. absurd (true≢false (sym f ∙ ways.0));
+        framed = λ f. absurd (true≢false (sym f ∙ ways.0));
         to_call = λ f g. absurd (true≢false (sym f ∙ parts.1));
         spelled = λ f g. absurd (true≢false (sym f ∙ parts.1));
         to_tunnel = λ f g. absurd (true≢false (sym f ∙ parts.1));

@@ -16,7 +16,7 @@ use Rattle.bng_base.specs.Roles.{is_core, is_access}
 use Rattle.bng_engine.specs.Terms.{Key}
 use Rattle.bng_l2tp_tunnel.specs.Sound.{IsSpelled}
 use Rattle.bng_l2tp_wire.specs.Messages.{type_bit}
-use Rattle.bng_steps.specs.Reader.{IsDataSpelled, is_call_data, is_session_data, is_tunnel}
+use Rattle.bng_steps.specs.Reader.{IsDataSpelled, IsFrameSpelled, is_call_data, is_session_data, is_tunnel}
 
 -- the octets are an IPv4 packet of which this holds, and nothing else
 pub record IsWhole (Holds : Ipv4 → Type 0) (octets : List ℕ) : Type 0 where
@@ -59,13 +59,15 @@ pub record IsToCall (terms : List Key) (to : Peer) (octets : List ℕ) : Type 0 
   pub packet : IsWhole (λ v. v.dst ≡ term.address) (drop 10 octets)
 
 -- What went to the core is a packet from the address of one of these terms. What went out on an access port as session data of IPv4
--- (ETHER_TYPE 8864, PPP protocol 0021) is a packet on the circuit of one of them, to its address. What went to the peer of a tunnel as data
+-- (ETHER_TYPE 8864, PPP protocol 0021) is a packet on the circuit of one of them, to its address; and nothing went out there but PPPoE frames
+-- in their one spelling, so that its fields stand where they are read. What went to the peer of a tunnel as data
 -- of IPv4 (RFC 2661 section 3.1: the T bit is 0; PPP protocol 0021) is a packet to that peer for the call of one of them, to its address. All
 -- that went there as data is a data message in its one spelling, so that its PPP protocol stands in octets 8 and 9 and no packet hides behind
 -- other fields; and what went there with the T bit set is a control message in its one spelling.
 pub record IsAddressed (terms : List Key) (d : Datagram) : Type 0 where
   pub to_core : is_core d.role ≡ true → IsFromTerm terms d.octets
   pub to_circuit : is_access d.role ≡ true → is_session_data d.octets ≡ true → IsToTerm terms d.role d.octets
+  pub framed : is_access d.role ≡ true → IsFrameSpelled d.octets
   pub to_call : is_tunnel d.role ≡ true → is_call_data d.octets ≡ true → IsToCall terms d.peer d.octets
   pub spelled : is_tunnel d.role ≡ true → type_bit (slice_index d.octets 0) ≡ 0 → IsDataSpelled d.octets
   pub to_tunnel : is_tunnel d.role ≡ true → type_bit (slice_index d.octets 0) ≡ 1 → IsSpelled d.octets
