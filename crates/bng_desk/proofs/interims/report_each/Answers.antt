@@ -19,6 +19,9 @@ loop-place-init c = few_none c.args.moment c.args.wall c.args.shards.now c.args.
 pub bounds-reports-place : goal.bounds-reports-place
 bounds-reports-place c = omega (arith, same (goal.at.bounds-reports-place c).Start, c.loop-place-test.true, c.loop-place.auto.reports)
 
+pub offset_bounds-reports-place : goal.offset_bounds-reports-place
+offset_bounds-reports-place c = omega (arith, same (goal.at.offset_bounds-reports-place c).Start, c.loop-place-test.true, c.loop-place.auto.reports)
+
 pub report-requires-clause-terms : goal.report-requires-clause-terms
 report-requires-clause-terms c =
     subst (λ (v : ShardView ShardState Entry). AreTenures c.args.moment v.state.slots) (sym c.index-shards-place.is) (c.requires.terms c.loop-place.place c.index-shards-place.result c.loop-place-test.true)
