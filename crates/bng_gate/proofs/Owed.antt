@@ -5,7 +5,12 @@ use Rattle.std.specs.List.{All, AllByRecursion, Contains, flat_map, range_with_l
 use Rattle.std.proofs.lemmas.Bool.{eqb-true, true≢false}
 use Rattle.std.proofs.lemmas.List.Elements.{recursion_from_All}
 use Rattle.std.proofs.lemmas.Option.{none-some, same_Some}
+use Rattle.std.proofs.lemmas.List.{append_assoc, map-append}
+use Rattle.bng_access.specs.declared.rules.NasRules.{NasRules}
+use Rattle.bng_access.specs.Request.{attributes, front}
 use Rattle.bng_acct.specs.Attributes.{octets}
+use Rattle.bng_acct.specs.Texts.{port_id}
+use Rattle.bng_base.specs.declared.circuit.Circuit.{Circuit}
 use Rattle.bng_base.specs.declared.circuit.Circuit.TheVariants.{Pppoe}
 use Rattle.bng_base.specs.declared.item.Entry.{Entry}
 use Rattle.bng_base.specs.declared.outside.Datagram.{Datagram}
@@ -19,16 +24,17 @@ use Rattle.bng_engine.proofs.Everywhere.{all_append, all_filter, all_mapped, all
 use Rattle.bng_grant.specs.Classes.{AreKept}
 use Rattle.bng_lane.specs.Laws.{but_for_digest}
 use Rattle.bng_radius_wire.specs.Attributes.{Field}
-use Rattle.bng_radius_wire.specs.Digests.{is_message_authenticator}
+use Rattle.bng_radius_wire.specs.Digests.{is_message_authenticator, zeros}
 use Rattle.bng_radius_wire.specs.Grammar.{Packet}
 use Rattle.bng_steps.specs.declared.rules.Rules.{Rules}
 use Rattle.bng_steps.specs.Opening.{in_order, tenures_after}
 use Rattle.bng_steps.specs.Protocol.{ShardState, opened}
 use Rattle.bng_steps.specs.Tenures.{Tenure}
 use Rattle.bng_steps.proofs.InOrder.{all_in_order}
-use Rattle.bng_desk.specs.Opening.{opened_shards, shard_of, statics_of}
+use Rattle.bng_desk.specs.Opening.{lane_rules, opened_shards, shard_of, statics_of}
 use Rattle.bng_desk.specs.Round.{Round, handled_states, news_in, terms_in}
 use Rattle.bng_desk.specs.Taking.{states_of}
+use Rattle.bng_verdict.specs.declared.question.AuthAsk.{AuthAsk}
 use Rattle.bng_gate.specs.Billed.{Bill}
 use Rattle.bng_gate.specs.Granted.{BeganBy, Held, IsLogin, Login, Stage, nothing, stage_at}
 use Rattle.bng_gate.specs.LetIn.{IsOfStatic, IsOwed, WasLetIn}
@@ -107,19 +113,38 @@ heads f g fs gs e = cc
 no_head : (g : Field) (gs : List Field) → [] ≡ g ∷ gs → ⊥
 no_head g gs e = cc
 
--- an attribute that is a User-Name but for a digest is one
-same_name : (name : List ℕ) (f : Field) → but_for_digest f ≡ octets 1 name → f ≡ octets 1 name
-same_name name f e = by_kind (is_message_authenticator f) refl e
+tails : (f g : Field) (fs gs : List Field) → f ∷ fs ≡ g ∷ gs → fs ≡ gs
+tails f g fs gs e = cc
+
+-- an attribute of another type that is this one but for a digest is it
+same_field : (kind : ℕ) (value : List ℕ) (f : Field) → eqb kind 80 ≡ false → but_for_digest f ≡ octets kind value → f ≡ octets kind value
+same_field kind value f other e = by_kind (is_message_authenticator f) refl e
   where
-    by_kind : (b : Bool) → is_message_authenticator f ≡ b → (if b then record f { value = [] } else f) ≡ octets 1 name → f ≡ octets 1 name
+    by_kind : (b : Bool) → is_message_authenticator f ≡ b → (if b then record f { value = [] } else f) ≡ octets kind value → f ≡ octets kind value
     by_kind false is e = e
     by_kind true is e =
-        let kind : f.kind ≡ 1 = ap (λ (x : Field). x.kind) e in
-        absurd (true≢false (sym is ∙ ap (λ (n : ℕ). eqb n 80) kind))
+        let same : f.kind ≡ kind = ap (λ (x : Field). x.kind) e in
+        absurd (true≢false (sym is ∙ ap (λ (n : ℕ). eqb n 80) same ∙ other))
 
 name_there : (name : List ℕ) (fs rest : List Field) → map but_for_digest fs ≡ octets 1 name ∷ rest → Contains fs (octets 1 name)
 name_there name [] rest e = absurd (no_head (octets 1 name) rest e)
-name_there name (f ∷ fs) rest e = contained (f ∷ fs) (octets 1 name) (inl (same_name name f (heads (but_for_digest f) (octets 1 name) (map but_for_digest fs) rest e)))
+name_there name (f ∷ fs) rest e = contained (f ∷ fs) (octets 1 name) (inl (same_field 1 name f refl (heads (but_for_digest f) (octets 1 name) (map but_for_digest fs) rest e)))
+
+-- the last one is the NAS-Port-Id
+port_last : (port : List ℕ) (fs before : List Field) → map but_for_digest fs ≡ before ++ octets 87 port ∷ [] → Has (octets 87 port) fs
+port_last port [] [] e = absurd (no_head (octets 87 port) [] e)
+port_last port [] (x ∷ before) e = absurd (no_head x (before ++ octets 87 port ∷ []) e)
+port_last port (f ∷ fs) [] e = inl (same_field 87 port f refl (heads (but_for_digest f) (octets 87 port) (map but_for_digest fs) [] e))
+port_last port (f ∷ fs) (x ∷ before) e = inr (port_last port fs before (tails (but_for_digest f) x (map but_for_digest fs) (before ++ octets 87 port ∷ []) e))
+
+-- a request says the circuit of its question
+port_there : (rules : NasRules) (secret authenticator : List ℕ) (ask : AuthAsk) (fs : List Field) → map but_for_digest fs ≡ map but_for_digest (attributes rules secret authenticator ask) → Contains fs (octets 87 (port_id ask.circuit))
+port_there rules secret authenticator ask fs e =
+    let before = map but_for_digest (front rules secret authenticator ask) in
+    let digest = but_for_digest (octets 80 zeros) in
+    contained fs (octets 87 (port_id ask.circuit))
+    (port_last (port_id ask.circuit) fs (before ++ digest ∷ [])
+    (e ∙ map-append but_for_digest (front rules secret authenticator ask) (octets 80 zeros ∷ octets 87 (port_id ask.circuit) ∷ []) ∙ sym (append_assoc before (digest ∷ []) (octets 87 (port_id ask.circuit) ∷ []))))
 
 -- Logins ----------------------------------------------------------------------------------------------------------------------------
 
@@ -144,7 +169,7 @@ module _ (config : Config) (seed : List ℕ) (stages : List Stage) (helds : List
     let_in k t by =
         any_all (BeganBy by.state by.handled t k) (IsLogin config seed stages) (IsGood (bill_of t)) (λ g began is. inr (its g began is)) logins by.login (recursion_from_All (IsLogin config seed stages) logins right)
       where
-        its : (g : Login) → BeganBy by.state by.handled t k g → IsLogin config seed stages g → WasLetIn config taken sent t.user t.class
+        its : (g : Login) → BeganBy by.state by.handled t k g → IsLogin config seed stages g → WasLetIn config taken sent t.circuit t.user t.class
         its g began is =
             let class : HasClass by.handled.deed.entry.item.frame.payload t.class = step_class by.state.rules by.state.slots by.handled.limited by.handled.deed t by.began by.step in
             let reads = subst (λ (o : List ℕ). HasClass o t.class) began.reply.octets class in
@@ -155,6 +180,7 @@ module _ (config : Config) (seed : List ℕ) (stages : List Stage) (helds : List
               is_request = is.is_request;
               code = is.code;
               name = subst (λ (n : List ℕ). Contains is.packet.attributes (octets 1 n)) (sym began.user) (name_there _ is.packet.attributes _ is.says);
+              port = subst (λ (c : Circuit). Contains is.packet.attributes (octets 87 (port_id c))) (sym began.circuit) (port_there (lane_rules config).nas config.secret.items is.packet.authenticator g.ask is.packet.attributes is.says);
               reply = g.reply;
               answered = was_taken g.answered g.place (record { role = Auth; peer = config.auth_server; octets = g.reply }) is.taken;
               accept = is.accept;

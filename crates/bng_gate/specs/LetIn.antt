@@ -2,6 +2,8 @@
 use Rattle.std.specs.Prelude.{◌≡◌, ◌⊎◌, ℕ, List, []}
 use Rattle.std.specs.List.{Contains}
 use Rattle.bng_acct.specs.Attributes.{octets}
+use Rattle.bng_acct.specs.Texts.{port_id}
+use Rattle.bng_base.specs.declared.circuit.Circuit.{Circuit}
 use Rattle.bng_base.specs.declared.circuit.Circuit.TheVariants.{Pppoe}
 use Rattle.bng_base.specs.declared.outside.Datagram.{Datagram}
 use Rattle.bng_base.specs.declared.outside.Role.TheVariants.{Auth}
@@ -23,15 +25,17 @@ pub record IsOfStatic (config : Config) (key : Key) (user class : List ℕ) : Ty
   pub user_is : user ≡ static.user.items
   pub class_is : class ≡ []
 
--- An Access-Request with that User-Name went to the configured server. From that server came an Access-Accept, signed for this very request,
--- and the Class are the octets of its Class attributes, in their order, as many as are kept.
-pub record WasLetIn (config : Config) (taken sent : List Datagram) (user class : List ℕ) : Type 0 where
+-- An Access-Request with that User-Name, and with the circuit as its NAS-Port-Id (RFC 2869 section 5.17), went to the configured server. From
+-- that server came an Access-Accept, signed for this very request, and the Class are the octets of its Class attributes, in their order, as
+-- many as are kept.
+pub record WasLetIn (config : Config) (taken sent : List Datagram) (circuit : Circuit) (user class : List ℕ) : Type 0 where
   pub request : List ℕ
   pub asked : Contains sent (record { role = Auth; peer = config.auth_server; octets = request })
   pub packet : Packet
   pub is_request : IsRadius packet request
   pub code : packet.code ≡ access_request
   pub name : Contains packet.attributes (octets 1 user)
+  pub port : Contains packet.attributes (octets 87 (port_id circuit))
   pub reply : List ℕ
   pub answered : Contains taken (record { role = Auth; peer = config.auth_server; octets = reply })
   pub accept : Packet
@@ -42,4 +46,4 @@ pub record WasLetIn (config : Config) (taken sent : List Datagram) (user class :
   pub classes : AreKept accept.attributes class
 
 abbrev pub IsOwed : Config → List Datagram → List Datagram → Key → List ℕ → List ℕ → Type 0
-IsOwed config taken sent key user class = IsOfStatic config key user class ⊎ WasLetIn config taken sent user class
+IsOwed config taken sent key user class = IsOfStatic config key user class ⊎ WasLetIn config taken sent key.circuit user class
