@@ -133,7 +133,7 @@ none_covers c none = all_weaker (λ (r : ChangeRequest). is_in_hand r ≡ false)
 
 -- a request is answered under its number
 abbrev IsTo : ℕ → ChangeAnswer → Type 0
-IsTo n a = a.ask ≡ n
+IsTo n a = a.number ≡ n
 
 -- in a shard
 shard_answers_it : (k : ItemKind) (r : Rules) (s : State) (e : Entry) (o : Option ChangeAnswer) → k ≡ kind.Change → AnswersKind k r s e o → (p : Packet) → IsRequestIn p e.item.frame.payload → (a : ChangeAnswer) × (o ≡ Some a) × (a.number ≡ e.item.ask)

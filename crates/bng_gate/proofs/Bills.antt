@@ -238,7 +238,7 @@ module _ (bills : List Bill) (moment wall : ℕ) where
   starts_say terms all (k ∷ ks) (f ∷ fs) h = (facts_say bills terms k _ f.facts h.0.facts all, starts_say terms all ks fs h.1)
 
   interim_says : (terms : List Tenure) → AllByRecursion (Has (IsIn bills)) terms → (b : BillingState) (r : Row) (fs : List FormedRecord) (b' : BillingState) → FormsInterim terms moment wall b r fs b' → AllByRecursion (SaysBill bills) fs
-  interim_says terms all b r fs b' (inl (open, none, same)) = subst (AllByRecursion (SaysBill bills)) (sym none) tt
+  interim_says terms all b r fs b' (inl (is_open, none, same)) = subst (AllByRecursion (SaysBill bills)) (sym none) tt
   interim_says terms all b r fs b' (inr (unopened, f, one, is, forms)) = subst (AllByRecursion (SaysBill bills)) (sym one) (facts_say bills terms r.key r.carried f.facts is.facts all, tt)
 
   interims_say : (terms : List Tenure) → AllByRecursion (Has (IsIn bills)) terms → (b : BillingState) (rs : List Row) (fs : List FormedRecord) (b' : BillingState) → FormsInterims terms moment wall b rs fs b' → AllByRecursion (SaysBill bills) fs

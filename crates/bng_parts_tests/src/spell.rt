@@ -1,10 +1,10 @@
-use crate::asserts::{assert_octets, assert_same};
+use crate::asserts::{assert_count, assert_octets, assert_same};
 use bng_base::{
     Claim, DropCause, Entry, Fate, Frame, Ip4, Item, ItemKind, Listed, Loose, NOBODY, Octets,
     Opening, OutRecord, Peer, Role, RoundRecord,
 };
 use bng_plant::{MemorySink, Wrote};
-use bng_spell::{spell_opening, spell_round};
+use bng_spell::{read_opening, read_round, spell_opening, spell_round};
 use std::alloc::{AllocError, Global};
 use std::process::Abort;
 use std::test::Fail;
@@ -318,11 +318,7 @@ fn a_long_round_is_spelled_whole(rt: HostRuntime) -> Result<(), Fail> {
     }
     text.extend_from_slice(b"\nend\n")?;
     let mut sink = sink(alloc, Vec::new(alloc))?;
-    assert_same(
-        &rt,
-        &spell_round(&long_round(alloc)?, &mut sink),
-        &Wrote::Ok,
-    );
+    assert_same(&rt, &spell_round(&long_round(alloc)?, &mut sink), &Wrote::Ok);
     assert_octets(&rt, sink.text(), text.as_slice());
     Ok(())
 }
@@ -361,5 +357,128 @@ fn an_empty_configuration_is_a_dash(rt: HostRuntime) -> Result<(), Fail> {
     };
     assert_same(&rt, &spell_opening(&opening, &mut sink), &Wrote::Ok);
     assert_octets(&rt, sink.text(), NO_OCTETS.as_bytes());
+    Ok(())
+}
+
+// This text is a round, and what is read is spelled so again.
+fn reads(rt: &impl Abort, alloc: Global, text: &str) -> Result<(), Fail> {
+    let read = read_round(alloc, text.as_bytes(), 0)?;
+    let (round, next) = read.ok_or("no round")?;
+    assert_count(rt, next, text.len());
+    assert_spelled(rt, alloc, &round, text)?;
+    Ok(())
+}
+
+#[test]
+fn rounds_are_read(rt: HostRuntime) -> Result<(), Fail> {
+    for text in [ROUND, REFUSED, KINDS, FATES, ROLES] {
+        reads(&rt, rt.alloc(), text)?;
+    }
+    Ok(())
+}
+
+// The first entry of the second shard.
+fn entry_of(round: &RoundRecord) -> Option<&Entry> {
+    round.journals.as_slice().get(1)?.as_slice().first()
+}
+
+#[test]
+fn a_round_is_read_as_it_stands(rt: HostRuntime) -> Result<(), Fail> {
+    let read = read_round(rt.alloc(), ROUND.as_bytes(), 0)?;
+    let (round, _) = read.ok_or("no round")?;
+    assert_same(&rt, &round.number, &7);
+    assert_same(&rt, &round.wall, &1_700_000_000);
+    assert_count(&rt, round.allowances.as_slice().len(), 2);
+    assert_count(&rt, round.loose.as_slice().len(), 1);
+    assert_count(&rt, round.outs.as_slice().len(), 1);
+    let entry = entry_of(&round).ok_or("no entry")?;
+    assert_same(&rt, &entry.moment, &600);
+    assert_same(&rt, &entry.item.kind, &ItemKind::Access(2));
+    assert_same(&rt, &entry.item.from, &SUBSCRIBER);
+    assert_same(&rt, &entry.claim, &Claim::Claimed(Ip4(0x0a00_0002)));
+    assert_octets(&rt, entry.item.frame.payload(), &[0x1f, 0xab]);
+    Ok(())
+}
+
+// At this place of the text stands no round.
+fn reads_none(rt: &impl Abort, alloc: Global, text: &str, at: usize) -> Result<(), Fail> {
+    if at > text.len() {
+        return Ok(());
+    }
+    let read = read_round(alloc, text.as_bytes(), at)?;
+    assert_same(rt, &read.is_none(), &true);
+    Ok(())
+}
+
+// No round stands at the front of these texts: each is the round above with one fault.
+const NO_ROUNDS: [&str; 22] = [
+    // Numbers with a leading zero, above their ranges, with a sign, and none.
+    "round 07 600 0 -\nend\n",
+    "round 18446744073709551616 600 0 -\nend\n",
+    "round +7 600 0 -\nend\n",
+    "round 7  0 -\nend\n",
+    "round 7 600 0 4294967296\nend\n",
+    "round 7 600 0 1,\nend\n",
+    "round 7 600 0 \nend\n",
+    "round 7 600 0 -\nout 65536 0 0 core 192.0.2.1:4002 1 45\nend\n",
+    "round 7 600 0 -\nout 0 0 0 core 192.0.2.256:4002 1 45\nend\n",
+    "round 7 600 0 -\nout 0 0 0 core 192.0.2.1:65536 1 45\nend\n",
+    "round 7 600 0 -\nout 0 0 0 access256 192.0.2.1:4002 1 45\nend\n",
+    // Digits of upper case, an odd number of them, and a role and an answer that are none.
+    "round 7 600 0 -\nout 0 0 0 core 192.0.2.1:4002 1 4A\nend\n",
+    "round 7 600 0 -\nout 0 0 0 core 192.0.2.1:4002 1 456\nend\n",
+    "round 7 600 0 -\nout 0 0 0 core 192.0.2.1:4002 1 \nend\n",
+    "round 7 600 0 -\nout 0 0 0 verdict 192.0.2.1:4002 1 45\nend\n",
+    "round 7 600 0 -\nout 0 0 0 core 192.0.2.1:4002 2 45\nend\n",
+    // Lines in another order, and a round without its end.
+    "round 7 600 0 -\nout 0 0 0 core 192.0.2.1:4002 1 45\nrefused core 192.0.2.1:4002 0 0 0 33333333333333333333333333333333 -\nend\n",
+    "round 7 600 0 -\nend",
+    "round 7 600 0 -\n",
+    "",
+    // An entry of a shard that is not there, and too few random octets.
+    "round 7 600 0 1\nentry 1 0 0 core 10.0.0.1:4001 0 0 0 01010101010101010101010101010101 - -\nend\n",
+    "round 7 600 0 -\nrefused core 192.0.2.1:4002 0 0 0 3333333333333333333333333333333 -\nend\n",
+];
+
+#[test]
+fn texts_with_one_fault_are_no_rounds(rt: HostRuntime) -> Result<(), Fail> {
+    for text in NO_ROUNDS {
+        reads_none(&rt, rt.alloc(), text, 0)?;
+    }
+    Ok(())
+}
+
+#[test]
+fn loose_items_out_of_order_are_no_round(rt: HostRuntime) -> Result<(), Fail> {
+    let text = "round 7 600 0 -
+loose 1 0 core 192.0.2.1:4002 1 0 0 22222222222222222222222222222222 - malformed
+loose 0 9 core 192.0.2.1:4002 1 0 0 22222222222222222222222222222222 - malformed
+end
+";
+    reads_none(&rt, rt.alloc(), text, 0)
+}
+
+#[test]
+fn a_round_and_a_half_are_one_round(rt: HostRuntime) -> Result<(), Fail> {
+    let text = "round 1 600 0 -\nend\nround 2 600 0 -\n";
+    let read = read_round(rt.alloc(), text.as_bytes(), 0)?;
+    let (_, next) = read.ok_or("no round")?;
+    assert_count(&rt, next, 20);
+    reads_none(&rt, rt.alloc(), text, next)
+}
+
+#[test]
+fn an_opening_is_read(rt: HostRuntime) -> Result<(), Fail> {
+    let read = read_opening(rt.alloc(), OPENING.as_bytes())?;
+    let (read, next) = read.ok_or("no opening")?;
+    assert_count(&rt, next, OPENING.len());
+    assert_octets(&rt, read.configuration.as_slice(), b"n=1\n");
+    Ok(())
+}
+
+#[test]
+fn half_an_opening_is_none(rt: HostRuntime) -> Result<(), Fail> {
+    let read = read_opening(rt.alloc(), b"bng-trace 1\n")?;
+    assert_same(&rt, &read.is_none(), &true);
     Ok(())
 }

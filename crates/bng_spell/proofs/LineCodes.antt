@@ -18,10 +18,10 @@ use Rattle.bng_base.specs.declared.fate.Fate.{Fate}
 use Rattle.bng_spell.specs.Fields.{kind_text, peer_text, flag_text, role_text, claim_text, fate_text, octets_text}
 use Rattle.bng_spell.specs.Lines.{entry_line, loose_line, refused_line, out_line}
 use Rattle.bng_spell.specs.Kept.{AreOctets, IsKind, IsRole, IsPeer, IsClaim, IsSet, IsItem, IsEntry, IsLoose, IsOut}
-use Rattle.bng_spell.proofs.Plain.{is_separator}
-use Rattle.bng_spell.proofs.Codes.{until_once, pair_once}
-use Rattle.bng_spell.proofs.FieldNames.{decimal_plain, encoded_plain, encoded_same, octets_plain, octets_same, frame_same, flag_plain, flag_same, kind_plain, kind_same, role_plain, role_same, fate_plain, fate_same}
-use Rattle.bng_spell.proofs.Addresses.{peer_once, claim_once}
+use Rattle.bng_spell.specs.Plain.{is_separator}
+use Rattle.bng_spell.specs.Codes.{until_once, pair_once}
+use Rattle.bng_spell.specs.FieldNames.{decimal_plain, encoded_plain, encoded_same, octets_plain, octets_same, frame_same, flag_plain, flag_same, kind_plain, kind_same, role_plain, role_same, fate_plain, fate_same}
+use Rattle.bng_spell.specs.Addresses.{peer_once, claim_once}
 
 -- texts of which none begins another
 pub record Code (A : Type 0) : Type 1 where
@@ -49,7 +49,7 @@ number stop s = record {
       (decimal_injective m n f g r.0, r.1);
 }
 
-abbrev kind : Code ItemKind
+abbrev pub kind : Code ItemKind
 kind = record {
   fits = IsKind;
   text = λ (k : ItemKind). kind_text k ++ 32 ∷ [];
@@ -58,7 +58,7 @@ kind = record {
       (kind_same k l f g r.0, r.1);
 }
 
-abbrev role : Code Role
+abbrev pub role : Code Role
 role = record {
   fits = IsRole;
   text = λ (k : Role). role_text k ++ 32 ∷ [];
@@ -67,13 +67,13 @@ role = record {
       (role_same k l f g r.0, r.1);
 }
 
-abbrev peer : Code Peer
+abbrev pub peer : Code Peer
 peer = record { fits = IsPeer; text = λ (p : Peer). peer_text p ++ 32 ∷ []; once = peer_once }
 
-abbrev claim : Code Claim
+abbrev pub claim : Code Claim
 claim = record { fits = IsClaim; text = λ (c : Claim). claim_text c ++ 10 ∷ []; once = claim_once }
 
-abbrev flag : Code Bool
+abbrev pub flag : Code Bool
 flag = record {
   fits = λ (b : Bool). Unit {0};
   text = λ (b : Bool). flag_text b ++ 32 ∷ [];
@@ -82,7 +82,7 @@ flag = record {
       (flag_same b c r.0, r.1);
 }
 
-abbrev fate : Code Fate
+abbrev pub fate : Code Fate
 fate = record {
   fits = λ (b : Fate). Unit {0};
   text = λ (b : Fate). fate_text b ++ 10 ∷ [];
@@ -109,7 +109,7 @@ octets stop s = record {
       (octets_same b c f g r.0, r.1);
 }
 
-abbrev frame : (stop : ℕ) → IsTrue (is_separator stop) → Code Packet
+abbrev pub frame : (stop : ℕ) → IsTrue (is_separator stop) → Code Packet
 frame stop s = record {
   fits = IsSet;
   text = λ (b : Packet). octets_text b.payload ++ stop ∷ [];
@@ -119,28 +119,28 @@ frame stop s = record {
 }
 
 -- the fields of an item before its octets, and what follows them
-abbrev item_with : {B : Type 0} → Code B → Code (ItemKind × (Peer × (Bool × (ℕ × (ℕ × (List ℕ × B))))))
+abbrev pub item_with : {B : Type 0} → Code B → Code (ItemKind × (Peer × (Bool × (ℕ × (ℕ × (List ℕ × B))))))
 item_with b = both kind (both peer (both flag (both (number 32 refl) (both (number 32 refl) (both digits b)))))
 
-abbrev Fields : Type 0 → Type 0
+abbrev pub Fields : Type 0 → Type 0
 Fields B = ItemKind × (Peer × (Bool × (ℕ × (ℕ × (List ℕ × B)))))
 
-abbrev fields_of : {B : Type 0} → Item → B → Fields B
+abbrev pub fields_of : {B : Type 0} → Item → B → Fields B
 fields_of i b = (i.kind, (i.from, (i.cut, (i.target, (i.ask, (i.random, b))))))
 
-abbrev item_of : {B : Type 0} → Fields B → Packet → Item
+abbrev pub item_of : {B : Type 0} → Fields B → Packet → Item
 item_of f p = record { kind = f.0; from = f.1.0; frame = p; cut = f.1.1.0; random = f.1.1.1.1.1.0; target = f.1.1.1.0; ask = f.1.1.1.1.0 }
 
-abbrev seated : {B : Type 0} → Code B → Code (ℕ × (ℕ × B))
+abbrev pub seated : {B : Type 0} → Code B → Code (ℕ × (ℕ × B))
 seated b = both (number 32 refl) (both (number 32 refl) b)
 
 short : (n : ℕ) → n < 2 ^ 16 → n < 2 ^ 64
 short n h = omega arith
 
-abbrev loose_code : Code (ℕ × (ℕ × Fields (Packet × Fate)))
+abbrev pub loose_code : Code (ℕ × (ℕ × Fields (Packet × Fate)))
 loose_code = seated (item_with (both (frame 32 refl) fate))
 
-abbrev loose_fields : Loose → ℕ × (ℕ × Fields (Packet × Fate))
+abbrev pub loose_fields : Loose → ℕ × (ℕ × Fields (Packet × Fate))
 loose_fields l = (l.seat, (l.place, fields_of l.item (l.item.frame, l.fate)))
 
 loose_back : ℕ × (ℕ × Fields (Packet × Fate)) → Loose
@@ -155,7 +155,7 @@ regroup_loose : (w a b k p c t q r o l : List ℕ) (x : List ℕ)
     ≡ (w ++ 32 ∷ []) ++ (((a ++ 32 ∷ []) ++ ((b ++ 32 ∷ []) ++ ((k ++ 32 ∷ []) ++ ((p ++ 32 ∷ []) ++ ((c ++ 32 ∷ []) ++ ((t ++ 32 ∷ []) ++ ((q ++ 32 ∷ []) ++ ((r ++ 32 ∷ []) ++ ((o ++ 32 ∷ []) ++ (l ++ 10 ∷ [])))))))))) ++ x)
 regroup_loose w a b k p c t q r o l x = simp append_assoc
 
-loose_is : (l : Loose) (x : List ℕ) → loose_line l ++ x ≡ codes "loose " ++ (loose_code.text (loose_fields l) ++ x)
+pub loose_is : (l : Loose) (x : List ℕ) → loose_line l ++ x ≡ codes "loose " ++ (loose_code.text (loose_fields l) ++ x)
 loose_is l x =
     regroup_loose (codes "loose") (decimal l.seat) (decimal l.place) (kind_text l.item.kind) (peer_text l.item.from) (flag_text l.item.cut) (decimal l.item.target)
     (decimal l.item.ask) (encode_lower l.item.random) (octets_text l.item.frame.payload) (fate_text l.fate) x
@@ -171,10 +171,10 @@ loose_once l m x y f g e =
     (append_cancel_left (codes "loose ") (loose_code.text (loose_fields l) ++ x) (loose_code.text (loose_fields m) ++ y) (sym (loose_is l x) ∙ e ∙ loose_is m y)) in
     (sym (loose_back_is l) ∙ ap loose_back r.0 ∙ loose_back_is m, r.1)
 
-abbrev entry_code : Code (ℕ × (ℕ × (ℕ × Fields (Packet × Claim))))
+abbrev pub entry_code : Code (ℕ × (ℕ × (ℕ × Fields (Packet × Claim))))
 entry_code = both (number 32 refl) (seated (item_with (both (frame 32 refl) claim)))
 
-abbrev entry_fields : ℕ → Entry → ℕ × (ℕ × (ℕ × Fields (Packet × Claim)))
+abbrev pub entry_fields : ℕ → Entry → ℕ × (ℕ × (ℕ × Fields (Packet × Claim)))
 entry_fields shard e = (shard, (e.seat, (e.place, fields_of e.item (e.item.frame, e.claim))))
 
 entry_back : ℕ → ℕ × (ℕ × (ℕ × Fields (Packet × Claim))) → Entry
@@ -189,7 +189,7 @@ regroup_entry : (w s a b k p c t q r o l : List ℕ) (x : List ℕ)
     ≡ (w ++ 32 ∷ []) ++ (((s ++ 32 ∷ []) ++ ((a ++ 32 ∷ []) ++ ((b ++ 32 ∷ []) ++ ((k ++ 32 ∷ []) ++ ((p ++ 32 ∷ []) ++ ((c ++ 32 ∷ []) ++ ((t ++ 32 ∷ []) ++ ((q ++ 32 ∷ []) ++ ((r ++ 32 ∷ []) ++ ((o ++ 32 ∷ []) ++ (l ++ 10 ∷ []))))))))))) ++ x)
 regroup_entry w s a b k p c t q r o l x = simp append_assoc
 
-entry_is : (shard : ℕ) (e : Entry) (x : List ℕ) → entry_line shard e ++ x ≡ codes "entry " ++ (entry_code.text (entry_fields shard e) ++ x)
+pub entry_is : (shard : ℕ) (e : Entry) (x : List ℕ) → entry_line shard e ++ x ≡ codes "entry " ++ (entry_code.text (entry_fields shard e) ++ x)
 entry_is shard e x =
     regroup_entry (codes "entry") (decimal shard) (decimal e.seat) (decimal e.place) (kind_text e.item.kind) (peer_text e.item.from) (flag_text e.item.cut)
     (decimal e.item.target) (decimal e.item.ask) (encode_lower e.item.random) (octets_text e.item.frame.payload) (claim_text e.claim) x
@@ -207,7 +207,7 @@ entry_once moment i j e d x y s t f g h =
     let same = sym (entry_back_is i e) ∙ ap (λ (m : ℕ). entry_back m (entry_fields i e)) (f.at ∙ sym g.at) ∙ ap (entry_back d.moment) r.0 ∙ entry_back_is j d in
     (ap (λ (p : ℕ × (ℕ × (ℕ × Fields (Packet × Claim)))). p.0) r.0, (same, r.1))
 
-abbrev refused_code : Code (Fields Packet)
+abbrev pub refused_code : Code (Fields Packet)
 refused_code = item_with (frame 10 refl)
 
 refused_back : Fields Packet → Item
@@ -222,7 +222,7 @@ regroup_refused : (w k p c t q r o : List ℕ) (x : List ℕ)
     ≡ (w ++ 32 ∷ []) ++ (((k ++ 32 ∷ []) ++ ((p ++ 32 ∷ []) ++ ((c ++ 32 ∷ []) ++ ((t ++ 32 ∷ []) ++ ((q ++ 32 ∷ []) ++ ((r ++ 32 ∷ []) ++ (o ++ 10 ∷ []))))))) ++ x)
 regroup_refused w k p c t q r o x = simp append_assoc
 
-refused_is : (i : Item) (x : List ℕ) → refused_line i ++ x ≡ codes "refused " ++ (refused_code.text (fields_of i i.frame) ++ x)
+pub refused_is : (i : Item) (x : List ℕ) → refused_line i ++ x ≡ codes "refused " ++ (refused_code.text (fields_of i i.frame) ++ x)
 refused_is i x =
     regroup_refused (codes "refused") (kind_text i.kind) (peer_text i.from) (flag_text i.cut) (decimal i.target) (decimal i.ask) (encode_lower i.random)
     (octets_text i.frame.payload) x
@@ -236,13 +236,13 @@ refused_once i j x y f g e =
     (append_cancel_left (codes "refused ") (refused_code.text (fields_of i i.frame) ++ x) (refused_code.text (fields_of j j.frame) ++ y) (sym (refused_is i x) ∙ e ∙ refused_is j y)) in
     (sym (refused_back_is i) ∙ ap refused_back r.0 ∙ refused_back_is j, r.1)
 
-abbrev OutFields : Type 0
+abbrev pub OutFields : Type 0
 OutFields = ℕ × (ℕ × (ℕ × (Role × (Peer × (Bool × List ℕ)))))
 
-abbrev out_code : Code OutFields
+abbrev pub out_code : Code OutFields
 out_code = both (number 32 refl) (seated (both role (both peer (both flag (octets 10 refl)))))
 
-abbrev out_fields : OutRecord → OutFields
+abbrev pub out_fields : OutRecord → OutFields
 out_fields o = (o.shard, (o.seat, (o.place, (o.role, (o.to, (o.sent, o.frame))))))
 
 out_back : OutFields → OutRecord
@@ -258,7 +258,7 @@ regroup_out : (w s a b r p c o : List ℕ) (x : List ℕ)
     ≡ (w ++ 32 ∷ []) ++ (((s ++ 32 ∷ []) ++ ((a ++ 32 ∷ []) ++ ((b ++ 32 ∷ []) ++ ((r ++ 32 ∷ []) ++ ((p ++ 32 ∷ []) ++ ((c ++ 32 ∷ []) ++ (o ++ 10 ∷ []))))))) ++ x)
 regroup_out w s a b r p c o x = simp append_assoc
 
-out_is : (o : OutRecord) (x : List ℕ) → out_line o ++ x ≡ codes "out " ++ (out_code.text (out_fields o) ++ x)
+pub out_is : (o : OutRecord) (x : List ℕ) → out_line o ++ x ≡ codes "out " ++ (out_code.text (out_fields o) ++ x)
 out_is o x =
     regroup_out (codes "out") (decimal o.shard) (decimal o.seat) (decimal o.place) (role_text o.role) (peer_text o.to) (flag_text o.sent) (octets_text o.frame) x
 

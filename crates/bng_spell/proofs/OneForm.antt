@@ -18,9 +18,9 @@ use Rattle.bng_spell.specs.Fields.{numbers_text, octets_text}
 use Rattle.bng_spell.specs.Lines.{head_line, entry_line, entry_lines, loose_line, refused_line, out_line}
 use Rattle.bng_spell.specs.Texts.{OpeningView, opening_text, round_text, trace_text, uncharged, as_read}
 use Rattle.bng_spell.specs.Kept.{IsEntry, IsLoose, IsItem, IsOut, IsKept, IsKeptOpening}
-use Rattle.bng_spell.proofs.Plain.{is_plain, is_separator, ArePlain}
-use Rattle.bng_spell.proofs.Codes.{some_suc}
-use Rattle.bng_spell.proofs.FieldNames.{decimal_plain}
+use Rattle.bng_spell.specs.Plain.{is_plain, is_separator, ArePlain}
+use Rattle.bng_spell.specs.Codes.{some_suc}
+use Rattle.bng_spell.specs.FieldNames.{decimal_plain}
 use Rattle.bng_spell.proofs.LineCodes.{Code, both, number, digits, octets, entry_once, loose_once, refused_once, out_once}
 
 head_same : (a b : ℕ) (xs ys : List ℕ) → a ∷ xs ≡ b ∷ ys → a ≡ b
@@ -84,7 +84,7 @@ tail_head_parts : (ns : List ℕ) → is_separator (tail_head ns) ≡ true
 tail_head_parts [] = refl
 tail_head_parts (n ∷ ns) = refl
 
-abbrev AreNumbers : List ℕ → Type 0
+abbrev pub AreNumbers : List ℕ → Type 0
 AreNumbers ns = AllByRecursion (λ (n : ℕ). n < 2 ^ 32) ns
 
 wide : (n : ℕ) → n < 2 ^ 32 → n < 2 ^ 64
@@ -147,99 +147,99 @@ front_same : (s t : List ℕ) → s ≡ t → front s ≡ front t
 front_same s t e = ap front e
 
 -- the lines behind those of the entries
-abbrev after_refused : List OutRecord → List ℕ → List ℕ
+abbrev pub after_refused : List OutRecord → List ℕ → List ℕ
 after_refused outs x = flat_map out_line outs ++ (codes "end\n" ++ x)
 
-abbrev after_loose : List Item → List OutRecord → List ℕ → List ℕ
+abbrev pub after_loose : List Item → List OutRecord → List ℕ → List ℕ
 after_loose refused outs x = flat_map refused_line refused ++ after_refused outs x
 
-abbrev after_entries : List Loose → List Item → List OutRecord → List ℕ → List ℕ
+abbrev pub after_entries : List Loose → List Item → List OutRecord → List ℕ → List ℕ
 after_entries loose refused outs x = flat_map loose_line loose ++ after_loose refused outs x
 
-abbrev ENTRY : ℕ
+abbrev pub ENTRY : ℕ
 ENTRY = 6647412
 
-abbrev LOOSE : ℕ
+abbrev pub LOOSE : ℕ
 LOOSE = 7106415
 
-abbrev REFUSED : ℕ
+abbrev pub REFUSED : ℕ
 REFUSED = 7497062
 
-abbrev OUT : ℕ
+abbrev pub OUT : ℕ
 OUT = 7304564
 
-abbrev END : ℕ
+abbrev pub END : ℕ
 END = 6647396
 
 front_entry : (i : ℕ) (e : Entry) (x : List ℕ) → front (entry_line i e ++ x) ≡ ENTRY
 unfolding front
 front_entry i e x = refl
 
-front_loose : (l : Loose) (x : List ℕ) → front (loose_line l ++ x) ≡ LOOSE
+pub front_loose : (l : Loose) (x : List ℕ) → front (loose_line l ++ x) ≡ LOOSE
 unfolding front
 front_loose l x = refl
 
-front_refused : (i : Item) (x : List ℕ) → front (refused_line i ++ x) ≡ REFUSED
+pub front_refused : (i : Item) (x : List ℕ) → front (refused_line i ++ x) ≡ REFUSED
 unfolding front
 front_refused i x = refl
 
-front_out : (o : OutRecord) (x : List ℕ) → front (out_line o ++ x) ≡ OUT
+pub front_out : (o : OutRecord) (x : List ℕ) → front (out_line o ++ x) ≡ OUT
 unfolding front
 front_out o x = refl
 
-front_end : (x : List ℕ) → front (codes "end\n" ++ x) ≡ END
+pub front_end : (x : List ℕ) → front (codes "end\n" ++ x) ≡ END
 unfolding front
 front_end x = refl
 
 -- which fronts the texts have that follow
-front_after_refused : (w : ℕ) (outs : List OutRecord) (x : List ℕ) → w ≢ OUT → w ≢ END → front (after_refused outs x) ≢ w
+pub front_after_refused : (w : ℕ) (outs : List OutRecord) (x : List ℕ) → w ≢ OUT → w ≢ END → front (after_refused outs x) ≢ w
 front_after_refused w [] x o n e = n (sym e ∙ front_end x)
 front_after_refused w (p ∷ outs) x o n e =
     o (sym e ∙ front_same ((out_line p ++ flat_map out_line outs) ++ (codes "end\n" ++ x)) (out_line p ++ (flat_map out_line outs ++ (codes "end\n" ++ x))) (append_assoc (out_line p) (flat_map out_line outs) (codes "end\n" ++ x))
     ∙ front_out p (flat_map out_line outs ++ (codes "end\n" ++ x)))
 
-front_after_loose : (w : ℕ) (refused : List Item) (outs : List OutRecord) (x : List ℕ) → w ≢ REFUSED → w ≢ OUT → w ≢ END → front (after_loose refused outs x) ≢ w
+pub front_after_loose : (w : ℕ) (refused : List Item) (outs : List OutRecord) (x : List ℕ) → w ≢ REFUSED → w ≢ OUT → w ≢ END → front (after_loose refused outs x) ≢ w
 front_after_loose w [] outs x r o n e = front_after_refused w outs x o n e
 front_after_loose w (i ∷ refused) outs x r o n e =
     r (sym e ∙ front_same ((refused_line i ++ flat_map refused_line refused) ++ after_refused outs x) (refused_line i ++ (flat_map refused_line refused ++ after_refused outs x)) (append_assoc (refused_line i) (flat_map refused_line refused) (after_refused outs x))
     ∙ front_refused i (flat_map refused_line refused ++ after_refused outs x))
 
-front_after_entries : (w : ℕ) (loose : List Loose) (refused : List Item) (outs : List OutRecord) (x : List ℕ) → w ≢ LOOSE → w ≢ REFUSED → w ≢ OUT → w ≢ END → front (after_entries loose refused outs x) ≢ w
+pub front_after_entries : (w : ℕ) (loose : List Loose) (refused : List Item) (outs : List OutRecord) (x : List ℕ) → w ≢ LOOSE → w ≢ REFUSED → w ≢ OUT → w ≢ END → front (after_entries loose refused outs x) ≢ w
 front_after_entries w [] refused outs x l r o n e = front_after_loose w refused outs x r o n e
 front_after_entries w (i ∷ loose) refused outs x l r o n e =
     l (sym e ∙ front_same ((loose_line i ++ flat_map loose_line loose) ++ after_loose refused outs x) (loose_line i ++ (flat_map loose_line loose ++ after_loose refused outs x)) (append_assoc (loose_line i) (flat_map loose_line loose) (after_loose refused outs x))
     ∙ front_loose i (flat_map loose_line loose ++ after_loose refused outs x))
 
-differ : (a b : ℕ) → a < b → a ≢ b
+pub differ : (a b : ℕ) → a < b → a ≢ b
 differ a b h e = omega (arith, h, e)
 
-differ_too : (a b : ℕ) → b < a → a ≢ b
+pub differ_too : (a b : ℕ) → b < a → a ≢ b
 differ_too a b h e = omega (arith, h, e)
 
 -- lines of these fronts begin no text of another
-stuck_by : {X : Type 0} (Fits : X → Type 0) (text : X → List ℕ) (w : ℕ) (rest : List ℕ) → ((v : X) (z : List ℕ) → front (text v ++ z) ≡ w) → front rest ≢ w → Stuck Fits text rest
+pub stuck_by : {X : Type 0} (Fits : X → Type 0) (text : X → List ℕ) (w : ℕ) (rest : List ℕ) → ((v : X) (z : List ℕ) → front (text v ++ z) ≡ w) → front rest ≢ w → Stuck Fits text rest
 stuck_by Fits text w rest fronts away v next f e = away (front_same rest (text v ++ next) e ∙ fronts v next)
 
-outs_code : IsCode IsOut out_line
+pub outs_code : IsCode IsOut out_line
 outs_code = record { nonempty = λ o. some_suc _; splits = out_once }
 
-refused_code : IsCode IsItem refused_line
+pub refused_code : IsCode IsItem refused_line
 refused_code = record { nonempty = λ o. some_suc _; splits = refused_once }
 
-loose_code : IsCode IsLoose loose_line
+pub loose_code : IsCode IsLoose loose_line
 loose_code = record { nonempty = λ o. some_suc _; splits = loose_once }
 
-entry_code : (moment i : ℕ) → i < 2 ^ 64 → IsCode (IsEntry moment) (entry_line i)
+pub entry_code : (moment i : ℕ) → i < 2 ^ 64 → IsCode (IsEntry moment) (entry_line i)
 entry_code moment i h = record {
   nonempty = λ o. some_suc _;
   splits = λ a b x y f g e. let r = entry_once moment i i a b x y h h f g e in r.1;
 }
 
-abbrev AreEntries : ℕ → List (List Entry) → Type 0
+abbrev pub AreEntries : ℕ → List (List Entry) → Type 0
 AreEntries moment journals = AllByRecursion (λ (journal : List Entry). AllByRecursion (IsEntry moment) journal) journals
 
 -- no entry of a shard stands where those of the later shards begin
-stuck_later : (moment i j : ℕ) (journals : List (List Entry)) (rest : List ℕ) → i < j → j + length journals ≤ 2 ^ 64 → AreEntries moment journals → front rest ≢ ENTRY
+pub stuck_later : (moment i j : ℕ) (journals : List (List Entry)) (rest : List ℕ) → i < j → j + length journals ≤ 2 ^ 64 → AreEntries moment journals → front rest ≢ ENTRY
     → Stuck (IsEntry moment) (entry_line i) (entry_lines j journals ++ rest)
 stuck_later moment i j [] rest low high f away v next g e = away (front_same rest (entry_line i v ++ next) e ∙ front_entry i v next)
 stuck_later moment i j ([] ∷ journals) rest low high f away v next g e = stuck_later moment i (j + 1) journals rest (omega arith) (omega arith) f.1 away v next g e
@@ -284,7 +284,7 @@ after_once l m a b o p x y fl fm fa fb fo fp e =
     let three = same_split IsOut out_line outs_code o p (codes "end\n" ++ x) (codes "end\n" ++ y) fo fp (no_out x) (no_out y) two.1 in
     (one.0, (two.0, (three.0, append_cancel_left (codes "end\n") x y three.1)))
 
-abbrev head_code : Code (ℕ × (ℕ × ℕ))
+abbrev pub head_code : Code (ℕ × (ℕ × ℕ))
 head_code = both (number 32 refl) (both (number 32 refl) (number 32 refl))
 
 regroup_head : (w n m s a x : List ℕ)
@@ -336,7 +336,7 @@ round_once r s x y f g e =
     few_shards : (q : RoundRecord) → IsKept q → 0 + length q.journals ≤ 2 ^ 64
     few_shards q h = let n = h.shards in let l = h.journals in omega (arith, n, l)
 
-abbrev opening_code : Code (ℕ × (ℕ × (List ℕ × List ℕ)))
+abbrev pub opening_code : Code (ℕ × (ℕ × (List ℕ × List ℕ)))
 opening_code = both (number 32 refl) (both (number 32 refl) (both digits (octets 10 refl)))
 
 regroup_opening : (w n m s a x : List ℕ) (h : List ℕ)

@@ -16,7 +16,7 @@ pub digits_none : (a : SinkTold) (p : Pending) → Adds a a p p (encode_lower []
 unfolding encode_with
 digits_none a p = adds_none a p
 
-take_parts : (i k : ℕ) (xs : List ℕ) → i ≤ k → take k xs ≡ take i xs ++ between i k xs
+pub take_parts : (i k : ℕ) (xs : List ℕ) → i ≤ k → take k xs ≡ take i xs ++ between i k xs
 take_parts i k xs h =
     sym (take-append-drop i (take k xs)) ∙ ap (λ (t : List ℕ). t ++ drop i (take k xs)) (take-take i k xs h) ∙ ap (λ (t : List ℕ). take i xs ++ t) (sym (between_is xs i k))
 

@@ -140,7 +140,7 @@ adds_turn {X} {a} {b} {c} {p} {q} {r} f xs i d h so_far one =
 pub adds_all : {X : Type 0} {a b : SinkTold} {p q : Pending} (f : X → List ℕ) (xs : List X) (i : ℕ) → length xs ≤ i → Adds a b p q (flat_map f (take i xs)) → Adds a b p q (flat_map f xs)
 adds_all {X} f xs i h all = adds_as all (ap (λ (ys : List X). flat_map f ys) (take_all i xs h))
 
-encode_append : (xs ys : List ℕ) → encode_lower xs ++ encode_lower ys ≡ encode_lower (xs ++ ys)
+pub encode_append : (xs ys : List ℕ) → encode_lower xs ++ encode_lower ys ≡ encode_lower (xs ++ ys)
 unfolding encode_with
 encode_append [] ys = refl
 encode_append (x ∷ xs) ys = ap (λ (t : List ℕ). slice_index lower_digits (x / 16) ∷ (slice_index lower_digits (x % 16) ∷ t)) (encode_append xs ys)

@@ -3,4 +3,12 @@ pub mod Lines
 pub mod Parts
 pub mod Texts
 pub mod Kept
+pub mod Plain
+pub mod Standing
+pub mod Opening
+pub mod Many
+pub mod Pieces
+pub mod Codes
+pub mod FieldNames
+pub mod Addresses
 pub mod Spelling

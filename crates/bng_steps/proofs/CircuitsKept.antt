@@ -65,7 +65,7 @@ module _ (P : Tenure → Type 0) where
   each_over serial cause (t ∷ ts) is h = (over_holds serial cause t (is t) h.0, each_over serial cause ts is h.1)
 
   -- it holds of the term of this lease, once it has ended by this cause
-  abbrev Ending : Option Lease → Option ℕ → Type 0
+  abbrev pub Ending : Option Lease → Option ℕ → Type 0
   Ending lease cause = (l : Lease) (c : ℕ) → lease ≡ Some l → cause ≡ Some c → (t : Tenure) → t.term.serial ≡ l.serial → P (record t { cause = Some c })
 
   each_closed : (lease : Option Lease) (cause : Option ℕ) (ts : List Tenure) → Ending lease cause → AllByRecursion P ts → AllByRecursion P (closed lease cause ts)
@@ -73,7 +73,7 @@ module _ (P : Tenure → Type 0) where
   each_closed (Some l) None ts ends h = h
   each_closed (Some l) (Some c) ts ends h = each_over l.serial c ts (ends l c refl refl) h
 
-  closed_holds : (lease : Option Lease) (cause : Option ℕ) (ts : List Tenure) → Ending lease cause → All P ts → All P (closed lease cause ts)
+  pub closed_holds : (lease : Option Lease) (cause : Option ℕ) (ts : List Tenure) → Ending lease cause → All P ts → All P (closed lease cause ts)
   closed_holds lease cause ts ends h = All-from_recursion P (closed lease cause ts) (each_closed lease cause ts ends (recursion_from_All P ts h))
 
 -- a session that is lost has such a cause

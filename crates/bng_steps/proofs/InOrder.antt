@@ -161,6 +161,26 @@ at_most_one n (c ∷ cs) h =
           subst (AtMostOne n) later (at_most_one n cs h.1)
     ]
 
+apart_from : (n : ℕ) (cs : List Static) (c : Static) → AllByRecursion (λ d. number d ≡ n → ⊥) cs → Contains cs c → number c ≡ n → ⊥
+apart_from n [] c h (k, l, is) e = omega (arith, l)
+apart_from n (d ∷ ds) c h (zero, l, is) e = h.0 (ap number is ∙ e)
+apart_from n (d ∷ ds) c h (suc k, l, is) e = apart_from n ds c h.1 (k, omega (arith, l), is) e
+
+-- of a circuit's number there is that circuit
+pub its_circuit : (c : Static) (cs : List Static) → Apart cs → Contains cs c → circuit_at cs (number c) ≡ c ∷ []
+its_circuit c [] apart (k, l, is) = absurd (omega (arith, l))
+its_circuit c (d ∷ ds) apart (zero, l, is) =
+    let n : ℕ = number c in
+    let same : number d ≡ n = ap number is in
+    ap (λ (b : Bool). cond b (d ∷ circuit_at ds n) (circuit_at ds n)) (eq-eqb (number d) n same)
+    ∙ ap (λ (es : List Static). d ∷ es) (none_left n ds (other n (number d) ds same apart.0))
+    ∙ ap (λ (e : Static). e ∷ []) is
+its_circuit c (d ∷ ds) apart (suc k, l, is) =
+    let n : ℕ = number c in
+    let there : Contains ds c = (k, omega (arith, l), is) in
+    ap (λ (b : Bool). cond b (d ∷ circuit_at ds n) (circuit_at ds n)) (ne_eqb (number d) n (λ e. apart_from (number d) ds c apart.0 there (sym e)))
+    ∙ its_circuit c ds apart.1 there
+
 before : (a : ℕ) (found later : List Static) → AtMostOne a found → Rising (a + 1) later → Rising a (found ++ later)
 before a found later (inl e) h = subst (λ (ds : List Static). Rising a (ds ++ later)) (sym e) (from_lower a (a + 1) later (omega arith) h)
 before a found later (inr (c, e, is)) h =

@@ -83,3 +83,12 @@ pub mod ClaimedTerms
 pub mod Numbered
 pub mod TermYeses
 pub mod NoFrames
+pub mod Noting
+pub mod Colours
+pub mod Silent
+pub mod Limiting
+pub mod Ticking
+pub mod Overdue
+pub mod Reckoning
+pub mod Untimed
+pub mod Spacing

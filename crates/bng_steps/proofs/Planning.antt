@@ -56,7 +56,7 @@ at_plan plan false None claim text g a e = absurd (none_some a e)
 at_plan plan true (Some k) claim text g a e = absurd (none_some a e)
 at_plan plan false (Some k) claim text g a e = by_plan plan claim text g a e
 
-in_plan : (plan : Plan) (pools : List NamedRange) (limited : Bool) (claim : Claim) (text : List ℕ) (g : Gift) (a : Ip4) → (told_in plan pools limited claim text g).lease ≡ Some a → (told_in plan pools limited claim text g).plan ≡ plan
+pub in_plan : (plan : Plan) (pools : List NamedRange) (limited : Bool) (claim : Claim) (text : List ℕ) (g : Gift) (a : Ip4) → (told_in plan pools limited claim text g).lease ≡ Some a → (told_in plan pools limited claim text g).plan ≡ plan
 in_plan plan [] limited claim text g a e = refl
 in_plan plan (p ∷ ps) limited claim text g a e = at_plan plan limited (pool_for (p ∷ ps) g.pool) claim text g a e
 

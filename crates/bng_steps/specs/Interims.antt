@@ -1,5 +1,5 @@
 -- Interims (RFC 2869 section 5.16): which live terms owe one, and which were taken.
-use Rattle.std.specs.Prelude.{ℕ, ◌≡◌, ◌≤◌, ◌==◌, max, Bool, false, true, nat_le, List, [], ◌∷◌, Option, Some, None, IfSome, filter, filter_map, find, replicate, slice_index_or, slice_set}
+use Rattle.std.specs.Prelude.{ℕ, ◌≡◌, ◌≤◌, ◌==◌, max, Bool, false, true, nat_le, List, [], ◌∷◌, Option, Some, None, IfSome, filter, filter_map, find, replicate, slice_index_or, slice_set, if◌then◌else◌}
 use Rattle.std.specs.Option.{option_map_or, option_and_then}
 use Rattle.bng_base.specs.declared.address.SessionNo.{SessionNo}
 use Rattle.bng_engine.specs.Views.{Row, ShardView}
@@ -43,6 +43,11 @@ interim_at last x = interim_in (reported_at last x.number) x.lease
 -- it is due
 abbrev pub owes : List ℕ → ℕ → Session → Bool
 owes last now x = option_map_or (λ at. nat_le at now) (interim_at last x) false
+
+-- At each of these moments one asks whether the session owes an Interim, and takes it where it does: the moments of those that are taken.
+abbrev pub taken : List ℕ → Session → List ℕ → List ℕ
+taken last x [] = []
+taken last x (m ∷ ms) = if owes last m x then m ∷ taken (with_report last m x.number) x ms else taken last x ms
 
 -- what is kept of the live term of a session: its key, and what it carried so far
 abbrev pub row_in : List Row → Session → Option Row

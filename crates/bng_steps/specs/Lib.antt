@@ -30,6 +30,8 @@ pub mod Reader
 pub mod Due
 pub mod Hearing
 pub mod Protocol
+pub mod Course
+pub mod Silence
 pub mod Lasting
 pub mod Wished
 pub mod TermRows

@@ -12,6 +12,7 @@
 mod answering;
 mod calls;
 mod changes;
+mod course;
 mod cutting;
 mod data;
 mod destination;
@@ -55,6 +56,11 @@ mod wish;
 mod young;
 
 pub use crate::changes::ChangeAnswer;
+pub use crate::course::{
+    interims_keep_their_interval, limits_are_told, meters_colour_what_is_offered,
+    moments_are_of_packets, shards_stand, terms_know_of_no_later_packet, ticks_end_what_is_over,
+    ticks_take_what_is_due,
+};
 pub use crate::data::hear_core;
 pub use crate::destination::{Destination, destination_of};
 pub use crate::error::ShardError;

@@ -10,9 +10,9 @@ use Rattle.bng_base.specs.declared.item.Claim.{Claim}
 use Rattle.bng_base.specs.declared.item.Claim.TheVariants.{NoClaim, Claimed, Held, Exhausted}
 use Rattle.bng_spell.specs.Fields.{address_text, peer_text, claim_text}
 use Rattle.bng_spell.specs.Kept.{IsAddress, IsPeer, IsClaim}
-use Rattle.bng_spell.proofs.Plain.{is_separator}
-use Rattle.bng_spell.proofs.Codes.{until_once}
-use Rattle.bng_spell.proofs.FieldNames.{decimal_plain}
+use Rattle.bng_spell.specs.Plain.{is_separator}
+use Rattle.bng_spell.specs.Codes.{until_once}
+use Rattle.bng_spell.specs.FieldNames.{decimal_plain}
 
 -- a number up to its separator
 number_once : (stop m n : ℕ) (x y : List ℕ) → IsTrue (is_separator stop) → m < 2 ^ 64 → n < 2 ^ 64 → (decimal m ++ stop ∷ []) ++ x ≡ (decimal n ++ stop ∷ []) ++ y → (m ≡ n) × (x ≡ y)
@@ -20,7 +20,7 @@ number_once stop m n x y s f g e =
     let r = until_once stop (decimal m) (decimal n) x y s (decimal_plain m f) (decimal_plain n g) e in (decimal_injective m n f g r.0, r.1)
 
 -- an address and its separator, number by number
-pub address_parts : ℕ → Ip4 → List ℕ
+unfoldable pub address_parts : ℕ → Ip4 → List ℕ
 address_parts stop a =
     (decimal (a.0 / 2 ^ 24) ++ 46 ∷ [])
     ++ ((decimal (a.0 / 2 ^ 16 % 256) ++ 46 ∷ []) ++ ((decimal (a.0 / 2 ^ 8 % 256) ++ 46 ∷ []) ++ (decimal (a.0 % 256) ++ stop ∷ [])))
@@ -64,7 +64,7 @@ peer_once p q x y f g e =
     let two = number_once 32 p.port q.port x y refl (omega arith) (omega arith) one.1 in
     (λ i. record { ip = one.0 i; port = two.0 i }, two.1)
 
-first_same : (s t : List ℕ) → s ≡ t → get_or s 0 0 ≡ get_or t 0 0
+pub first_same : (s t : List ℕ) → s ≡ t → get_or s 0 0 ≡ get_or t 0 0
 first_same s t e = ap (λ (x : List ℕ). get_or x 0 0) e
 
 pub claim_once : (c d : Claim) (x y : List ℕ) → IsClaim c → IsClaim d → (claim_text c ++ 10 ∷ []) ++ x ≡ (claim_text d ++ 10 ∷ []) ++ y → (c ≡ d) × (x ≡ y)

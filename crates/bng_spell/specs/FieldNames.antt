@@ -19,8 +19,8 @@ use Rattle.bng_base.specs.declared.fate.DropCause.{DropCause}
 use Rattle.bng_base.specs.declared.fate.DropCause.TheVariants.{Malformed, NoSession, NotOpen, Expired, Spoofed, TooBig, Exceeded, LinkFailed, WantOfMemory}
 use Rattle.bng_spell.specs.Fields.{flag_text, kind_text, role_text, cause_text, fate_text, octets_text}
 use Rattle.bng_spell.specs.Kept.{IsKind, IsRole, AreOctets, IsSet}
-use Rattle.bng_spell.proofs.Plain.{is_plain, ArePlain}
-use Rattle.bng_spell.proofs.Codes.{plain_append}
+use Rattle.bng_spell.specs.Plain.{is_plain, ArePlain}
+use Rattle.bng_spell.specs.Codes.{plain_append}
 
 -- a decimal digit
 plain_digit : (n : ℕ) → n < 10 → is_plain (48 + n) ≡ true

@@ -1,0 +1,14 @@
+pub mod Views
+pub mod Ticks
+pub mod Asking
+pub mod Booking
+pub mod Telling
+pub mod Looking
+pub mod Entering
+pub mod Rounds
+pub mod Dealing
+pub mod Working
+pub mod Kept
+pub mod Opening
+pub mod Closing
+pub mod Was
