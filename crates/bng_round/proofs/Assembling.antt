@@ -1,27 +1,27 @@
 -- A round that was put together.
-use Rattle.std.proofs.Common.{◌≡◌, ℕ, zero, suc, ◌+◌, ◌%◌, ◌<◌, ◌≤◌, ◌==◌, Bool, true, false, cond, List, [], ◌∷◌, map, length, sum, slice_get, slice_index_or, Option, Some, refl, sym, ap, ◌∙◌, subst, arith, eq-eqb, ne_eqb}
+use Rattle.std.proofs.Common.{◌≡◌, ℕ, zero, suc, ◌+◌, ◌*◌, ◌^◌, ◌%◌, ◌<◌, ◌≤◌, ◌==◌, Bool, true, false, cond, List, [], ◌∷◌, map, length, sum, count_by, slice_get, slice_index_or, get_or, Option, Some, refl, sym, ap, ◌∙◌, subst, arith, eq-eqb, ne_eqb}
 use mathlib.Core.Logic.{dite}
 use native.Mathlib.Decide.{ℕ_discrete}
 use Rattle.std.specs.Vec.{vec_capacity}
 use Rattle.std.specs.List.{All, AllByRecursion, AllZip, range_with_len}
-use Rattle.std.proofs.lemmas.List.{get_or-map}
+use Rattle.std.proofs.lemmas.List.{length-map, get_or-map}
 use Rattle.std.proofs.lemmas.List.FromFn.{length-map-range_with_len, get_or-map-range_with_len}
 use Rattle.std.proofs.lemmas.List.Sums.{sum_by-cons}
 use Rattle.std.proofs.lemmas.Option.{slice_get_within}
-use Rattle.bng_base.specs.declared.book.Book.{Book}
 use Rattle.bng_base.specs.declared.item.Item.{Item}
-use Rattle.bng_engine.specs.Quantities.{empty_book}
 use Rattle.bng_pool.specs.Ranges.{HasAddress}
-use Rattle.bng_pool.specs.Seats.{PoolView, SeatView as Hold, Notes, IsInRound}
+use Rattle.bng_pool.specs.Seats.{PoolView, SeatView as Hold, Holds, Notes, IsInRound}
+use Rattle.bng_round.specs.declared.tally.Tally.{Tally}
+use Rattle.bng_round.specs.Tallies.{empty_tally}
 use Rattle.bng_round.specs.declared.mark.Mark.{Mark}
 use Rattle.bng_round.specs.declared.opening.Room.{Room}
-use Rattle.bng_round.specs.Asking.{HasPools}
+use Rattle.bng_round.specs.Asking.{Goes, HasPools, IsHold}
 use Rattle.bng_round.specs.Looking.{IsGround, IsLooker}
 use Rattle.bng_round.specs.Opening.{CanOpen, EachMade, HasSeats, IsMade, IsNew, IsOpened, IsOpening, AreOpened, IsRoom, Row, counts_of, seated, worker_in}
-use Rattle.bng_round.specs.Rounds.{WorkerView, IsOpen, list_of, lists_of, round_of}
-use Rattle.bng_round.specs.Telling.{EachGoes, EachKnows, Knows}
+use Rattle.bng_round.specs.Rounds.{RoundView, WorkerView, IsOpen, IsReady, list_of, lists_of, lists_in, round_of}
+use Rattle.bng_round.specs.Telling.{EachGoes, EachKnows, Knows, IsAt}
 use Rattle.bng_round.specs.Views.{PlacedView}
-use Rattle.bng_round.specs.Working.{AreSeats, AreNew}
+use Rattle.bng_round.specs.Working.{AreSeats, AreNew, IsFresh}
 use Rattle.bng_round.proofs.Places.{some_at, same_some}
 use Rattle.bng_round.proofs.Openings.{rows_some}
 use Rattle.bng_steps.specs.declared.rules.Rules.{Rules}
@@ -40,18 +40,18 @@ opened_at n (g ∷ gs) (t' ∷ ts) [] all s t e = absurd all
 opened_at n (g ∷ gs) (t' ∷ ts) (r ∷ rs) all zero t e = let is : t' ≡ t = cc in (g, r, refl, refl, subst (λ (z : TurnView PlacedView). IsOpened n g z r) is all.0)
 opened_at n (g ∷ gs) (t' ∷ ts) (r ∷ rs) all (suc s) t e = opened_at n gs ts rs all.1 s t e
 
-pub seated_at : {S : Type 0} → (tallies : List Book) (from : ℕ) (qs : List Hold) (xs : List (Room S)) (k : ℕ) (v : WorkerView) → slice_get (seated tallies from qs xs) k ≡ Some v
-    → (q : Hold) × (x : Room S) × (slice_get qs k ≡ Some q) × (slice_get xs k ≡ Some x) × (v ≡ worker_in (from + k) q x (slice_index_or tallies (from + k) empty_book))
+pub seated_at : {S : Type 0} → (tallies : List Tally) (from : ℕ) (qs : List Hold) (xs : List (Room S)) (k : ℕ) (v : WorkerView) → slice_get (seated tallies from qs xs) k ≡ Some v
+    → (q : Hold) × (x : Room S) × (slice_get qs k ≡ Some q) × (slice_get xs k ≡ Some x) × (v ≡ worker_in (from + k) q x (slice_index_or tallies (from + k) empty_tally))
 seated_at tallies from [] xs k v e = absurd (cc)
 seated_at tallies from (q ∷ qs) [] k v e = absurd (cc)
 seated_at tallies from (q ∷ qs) (x ∷ xs) zero v e =
-    let first : WorkerView = worker_in from q x (slice_index_or tallies from empty_book) in
+    let first : WorkerView = worker_in from q x (slice_index_or tallies from empty_tally) in
     let is : v ≡ first = let same : Some first ≡ Some v = e in cc in
     let at : from ≡ from + 0 = omega arith in
-    (q, x, refl, refl, is ∙ ap (λ (n : ℕ). worker_in n q x (slice_index_or tallies n empty_book)) at)
+    (q, x, refl, refl, is ∙ ap (λ (n : ℕ). worker_in n q x (slice_index_or tallies n empty_tally)) at)
 seated_at tallies from (q ∷ qs) (x ∷ xs) (suc k) v e =
     let rest = seated_at tallies (from + 1) qs xs k v e in let at : from + 1 + k ≡ from + suc k = omega arith in
-    (rest.0, rest.1, rest.2, rest.3, rest.4 ∙ ap (λ (n : ℕ). worker_in n rest.0 rest.1 (slice_index_or tallies n empty_book)) at)
+    (rest.0, rest.1, rest.2, rest.3, rest.4 ∙ ap (λ (n : ℕ). worker_in n rest.0 rest.1 (slice_index_or tallies n empty_tally)) at)
 
 module _ (n : ℕ) (gs : List PlacedView) (ts : List (TurnView PlacedView)) (rs : List Row) (opened : AreOpened n gs ts rs) where
   pub row_count : (s : ℕ) (r : Row) → slice_get rs s ≡ Some r → length r.items ≡ n
@@ -142,13 +142,13 @@ zip_same R (x ∷ xs) (y ∷ ys) h = ap suc (zip_same R xs ys h.1)
 -- The round ---------------------------------------------------------------------------------------------------------------------
 
 -- a worker of the round that was put together
-pub new_worker : {S : Type 0} → (p : PoolView) (gs : List PlacedView) (ts : List (TurnView PlacedView)) (rs : List Row) (rules : Rules) (now : ℕ) (items : List Item) (seats : List ℕ) (workers : ℕ) (tallies : List Book)
+pub new_worker : {S : Type 0} → (p : PoolView) (gs : List PlacedView) (ts : List (TurnView PlacedView)) (rs : List Row) (rules : Rules) (now : ℕ) (items : List Item) (seats : List ℕ) (workers : ℕ) (tallies : List Tally)
     (lookers : List Hold) (rooms rooms' : List (Room S)) (made : List WorkerView)
     → AreOpened workers gs ts rs → workers ≡ length lookers → length rooms ≡ length lookers → length rooms' ≡ length rooms
     → ((k : ℕ) (x : Room S) → slice_get rooms k ≡ Some x → IsRoom (length ts) (slice_index_or (map (λ (l : List Item). length l) (lists_of workers seats items)) k 0) x)
     → ((k : ℕ) (x : Room S) → slice_get rooms k ≡ Some x → HasSeats rs k (length rs) x (slice_get rooms' k))
     → ((k : ℕ) (q : Hold) → slice_get lookers k ≡ Some q → IsLooker ts p q)
-    → made ≡ seated tallies 0 lookers rooms' → (k : ℕ) (v : WorkerView) → slice_get made k ≡ Some v → IsNew p (round_of ts rules now items seats workers) k (slice_index_or tallies k empty_book) v
+    → made ≡ seated tallies 0 lookers rooms' → (k : ℕ) (v : WorkerView) → slice_get made k ≡ Some v → IsNew p (round_of ts rules now items seats workers) k (slice_index_or tallies k empty_tally) v
 new_worker {S} p gs ts rs rules now items seats workers tallies lookers rooms rooms' made opened count rooms_count rooms_count' room dealt are is k v e =
     let at = seated_at tallies 0 lookers rooms' k v (ap (λ l. slice_get l k) (sym is) ∙ e) in
     let q : Hold = at.0 in let y : Room S = at.1 in
@@ -157,15 +157,15 @@ new_worker {S} p gs ts rs rules now items seats workers tallies lookers rooms ro
     let has = dealt k x.0 x.1 in
     let seats' = seats_are workers gs ts rs opened k x.0 (slice_get rooms' k) has y at.3 low in
     let number : 0 + k ≡ k = omega arith in
-    let view : WorkerView = worker_in k q y (slice_index_or tallies k empty_book) in
-    let view_is : v ≡ view = at.4 ∙ ap (λ (m : ℕ). worker_in m q y (slice_index_or tallies m empty_book)) number in
+    let view : WorkerView = worker_in k q y (slice_index_or tallies k empty_tally) in
+    let view_is : v ≡ view = at.4 ∙ ap (λ (m : ℕ). worker_in m q y (slice_index_or tallies m empty_tally)) number in
     let loose : y.loose ≡ x.0.loose = ap (λ (z : Room S). z.loose) (same_some y has.now (slice_get rooms' k) at.3 has.now_is) ∙ has.loose in
     let listed : ℕ → List Item = λ j. list_of j seats items in
     let long : slice_index_or (map (λ (l : List Item). length l) (lists_of workers seats items)) k 0 ≡ length (list_of k seats items) =
     get_or-map (λ (l : List Item). length l) (lists_of workers seats items) k [] 0 (omega (arith, low, length-map-range_with_len listed 0 workers))
     ∙ ap (λ (l : List Item). length l) (get_or-map-range_with_len listed 0 workers k k [] low (omega arith)) in
     let has_room = room k x.0 x.1 in
-    subst (λ (z : WorkerView). IsNew p (round_of ts rules now items seats workers) k (slice_index_or tallies k empty_book) z) (sym view_is) record {
+    subst (λ (z : WorkerView). IsNew p (round_of ts rules now items seats workers) k (slice_index_or tallies k empty_tally) z) (sym view_is) record {
       fresh = record {
         number = low;
         seats = seats'.0;
@@ -178,7 +178,7 @@ new_worker {S} p gs ts rs rules now items seats workers tallies lookers rooms ro
       tally_is = refl;
     }
 
-module _ (p : PoolView) (r : Rules) (shards gs : List PlacedView) (lookers lookers' : List Hold) (tallies : List Book) (items : List Item) (seats : List ℕ) (now : ℕ) (allowances : List ℕ)
+module _ (p : PoolView) (r : Rules) (shards gs : List PlacedView) (lookers lookers' : List Hold) (tallies : List Tally) (items : List Item) (seats : List ℕ) (now : ℕ) (allowances : List ℕ)
     (ts : List (TurnView PlacedView)) (rs : List Row) (workers : ℕ)
     (can : CanOpen p r shards lookers tallies items seats now allowances) (workers_are : workers ≡ length lookers) (count : length gs ≡ length shards)
     (opened : AreOpened workers gs ts rs)

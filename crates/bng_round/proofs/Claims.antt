@@ -1,9 +1,10 @@
 -- What a run of steps says of the addresses that its entries claimed and were told to be held.
-use Rattle.std.proofs.Common.{◌≡◌, ◌⊎◌, ⊎_elim, inl, inr, ℕ, zero, suc, ◌+◌, ◌<◌, ◌≤◌, ◌%◌, Bool, true, false, cond, eqb, List, [], ◌∷◌, ◌++◌, length, map, slice_get, Some, refl, sym, ap, ◌∙◌, subst, arith, eq-eqb, ne_eqb, length-append}
+use Rattle.std.proofs.Common.{◌≡◌, ◌⊎◌, ⊎_elim, inl, inr, ℕ, zero, suc, ◌+◌, ◌<◌, ◌≤◌, ◌==◌, ◌%◌, Bool, true, false, cond, eqb, List, [], ◌∷◌, ◌++◌, length, map, filter, slice_get, nat_le, Option, Some, refl, sym, ap, ◌∙◌, subst, arith, eq-eqb, ne_eqb, length-append}
 use mathlib.Core.Logic.{dite}
 use mathlib.Core.Option.{some, some-injective}
 use native.Mathlib.Decide.{ℕ_discrete}
-use Rattle.std.proofs.lemmas.List.{map-append}
+use Rattle.std.specs.List.{flat_map}
+use Rattle.std.proofs.lemmas.List.{map-append, append_assoc}
 use Rattle.std.proofs.lemmas.List.Sums.{sum_by-cons}
 use Rattle.bng_base.specs.declared.address.Ip4.{Ip4}
 use Rattle.bng_base.specs.declared.book.Range.{Range}
@@ -13,6 +14,7 @@ use Rattle.bng_base.specs.declared.item.Entry.{Entry}
 use Rattle.bng_base.specs.Ranges.{InRange}
 use Rattle.bng_engine.specs.Claims.{times_in}
 use Rattle.bng_engine.specs.Journals.{AreLimited, AreSteps, after, claims_of}
+use Rattle.bng_engine.specs.Showing.{with_journal}
 use Rattle.bng_engine.proofs.Claiming.{times_append}
 use Rattle.bng_pool.specs.Seats.{PoolView, SeatView as Hold, Holds, Notes, IsInRound}
 use Rattle.bng_round.specs.Asking.{Asks, Goes, IsNoted}

@@ -1,19 +1,19 @@
 -- What an item of a worker may count on in its shard.
-use Rattle.std.proofs.Common.{◌≡◌, ℕ, zero, suc, ◌+◌, ◌<◌, ◌≤◌, ◌==◌, ◌&&◌, Bool, true, false, cond, List, [], ◌∷◌, map, length, take, length-append, count_by, get_or, slice_get, slice_index_or, Some, refl, sym, ap, ◌∙◌, subst, arith, eq-eqb}
-use Rattle.std.specs.List.{AllZip, list_any}
+use Rattle.std.proofs.Common.{◌≡◌, ℕ, zero, suc, ◌+◌, ◌<◌, ◌≤◌, ◌==◌, ◌&&◌, Bool, true, false, cond, List, [], ◌∷◌, ◌++◌, map, length, take, length-append, count_by, get_or, slice_get, slice_index_or, Some, refl, sym, ap, ◌∙◌, subst, arith, eq-eqb}
+use Rattle.std.specs.List.{All, AllZip, range_with_len, list_any}
 use Rattle.std.proofs.lemmas.List.{length-map, get_or-map}
 use Rattle.std.proofs.lemmas.List.FromFn.{get_or-map-range_with_len, length-map-range_with_len}
-use Rattle.bng_base.specs.declared.book.Book.{Book}
 use Rattle.bng_base.specs.declared.item.Entry.{Entry}
 use Rattle.bng_base.specs.declared.item.Item.{Item}
 use Rattle.bng_base.specs.declared.item.ItemKind.{ItemKind}
 use Rattle.bng_base.specs.declared.item.Loose.{Loose}
 use Rattle.bng_pool.specs.Seats.{SeatView as Hold}
+use Rattle.bng_round.specs.declared.tally.Tally.{Tally}
 use Rattle.bng_round.specs.declared.mark.Mark.{Mark}
 use Rattle.bng_round.specs.Booking.{without_claim}
 use Rattle.bng_round.specs.Dealing.{entries_in}
 use Rattle.bng_round.specs.Entering.{IsDue, entries_in_marks}
-use Rattle.bng_round.specs.Rounds.{RoundView, IsOpen, list_of, lists_in}
+use Rattle.bng_round.specs.Rounds.{RoundView, IsOpen, list_of, lists_of, lists_in}
 use Rattle.bng_round.specs.Ticks.{is_for_shard, is_tick, is_end}
 use Rattle.bng_round.specs.Views.{PlacedView}
 use Rattle.bng_round.specs.Working.{AreSeats, Worked}
@@ -39,7 +39,7 @@ long_zip R [] (b ∷ ys) h = absurd h
 long_zip R (a ∷ xs) [] h = absurd h
 long_zip R (a ∷ xs) (b ∷ ys) h = ap suc (long_zip R xs ys h.1)
 
-module _ (round : RoundView) (k n place : ℕ) (qs : List Seat) (h : Hold) (loose : List Loose) (first tally : Book) (item : Item) (d : ℕ) (open_is : IsOpen round) (number : k < round.workers)
+module _ (round : RoundView) (k n place : ℕ) (qs : List Seat) (h : Hold) (loose : List Loose) (first tally : Tally) (item : Item) (d : ℕ) (open_is : IsOpen round) (number : k < round.workers)
     (low : n < length round.items) (here : get_or round.items n item ≡ item) (mine : get_or round.seats n d ≡ k)
     (seats : AreSeats round.turns k qs) (w : Worked round k (list_of k (take n round.seats) (take n round.items)) qs h loose first tally)
     (targets : AreForTarget (list_of k (take n round.seats) (take n round.items)) w.whose)

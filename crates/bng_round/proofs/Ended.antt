@@ -1,12 +1,16 @@
 -- A round whose turns ended, and its workers.
-use Rattle.std.proofs.Common.{◌≡◌, ℕ, zero, suc, ◌+◌, ◌%◌, ◌<◌, ◌≤◌, List, [], ◌∷◌, ◌++◌, map, length, sum, slice_get, length-append, Some, refl, sym, ap, ◌∙◌, subst, arith}
+use Rattle.std.proofs.Common.{◌≡◌, ℕ, zero, suc, ◌+◌, ◌%◌, ◌<◌, ◌≤◌, List, [], ◌∷◌, ◌++◌, map, length, sum, sum_by, slice_get, slice_index_or, length-append, Some, refl, sym, ap, ◌∙◌, subst, arith}
 use Rattle.std.specs.List.{flat_map, range_with_len}
+use Rattle.std.proofs.lemmas.List.{length-map}
 use Rattle.std.proofs.lemmas.List.Elements.{recursion_from_All}
 use Rattle.std.proofs.lemmas.List.FromFn.{length-map-range_with_len}
+use Rattle.std.proofs.lemmas.List.Sums.{sum_by-cons}
 use Rattle.std.proofs.lemmas.Option.{slice_get_within}
 use Rattle.bng_base.specs.declared.item.Item.{Item}
 use Rattle.bng_base.specs.declared.item.Loose.{Loose}
 use Rattle.bng_pool.specs.Seats.{PoolView, SeatView as Hold}
+use Rattle.bng_round.specs.declared.mark.Mark.{Mark}
+use Rattle.bng_round.specs.Asking.{Goes, IsHold}
 use Rattle.bng_round.specs.Closing.{AreAllDone, Ends, EndFrom, IsCut}
 use Rattle.bng_round.specs.Dealing.{loose_in, loose_item}
 use Rattle.bng_round.specs.Looking.{IsGround, IsLooker}
@@ -20,7 +24,7 @@ use Rattle.bng_round.proofs.Places.{some_at, same_some, sum_least}
 use Rattle.bng_steps.specs.Seats.{IsSeat}
 use Rattle.bng_steps.specs.declared.whose.Whose.{Whose}
 use Rattle.bng_steps.specs.declared.whose.Whose.TheVariants.{Loose as IsLoose, Stands}
-use Rattle.bng_turn.specs.Views.{TurnView}
+use Rattle.bng_turn.specs.Views.{TurnView, SeatView}
 
 pub ends_long : (workers : List WorkerView) (from : ℕ) (ts : List (TurnView PlacedView)) (gs : List PlacedView) → EndFrom workers from ts gs → length gs ≡ length ts
 ends_long workers from [] [] ends = refl
@@ -70,7 +74,8 @@ ended_at workers turns gs p q ends ground looker = record {
       let t = some_at turns s (omega (arith, slice_get_within gs s g e, ends_long workers 0 turns gs ends)) in
       let end = ends_at workers 0 turns gs ends s s t.0 g (omega arith) t.1 e in
       let here = ground.holds s t.0 t.1 in
-      let goes = runs_hold t.0.opening g end.follows.effects here.0.round end.follows.runs in (
+      let goes = runs_hold t.0.opening g end.follows.effects here.0.round end.follows.runs in
+      (
         record {
           pool = goes.pool ∙ here.0.pool;
           round = (ap (λ z. z % 2) goes.phase ∙ here.0.round.0, goes.full ∙ here.0.round.1);

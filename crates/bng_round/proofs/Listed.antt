@@ -1,10 +1,11 @@
 -- What stands at one place of one seat's list, in the journals of a round and beside them.
-use Rattle.std.proofs.Common.{◌≡◌, ◌≢◌, inl, inr, ⊎_elim, ℕ, zero, suc, ◌+◌, ◌<◌, ◌≤◌, ◌==◌, Bool, true, false, cond, ◌&&◌, List, [], ◌∷◌, ◌++◌, Option, Some, None, map, filter, length, get_or, slice_get, refl, sym, ap, ◌∙◌, arith, append-nil}
+use Rattle.std.proofs.Common.{◌≡◌, ◌≢◌, inl, inr, ⊎_elim, ℕ, zero, suc, ◌+◌, ◌<◌, ◌≤◌, ◌==◌, Bool, true, false, cond, eqb, ◌&&◌, List, [], ◌∷◌, ◌++◌, Option, Some, None, map, filter, length, get_or, slice_get, refl, sym, ap, subst, ◌∙◌, arith, append-nil}
 use Rattle.std.specs.Prelude.{◌⊎◌, option_to_list}
-use Rattle.std.specs.List.{AllByRecursion, flat_map}
+use Rattle.std.specs.List.{AllByRecursion, AllZip, flat_map}
 use Rattle.std.proofs.lemmas.Bool.{eq-eqb, ne_eqb}
 use Rattle.std.proofs.lemmas.List.{append_assoc, map-append}
 use Rattle.std.proofs.lemmas.List.Elements.{filter-append, recursion_from_All}
+use Rattle.std.proofs.lemmas.Option.{none-some, same_Some}
 use Rattle.bng_base.specs.declared.fate.Fate.{Fate}
 use Rattle.bng_base.specs.declared.item.Entry.{Entry}
 use Rattle.bng_base.specs.declared.item.Item.{Item}
@@ -13,7 +14,7 @@ use Rattle.bng_engine.specs.Views.{ShardView}
 use Rattle.bng_steps.specs.declared.whose.Whose.{Whose}
 use Rattle.bng_steps.specs.declared.whose.Whose.TheVariants.{Loose as IsLoose, Stands}
 use Rattle.bng_steps.specs.Protocol.{ShardState, Handled, entry_of}
-use Rattle.bng_steps.specs.Rounds.{Stood, entry_stood, listed_at, loose_stood, stands_at}
+use Rattle.bng_steps.specs.Rounds.{Stood, entries, entry_stood, listed_at, list_of, loose_stood, stands_at}
 use Rattle.bng_round.specs.Booking.{of_seat, without_claim}
 use Rattle.bng_round.specs.Dealing.{StandsWithin, all_loose, entries_in, loose_in, loose_item, stands_in}
 use Rattle.bng_round.specs.Was.{AreParts, IsPart}

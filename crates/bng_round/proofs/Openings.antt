@@ -7,12 +7,12 @@ use Rattle.std.proofs.lemmas.Option.{slice_get_within}
 use Rattle.bng_turn.specs.Views.{TurnView, SeatView}
 use Rattle.bng_turn.specs.Ends.{new_seat, AreAllOutside, AreUntouched}
 use Rattle.bng_turn.proofs.SeatLists.{all_new}
+use Rattle.bng_round.specs.declared.tally.Tally.{Tally}
+use Rattle.bng_round.specs.Tallies.{empty_tally}
 use Rattle.bng_round.specs.declared.mark.Mark.{Mark}
 use Rattle.bng_round.specs.Views.{PlacedView}
 use Rattle.bng_round.specs.declared.opening.Room.{Room}
 use Rattle.bng_round.specs.Rounds.{WorkerView}
-use Rattle.bng_base.specs.declared.book.Book.{Book}
-use Rattle.bng_engine.specs.Quantities.{empty_book}
 use Rattle.bng_pool.specs.Seats.{SeatView as Hold}
 use Rattle.bng_round.specs.Opening.{IsOpened, AreOpened, Row, TakesSeat, AllTake, HasSeats, IsEmptyRow, worker_in, seated, openings}
 use Rattle.bng_round.proofs.Places.{at_front, at_end, at_set, at_set_same, at_set_other, same_some, some_at}
@@ -91,18 +91,18 @@ pub seats_none : {S : Type 0} → (rows : List Row) (rooms : List (Room S)) → 
 seats_none rows rooms none k x e = record { now = x; now_is = e; count = ap (λ (l : List (SeatView PlacedView Mark)). length l) (none k x e); each = λ j r low f. absurd (omega (arith, low)); room = refl; loose = refl }
 
 -- one worker more
-pub seated_more : {S : Type 0} → (tallies : List Book) (k : ℕ) (qs : List Hold) (xs : List (Room S)) (q : Hold) (x : Room S) → length xs ≡ length qs
-    → seated tallies k (qs ++ q ∷ []) (xs ++ x ∷ []) ≡ seated tallies k qs xs ++ worker_in (k + length qs) q x (slice_index_or tallies (k + length qs) empty_book) ∷ []
-seated_more tallies k [] [] q x long = let at : k ≡ k + 0 = omega arith in ap (λ (n : ℕ). worker_in n q x (slice_index_or tallies n empty_book) ∷ []) at
+pub seated_more : {S : Type 0} → (tallies : List Tally) (k : ℕ) (qs : List Hold) (xs : List (Room S)) (q : Hold) (x : Room S) → length xs ≡ length qs
+    → seated tallies k (qs ++ q ∷ []) (xs ++ x ∷ []) ≡ seated tallies k qs xs ++ worker_in (k + length qs) q x (slice_index_or tallies (k + length qs) empty_tally) ∷ []
+seated_more tallies k [] [] q x long = let at : k ≡ k + 0 = omega arith in ap (λ (n : ℕ). worker_in n q x (slice_index_or tallies n empty_tally) ∷ []) at
 seated_more tallies k [] (y ∷ xs) q x long = absurd (omega (arith, long))
 seated_more tallies k (p ∷ qs) [] q x long = absurd (omega (arith, long))
 seated_more tallies k (p ∷ qs) (y ∷ xs) q x long =
     let rest = seated_more tallies (k + 1) qs xs q x (omega (arith, long)) in
     let at : k + 1 + length qs ≡ k + suc (length qs) = omega arith in
-    let first : WorkerView = worker_in k p y (slice_index_or tallies k empty_book) in
-    ap (λ z. first ∷ z) (rest ∙ ap (λ (n : ℕ). seated tallies (k + 1) qs xs ++ worker_in n q x (slice_index_or tallies n empty_book) ∷ []) at)
+    let first : WorkerView = worker_in k p y (slice_index_or tallies k empty_tally) in
+    ap (λ z. first ∷ z) (rest ∙ ap (λ (n : ℕ). seated tallies (k + 1) qs xs ++ worker_in n q x (slice_index_or tallies n empty_tally) ∷ []) at)
 
-pub seated_long : {S : Type 0} → (tallies : List Book) (k : ℕ) (qs : List Hold) (xs : List (Room S)) {n : ℕ} → length qs ≡ n → length xs ≡ n → length (seated tallies k qs xs) ≡ n
+pub seated_long : {S : Type 0} → (tallies : List Tally) (k : ℕ) (qs : List Hold) (xs : List (Room S)) {n : ℕ} → length qs ≡ n → length xs ≡ n → length (seated tallies k qs xs) ≡ n
 seated_long tallies k [] xs e f = e
 seated_long tallies k (q ∷ qs) [] e f = absurd (omega (arith, e, f))
 seated_long tallies k (q ∷ qs) (x ∷ xs) {n} e f = ap suc (seated_long tallies (k + 1) qs xs {n = length qs} refl (omega (arith, e, f))) ∙ e

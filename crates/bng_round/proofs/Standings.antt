@@ -1,14 +1,16 @@
 -- The items of a worker's list that stand in a shard.
-use Rattle.std.proofs.Common.{◌≡◌, ℕ, ◌+◌, ◌<◌, ◌≤◌, ◌==◌, ◌&&◌, Bool, true, false, cond, List, [], ◌∷◌, ◌++◌, map, length, count_by, refl, sym, ap, ◌∙◌, subst, arith, eq-eqb, ⊎_elim}
+use Rattle.std.proofs.Common.{◌≡◌, ℕ, ◌+◌, ◌<◌, ◌≤◌, ◌==◌, ◌&&◌, ◌||◌, Bool, true, false, cond, List, [], ◌∷◌, ◌++◌, map, length, count_by, refl, sym, ap, ◌∙◌, subst, arith, eq-eqb, ⊎_elim}
 use Rattle.std.specs.List.{AllZip, list_any}
 use Rattle.std.proofs.lemmas.List.{append-nil, append_assoc}
 use Rattle.std.proofs.lemmas.List.Sums.{sum_by-cons}
 use Rattle.std.proofs.lemmas.Bool.{or_cases}
 use Rattle.std.proofs.lemmas.Bool.Decides.{nat_tests}
+use Rattle.bng_base.specs.declared.fate.Fate.{Fate}
 use Rattle.bng_base.specs.declared.item.Entry.{Entry}
 use Rattle.bng_base.specs.declared.item.Item.{Item}
 use Rattle.bng_base.specs.declared.item.ItemKind.{ItemKind}
 use Rattle.bng_base.specs.declared.item.ItemKind.TheVariants.{Access, Core, Tunnel, Verdict, Change, Tick, End}
+use Rattle.bng_base.specs.declared.item.Loose.{Loose}
 use Rattle.bng_pool.specs.Seats.{SeatView as Hold}
 use Rattle.bng_round.specs.Booking.{without_claim, Rise}
 use Rattle.bng_round.specs.Dealing.{stands_in, entries_in, loose_in, loose_item}
@@ -16,6 +18,7 @@ use Rattle.bng_round.specs.Looking.{Finds, IsFoundNow, IsSeen, WasFound}
 use Rattle.bng_round.specs.Ticks.{is_for_shard}
 use Rattle.bng_round.specs.Views.{PlacedView}
 use Rattle.bng_steps.specs.declared.destination.Destination.{Destination}
+use Rattle.bng_steps.specs.declared.destination.Destination.TheVariants.{Loose as LeadsNowhere, Stands as LeadsTo, Holder}
 use Rattle.bng_steps.specs.declared.rules.Rules.{Rules}
 use Rattle.bng_steps.specs.declared.whose.Whose.{Whose}
 use Rattle.bng_steps.specs.declared.whose.Whose.TheVariants.{Loose as IsLoose, Stands}
@@ -146,8 +149,8 @@ module _ (test : ItemKind → Bool) (narrow : (kind : ItemKind) → test kind �
   counted_by true s k now place i w (e ∷ es) rest n b for ih same had =
       let both = tails (without_claim e) (entry_of k place now i) (map without_claim es) rest same in let item : e.item ≡ i = ap (λ (z : Entry). z.item) both.0 in
       ⊎_elim
-      (λ here. let yes_one : is_one s i ≡ true = one_is i w s b for (ap (λ (z : Item). test z.kind) (sym item) ∙ here) in let cost : Bool → ℕ = λ b. cond b 1 0 in let one = ap cost yes_one in omega (arith, one))
-      (λ later. omega (arith, ih es both.1 later)) (or_cases (test e.item.kind) (has es) had)
+          (λ here. let yes_one : is_one s i ≡ true = one_is i w s b for (ap (λ (z : Item). test z.kind) (sym item) ∙ here) in let cost : Bool → ℕ = λ b. cond b 1 0 in let one = ap cost yes_one in omega (arith, one))
+          (λ later. omega (arith, ih es both.1 later)) (or_cases (test e.item.kind) (has es) had)
 
   none_had : (es : List Entry) → map without_claim es ≡ [] → has es ≡ true → ⊥
   none_had [] is had = absurd (cc)

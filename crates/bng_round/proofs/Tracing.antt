@@ -1,8 +1,8 @@
 -- What a journal that has the items of the workers' lists says of each entry.
-use Rattle.std.proofs.Common.{◌≡◌, inl, inr, ⊎_elim, ℕ, zero, suc, ◌+◌, ◌<◌, ◌≤◌, Bool, true, false, cond, eqb, List, [], ◌∷◌, ◌++◌, Option, Some, None, map, length, get_or, refl, sym, ap, subst, ◌∙◌, arith}
+use Rattle.std.proofs.Common.{◌≡◌, inl, inr, ⊎_elim, ℕ, zero, suc, ◌+◌, ◌<◌, ◌≤◌, ◌==◌, ◌%◌, Bool, true, false, cond, eqb, List, [], ◌∷◌, ◌++◌, Option, Some, None, map, filter, length, get_or, slice_get, refl, sym, ap, subst, ◌∙◌, arith}
 use Rattle.std.specs.Prelude.{◌⊎◌}
-use Rattle.std.specs.List.{AllByRecursion, AllZip}
-use Rattle.std.proofs.lemmas.Bool.{ne_eqb}
+use Rattle.std.specs.List.{All, AllByRecursion, AllZip}
+use Rattle.std.proofs.lemmas.Bool.{eq-eqb, ne_eqb}
 use Rattle.std.proofs.lemmas.Bool.Decides.{nat_tests}
 use Rattle.std.proofs.lemmas.List.Elements.{recursion_from_All}
 use Rattle.bng_base.specs.declared.fate.Fate.{Fate}
@@ -11,6 +11,7 @@ use Rattle.bng_base.specs.declared.item.Item.{Item}
 use Rattle.bng_base.specs.declared.item.ItemKind.{ItemKind}
 use Rattle.bng_base.specs.declared.item.ItemKind.TheVariants.{Access, Core, Tunnel, Verdict, Change, Tick, End}
 use Rattle.bng_base.specs.declared.item.Loose.{Loose}
+use Rattle.bng_coa.specs.Admission.{IsRequestIn}
 use Rattle.bng_coa.specs.Leads.{lead_of}
 use Rattle.bng_engine.proofs.Everywhere.{all_append, all_mapped}
 use Rattle.bng_pool.specs.Tables.{Table, entry}
@@ -36,7 +37,7 @@ request_one : (octets : List ℕ) (n m : ℕ) → IsCountedFromRequest octets n 
 request_one octets n m a b = ⊎_elim
     (λ none. ⊎_elim (λ also. none.1 ∙ sym also.1) (λ some. absurd (none.0 some.0 some.1)) b)
     (λ some. ⊎_elim (λ none. absurd (none.0 some.0 some.1))
-    (λ also. some.2 ∙ (ap (λ (p : Packet). counted_from_lead (lead_of p)) (one_packet some.0 also.0 octets some.1.packet also.1.packet) ∙ sym also.2)) b)
+        (λ also. some.2 ∙ (ap (λ (p : Packet). counted_from_lead (lead_of p)) (one_packet some.0 also.0 octets some.1.packet also.1.packet) ∙ sym also.2)) b)
     a
 
 pub counted_one : (kind : ItemKind) (i : Item) (n m : ℕ) → IsCountedFrom kind i n → IsCountedFrom kind i m → n ≡ m
@@ -187,3 +188,4 @@ module _ (r : Rules) (opening last : Table) where
   all_may_leave seat (items ∷ lists) [] all = absurd all
   all_may_leave seat (items ∷ lists) (ws ∷ whose) all =
       all_append MayLeave (loose_in seat 0 items ws) (all_loose (seat + 1) lists whose) (may_leave seat 0 items ws all.0) (all_may_leave (seat + 1) lists whose all.1)
+

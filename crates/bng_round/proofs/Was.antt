@@ -1,20 +1,26 @@
 -- A closed round is a round as a trace holds it.
-use Rattle.std.proofs.Common.{◌≡◌, ◌⊎◌, inl, inr, ⊎_elim, ℕ, zero, suc, ◌+◌, ◌%◌, ◌<◌, ◌≤◌, ◌==◌, Bool, true, false, cond, eqb, List, [], ◌∷◌, ◌++◌, Option, Some, None, map, filter, length, count_by, sum_by, get_or, slice_get, slice_index_or, refl, sym, ap, ◌∙◌, subst, arith, eq-eqb}
+use Rattle.std.proofs.Common.{◌≡◌, ◌⊎◌, inl, inr, ⊎_elim, ℕ, zero, suc, ◌+◌, ◌%◌, ◌<◌, ◌≤◌, ◌==◌, Bool, true, false, cond, eqb, List, [], ◌∷◌, ◌++◌, Option, Some, None, map, filter, length, length-append, count_by, sum_by, get_or, slice_get, slice_index_or, refl, sym, ap, ◌∙◌, subst, arith, eq-eqb, ne_eqb}
+use mathlib.Core.Logic.{dite}
+use native.Mathlib.Decide.{ℕ_discrete}
 use Rattle.std.specs.Prelude.{IsSome}
-use Rattle.std.specs.List.{AllByRecursion, AllZip, Contains, flat_map, range_with_len}
+use Rattle.std.specs.List.{All, AllByRecursion, AllZip, Contains, flat_map, range_with_len}
 use Rattle.std.proofs.lemmas.Bool.Decides.{nat_tests}
-use Rattle.std.proofs.lemmas.List.{length-map}
-use Rattle.std.proofs.lemmas.List.Elements.{All-from_recursion, filter-append}
+use Rattle.std.proofs.lemmas.List.{length-map, map-append, get_or-map}
+use Rattle.std.proofs.lemmas.List.Elements.{All-from_recursion, filter-append, recursion_from_All}
 use Rattle.std.proofs.lemmas.List.FromFn.{length-map-range_with_len, get_or-map-range_with_len}
 use Rattle.std.proofs.lemmas.List.Sums.{sum_by-cons}
 use Rattle.std.proofs.lemmas.Option.{none-some, same_Some, slice_get_within, get_or_from_slice_get}
 use Rattle.bng_base.specs.declared.address.Ip4.{Ip4}
+use Rattle.bng_base.specs.declared.book.Range.{Range}
+use Rattle.bng_base.specs.declared.fate.DropCause.{DropCause}
 use Rattle.bng_base.specs.declared.fate.Fate.{Fate}
-use Rattle.bng_base.specs.declared.item.Claim.TheVariants.{Held, Exhausted}
+use Rattle.bng_base.specs.declared.item.Claim.{Claim}
+use Rattle.bng_base.specs.declared.item.Claim.TheVariants.{Claimed, Held, Exhausted}
 use Rattle.bng_base.specs.declared.item.Entry.{Entry}
 use Rattle.bng_base.specs.declared.item.Item.{Item}
+use Rattle.bng_base.specs.declared.item.Loose.{Loose}
 use Rattle.bng_base.specs.declared.settings.NamedRange.{NamedRange}
-use Rattle.bng_base.specs.Ranges.{size_of}
+use Rattle.bng_base.specs.Ranges.{InRange, size_of}
 use Rattle.bng_engine.specs.Claims.{claimed_at, times_in}
 use Rattle.bng_engine.specs.Journals.{claims_of}
 use Rattle.bng_engine.specs.Lists.{Zip3}
@@ -23,32 +29,34 @@ use Rattle.bng_engine.specs.Rounds.{IsRoundOfShard, ShardRound, journals_of}
 use Rattle.bng_engine.specs.Showing.{Shows, with_journal}
 use Rattle.bng_engine.specs.Terms.{Term}
 use Rattle.bng_engine.proofs.Journals.{run_few}
-use Rattle.bng_pool.specs.OneHand.{AreInOneHand}
+use Rattle.bng_pool.specs.OneHand.{AreInOneHand, HasHolder, table_of}
 use Rattle.bng_pool.specs.Ranges.{HasAddress}
-use Rattle.bng_pool.specs.Seats.{PoolView, SeatView as Hold, Holds, IsInRound}
-use Rattle.bng_pool.specs.Tables.{entry}
+use Rattle.bng_pool.specs.Seats.{PoolView, SeatView as Hold, Holds, IsInRound, Notes}
+use Rattle.bng_pool.specs.Tables.{Table, entry}
 use Rattle.bng_pool.proofs.Entries.{free_in, holder_in, in_table}
 use Rattle.bng_round.specs.declared.mark.Mark.{Mark}
-use Rattle.bng_round.specs.Asking.{AreHeldBy, IsNoted}
+use Rattle.bng_round.specs.Asking.{AreHeldBy, Goes, IsNoted}
 use Rattle.bng_round.specs.Booking.{Runs, mark_of, of_seat, without_claim}
-use Rattle.bng_round.specs.Closing.{Ends, IsClosed}
-use Rattle.bng_round.specs.Dealing.{StandsWithin, all_loose, entries_in}
+use Rattle.bng_round.specs.Closing.{AreAllDone, Ends, IsClosed}
+use Rattle.bng_round.specs.Dealing.{StandsWithin, all_loose, entries_in, loose_in, loose_item, stands_in}
 use Rattle.bng_round.specs.Entering.{entries_in_marks}
 use Rattle.bng_round.specs.Looking.{IsSeen, WasFound}
-use Rattle.bng_round.specs.Rounds.{RoundView, WorkerView, list_of, lists_in}
+use Rattle.bng_round.specs.Rounds.{RoundView, WorkerView, IsOpen, list_of, lists_in}
 use Rattle.bng_round.specs.Telling.{KnowsMore}
+use Rattle.bng_round.specs.Tallies.{is_dropped, of_cause}
 use Rattle.bng_round.specs.Views.{PlacedView, Shown, Sight}
-use Rattle.bng_round.specs.Was.{AreParts, HasAll, IsLight, IsPart, IsWhoseIn, Remains, StaysInTurn, WasRound, fated, last_table, of_worker, opening_table, passed_for, rounds_in, standing_after, standing_before, told_fates}
-use Rattle.bng_round.specs.Working.{HasWorked, marks_passed, seats_passed}
+use Rattle.bng_round.specs.Was.{AreParts, HasAll, IsLight, IsPart, IsWhoseIn, Remains, StaysInTurn, WasRound, fated, last_table, of_worker, opening_table, passed_for, rounds_in, standing_after, standing_before}
+use Rattle.bng_round.specs.Working.{AreSeats, HasWorked, marks_passed, seats_passed, told_fates}
 use Rattle.bng_round.proofs.Answering.{goes_on}
-use Rattle.bng_round.proofs.Claims.{Claims, Walks, exhausted_later, held_later, run_claims, run_free, run_keeps, run_once, run_only, walks}
+use Rattle.bng_round.proofs.Assembling.{zip_same}
+use Rattle.bng_round.proofs.Claims.{Claims, Walks, exhausted_later, held_later, run_claims, run_free, run_keeps, run_once, run_only, single_here, walks}
 use Rattle.bng_round.proofs.Ended.{ends_long, list_from}
 use Rattle.bng_round.proofs.Following.{follows_seat, runs_held, runs_hold, runs_journal, runs_keep, runs_within, set_within}
-use Rattle.bng_round.proofs.Listed.{below_or_not, entries_of, listed}
+use Rattle.bng_round.proofs.Listed.{all_by_seat, below_or_not, entries_of, listed, places_alike}
 use Rattle.bng_round.proofs.Places.{some_at, same_some, sum_same}
 use Rattle.bng_round.proofs.Tracing.{all_may_leave, counted_one, in_order, may_stand}
 use Rattle.bng_round.proofs.Turned.{runs_light, turn_runs}
-use Rattle.bng_round.proofs.WorkedParts.{SeenAt, SeenOf, WhoseOf, all_bare, all_passed, bare_seat, columns, marks_by, marks_fated, marks_pass, seen_of, sum_alike_by, tallies_from, whose_of}
+use Rattle.bng_round.proofs.WorkedParts.{Handed, SeenAt, SeenOf, WhoseOf, all_bare, all_passed, bare_seat, columns, marks_by, marks_fated, marks_pass, seen_of, sum_alike_by, tallies_from, whose_of}
 use Rattle.bng_steps.specs.declared.destination.Destination.{Destination}
 use Rattle.bng_steps.specs.declared.destination.Destination.TheVariants.{Loose as LeadsNowhere, Stands as LeadsTo, Holder}
 use Rattle.bng_steps.specs.declared.rules.Rules.{Rules}
@@ -61,6 +69,7 @@ use Rattle.bng_steps.specs.Destinations.{IsDestination}
 use Rattle.bng_steps.specs.Seats.{IsCountedFrom, IsSeat}
 use Rattle.bng_steps.specs.Whose.{IsFound, IsHeldOr as IsHeldThen}
 use Rattle.bng_steps.proofs.StepLaws.{pppoe_laws}
+use Rattle.bng_turn.specs.Marks.{marks_of}
 use Rattle.bng_turn.specs.Views.{TurnView, SeatView}
 
 -- Lists by places ---------------------------------------------------------------------------------------------------------------
@@ -178,8 +187,8 @@ module _ (p : PoolView) (round : RoundView) (before workers : List WorkerView) (
             let mine : of_seat k es ≡ entries_in_marks q.0.own =
             ap (of_seat k) (entries_are s v is) ∙ (follows_seat is.turn.opening is.state is.ends.list k is.ends.follows ∙ ap (λ (ms : List Mark). entries_in_marks ms) (is.ends.own k w.worker q.0 w.worker_is q.1)) in
             bare_seat k es ∙ (ap (map without_claim) mine ∙ (w.worked.worked.own s q.0 q.1
-            ∙ (λ i. entries_in (w.number i) s 0 round.moment (list_of (w.number i) round.seats round.items) (w.same i))
-            ∙ (λ i. entries_in k s 0 round.moment (sym (list_at k (omega (arith, lt, lists_long))) i) (sym (get_or_from_slice_get whose_is.whose k w.whose [] w.its_whose) i))));
+                ∙ (λ i. entries_in (w.number i) s 0 round.moment (list_of (w.number i) round.seats round.items) (w.same i))
+                ∙ (λ i. entries_in k s 0 round.moment (sym (list_at k (omega (arith, lt, lists_long))) i) (sym (get_or_from_slice_get whose_is.whose k w.whose [] w.its_whose) i))));
         seats = All-from_recursion (λ (x : Entry). x.seat < length lists) (map without_claim es)
             (all_bare (length lists) es (subst (λ (z : ℕ × List Entry). AllByRecursion (λ (x : Entry). x.seat < z.0) z.1) (λ i. (sym lists_long i, sym (entries_are s v is) i)) (seats_low s v is)));
       }
@@ -648,12 +657,18 @@ module _ (p : PoolView) (round : RoundView) (before workers : List WorkerView) (
         (λ s z v f h. ap (λ (ms : List Mark). count_by (λ (m : Mark). test m.done.fate) ms) (own_at k s v (seen_at s v h) w z e f) ∙ marks_fated test (of_worker k v.journal))
 
   tally_at : (k : ℕ) (v v' : WorkerView) (q : Quantity) (input : Bool) → slice_get before k ≡ Some v → slice_get workers k ≡ Some v'
-      → in_book q input v'.tally ≡ in_book q input v.tally + sum_by (λ (w : Sight). passed_for q input (of_worker k w.journal)) seen_is.seen
+      → in_book q input v'.tally.passed ≡ in_book q input v.tally.passed + sum_by (λ (w : Sight). passed_for q input (of_worker k w.journal)) seen_is.seen
   tally_at k v v' q input e f =
       let worked = (closed.done.worked k v v' e f).1.worked in
       omega (arith, worked.tallied q input, passed_at k v' f q input)
 
-  total : (q : Quantity) (input : Bool) → sum_by (λ (v : WorkerView). in_book q input v.tally) workers ≡ sum_by (λ (v : WorkerView). in_book q input v.tally) before + sum_by (λ (w : Sight). passed_for q input w.journal) seen_is.seen
+  drops_at : (k : ℕ) (v v' : WorkerView) (cause : DropCause) → slice_get before k ≡ Some v → slice_get workers k ≡ Some v'
+      → of_cause cause v'.tally.drops ≡ of_cause cause v.tally.drops + sum_by (λ (w : Sight). fated (is_dropped cause) (of_worker k w.journal)) seen_is.seen
+  drops_at k v v' cause e f =
+      let worked = (closed.done.worked k v v' e f).1.worked in
+      omega (arith, worked.dropped cause, fated_at k v' f (is_dropped cause))
+
+  total : (q : Quantity) (input : Bool) → sum_by (λ (v : WorkerView). in_book q input v.tally.passed) workers ≡ sum_by (λ (v : WorkerView). in_book q input v.tally.passed) before + sum_by (λ (w : Sight). passed_for q input w.journal) seen_is.seen
   total q input =
       let each : (k : ℕ) → ℕ = λ k. sum_by (λ (w : Sight). passed_for q input (of_worker k w.journal)) seen_is.seen in
       let all = tallies_from q input each 0 before workers (closed.done.count.1 ∙ sym closed.done.count.0) (λ k v w e f. let at : 0 + k ≡ k = omega arith in omega (arith, tally_at k v w q input e f, ap each at)) in
@@ -717,6 +732,6 @@ module _ (p : PoolView) (round : RoundView) (before workers : List WorkerView) (
     loose_are = whose_is.loose ∙ (λ i. all_loose 0 (map (λ j. list_of j round.seats round.items) (range_with_len 0 (closed.done.count.0 i))) whose_is.whose);
     tallies = tally_at;
     total = total;
-    drops = λ k v' test e. fated_at k v' e test;
+    drops = drops_at;
     is_round = is_round;
   }

@@ -1,11 +1,11 @@
 -- A worker's work: what an item may count on, and what it leaves.
-use Rattle.std.proofs.Common.{◌≡◌, ℕ, suc, ◌+◌, ◌%◌, ◌≤◌, Bool, true, false, List, [], ◌∷◌, ◌++◌, map, length, set, slice_get, length-append, length-set, Some, refl, sym, ap, ◌∙◌, subst, arith, eq-eqb, ne_eqb}
+use Rattle.std.proofs.Common.{◌≡◌, ℕ, suc, ◌+◌, ◌*◌, ◌%◌, ◌<◌, ◌≤◌, ◌==◌, ◌&&◌, Bool, true, false, cond, List, [], ◌∷◌, ◌++◌, map, length, set, count_by, sum_by, slice_get, slice_index_or, length-append, length-set, Some, refl, sym, ap, ◌∙◌, subst, arith, eq-eqb, ne_eqb}
 use mathlib.Core.Logic.{dite}
 use native.Mathlib.Decide.{ℕ_discrete}
 use Rattle.std.specs.List.{AllByRecursion, AllZip}
-use Rattle.std.proofs.lemmas.List.{append-nil, map-append}
+use Rattle.std.proofs.lemmas.List.{append-nil, map-append, length-map}
 use Rattle.std.proofs.lemmas.List.Sums.{sum_by-cons, sum_by-append}
-use Rattle.bng_base.specs.declared.book.Book.{Book}
+use Rattle.bng_base.specs.declared.fate.DropCause.{DropCause}
 use Rattle.bng_base.specs.declared.fate.Fate.{Fate}
 use Rattle.bng_base.specs.declared.item.Entry.{Entry}
 use Rattle.bng_base.specs.declared.item.Item.{Item}
@@ -15,6 +15,7 @@ use Rattle.bng_pool.specs.Ranges.{HasAddress}
 use Rattle.bng_pool.specs.Seats.{PoolView, SeatView as Hold, Notes}
 use Rattle.bng_round.specs.declared.mark.Done.{Done}
 use Rattle.bng_round.specs.declared.mark.Mark.{Mark}
+use Rattle.bng_round.specs.declared.tally.Tally.{Tally}
 use Rattle.bng_round.specs.Asking.{Goes}
 use Rattle.bng_round.specs.Booking.{without_claim}
 use Rattle.bng_round.specs.Dealing.{StandsWithin, stands_in, entries_in, loose_in, loose_item}
@@ -22,7 +23,8 @@ use Rattle.bng_round.specs.Entering.{entries_in_marks, Books}
 use Rattle.bng_round.specs.Looking.{Finds, IsFoundNow, IsGround, IsLooker, IsSeen, WasFound}
 use Rattle.bng_round.specs.Rounds.{RoundView}
 use Rattle.bng_round.specs.Views.{PlacedView}
-use Rattle.bng_round.specs.Working.{AreSeats, GoesTo, HandlesOne, Worked, marks_passed, seats_passed}
+use Rattle.bng_round.specs.Tallies.{is_dropped, of_cause}
+use Rattle.bng_round.specs.Working.{AreSeats, GoesTo, HandlesOne, Worked, marks_passed, seats_passed, told_fates}
 use Rattle.bng_round.proofs.Places.{at_set_same, at_set_other, all_more, sum_changed}
 use Rattle.bng_round.proofs.Standings.{entries_more, loose_more, one_of}
 use Rattle.bng_steps.specs.declared.destination.Destination.{Destination}
@@ -83,7 +85,7 @@ zip_long R (a ∷ xs) (b ∷ ys) all = ap suc (zip_long R xs ys all.1)
 
 -- One item more -----------------------------------------------------------------------------------------------------------------
 
-module _ (round : RoundView) (p : PoolView) (k : ℕ) (list : List Item) (item : Item) (place : ℕ) (qs qs' : List Seat) (h h' : Hold) (loose loose' : List Loose) (first before after : Book)
+module _ (round : RoundView) (p : PoolView) (k : ℕ) (list : List Item) (item : Item) (place : ℕ) (qs qs' : List Seat) (h h' : Hold) (loose loose' : List Loose) (first before after : Tally)
     (ground : IsGround round.turns p) (looker : IsLooker round.turns p h) (shards : length round.turns ≡ round.rules.shards)
     (w : Worked round k list qs h loose first before) (at : place ≡ length list) where
   abbrev a : Entry
@@ -124,8 +126,10 @@ module _ (round : RoundView) (p : PoolView) (k : ℕ) (list : List Item) (item :
     inside = more_inside (IsLoose fate) inside;
     own = λ s q e. stays s (IsLoose fate) (entries_in_marks q.own) refl (w.own s q (ap (λ l. slice_get l s) (sym goes.0) ∙ e));
     loose_are = goes.1 ∙ (ap (λ l. l ++ loose_item k place item (IsLoose fate)) w.loose_are ∙ sym (loose_more k 0 list w.whose item (IsLoose fate) place long here));
-    tallied = λ q input. ap (in_book q input) goes.2 ∙ (w.tallied q input ∙ ap (λ (l : List Seat). in_book q input first + seats_passed q input l) (sym goes.0));
-    light = λ q input. let was = w.light q input in let is = ap (in_book q input) goes.2 in omega (arith, was, is, longer);
+    tallied = λ q input. ap (λ (t : Tally). in_book q input t.passed) goes.2 ∙ (w.tallied q input ∙ ap (λ (l : List Seat). in_book q input first.passed + seats_passed q input l) (sym goes.0));
+    dropped = λ cause. ap (λ (t : Tally). of_cause cause t.drops) goes.2 ∙ (w.dropped cause ∙ ap (λ (l : List Seat). of_cause cause first.drops + told_fates (is_dropped cause) l) (sym goes.0));
+    light = λ q input. let was = w.light q input in let is = ap (λ (t : Tally). in_book q input t.passed) goes.2 in omega (arith, was, is, longer);
+    few = λ cause. let was = w.few cause in let is = ap (λ (t : Tally). of_cause cause t.drops) goes.2 in omega (arith, was, is, longer);
   }
 
   own_in : (n : ℕ) (q q' : Seat) (done : Done) (books : Books q q' a done) → slice_get qs n ≡ Some q
@@ -137,20 +141,36 @@ module _ (round : RoundView) (p : PoolView) (k : ℕ) (list : List Item) (item :
       ap (λ (z : Seat). map without_claim (entries_in_marks z.own)) (sym is) ∙ (ap (map without_claim) own ∙ all))
       (λ other. stays s (Stands n) (entries_in_marks x.own) (ne_eqb n s other) (w.own s x (sym (at_set_other qs n s q' other) ∙ e)))
 
+  one_at_most : (b : Bool) → cond {A = ℕ} b 1 0 ≤ 1
+  one_at_most true = omega arith
+  one_at_most false = omega arith
+
   booked_in : (n : ℕ) → Finds round.rules item (Stands n) h h' → StandsWithin round.rules.shards (Stands n) → GoesTo (Stands n) qs qs' loose loose' a before after → Worked round k (list ++ item ∷ []) qs' h' loose' first after
   booked_in n f inside goes =
       let q : Seat = goes.0 in let q' : Seat = goes.1 in let books = goes.5 in
       let sums : (y : Quantity) (input : Bool) → seats_passed y input (set qs n q') ≡ seats_passed y input qs + in_book y input books.mark.done.passed = λ y input.
       sum_changed (λ (z : Seat). marks_passed y input z.own) qs n q q' (in_book y input books.mark.done.passed) goes.3
       (ap (λ (z : Seat). marks_passed y input z.own) books.seat ∙ (let one = sum_by-append (λ (m : Mark). in_book y input m.done.passed) q.own (books.mark ∷ []) in omega (arith, one))) in
+      let fates : (cause : DropCause) → told_fates (is_dropped cause) (set qs n q') ≡ told_fates (is_dropped cause) qs + cond (is_dropped cause books.mark.done.fate) 1 0 = λ cause.
+      sum_changed (λ (z : Seat). count_by (λ (m : Mark). is_dropped cause m.done.fate) z.own) qs n q q' (cond (is_dropped cause books.mark.done.fate) 1 0) goes.3
+      (ap (λ (z : Seat). count_by (λ (m : Mark). is_dropped cause m.done.fate) z.own) books.seat ∙ (let one = sum_by-append (λ (m : Mark). cond (is_dropped cause m.done.fate) 1 0) q.own (books.mark ∷ []) in omega (arith, one))) in
       record {
         whose = w.whose ++ Stands n ∷ [];
         is_seen = more_seen (Stands n) f;
         inside = more_inside (Stands n) inside;
         own = λ s x e. own_in n q q' goes.2 books goes.3 s x (ap (λ l. slice_get l s) (sym goes.4) ∙ e);
         loose_are = goes.7 ∙ (w.loose_are ∙ (sym (append-nil (loose_in k 0 list w.whose)) ∙ sym (loose_more k 0 list w.whose item (Stands n) place long here)));
-        tallied = λ y input. omega (arith, goes.6 y input, w.tallied y input, sums y input, ap (λ (l : List Seat). seats_passed y input l) goes.4, ap (λ d. in_book y input d.passed) books.done_is);
-        light = λ y input. omega (arith, goes.6 y input, w.light y input, longer, books.light y input);
+        tallied = λ y input. omega (arith, goes.6.passed y input, w.tallied y input, sums y input, ap (λ (l : List Seat). seats_passed y input l) goes.4, ap (λ d. in_book y input d.passed) books.done_is);
+        dropped = λ cause. omega (
+          arith,
+          goes.6.drops cause,
+          w.dropped cause,
+          fates cause,
+          ap (λ (l : List Seat). told_fates (is_dropped cause) l) goes.4,
+          ap {B = ℕ} (λ (d : Done). cond (is_dropped cause d.fate) 1 0) books.done_is,
+        );
+        light = λ y input. omega (arith, goes.6.passed y input, w.light y input, longer, books.light y input);
+        few = λ cause. omega (arith, goes.6.drops cause, w.few cause, longer, one_at_most (is_dropped cause goes.2.fate));
       }
 
   goes_on : (whose : Whose) → Finds round.rules item whose h h' → StandsWithin round.rules.shards whose → GoesTo whose qs qs' loose loose' a before after → Worked round k (list ++ item ∷ []) qs' h' loose' first after
@@ -167,8 +187,14 @@ nothing y input (q ∷ qs) fresh =
     let here : marks_passed y input q.own ≡ 0 = ap (marks_passed y input) (fresh 0 q refl) in
     omega (arith, here, nothing y input qs (λ s x e. fresh (suc s) x e), sum_by-cons (λ (z : Seat). marks_passed y input z.own) q qs)
 
+none_fated : (cause : DropCause) (qs : List Seat) → ((s : ℕ) (q : Seat) → slice_get qs s ≡ Some q → q.own ≡ []) → told_fates (is_dropped cause) qs ≡ 0
+none_fated cause [] fresh = refl
+none_fated cause (q ∷ qs) fresh =
+    let here : count_by (λ (m : Mark). is_dropped cause m.done.fate) q.own ≡ 0 = ap (λ (ms : List Mark). count_by (λ (m : Mark). is_dropped cause m.done.fate) ms) (fresh 0 q refl) in
+    omega (arith, here, none_fated cause qs (λ s x e. fresh (suc s) x e), sum_by-cons (λ (z : Seat). count_by (λ (m : Mark). is_dropped cause m.done.fate) z.own) q qs)
+
 -- before the first item
-pub worked_none : (round : RoundView) (k : ℕ) (h : Hold) (qs : List Seat) (tally : Book) → ((s : ℕ) (q : Seat) → slice_get qs s ≡ Some q → q.own ≡ []) → Worked round k [] qs h [] tally tally
+pub worked_none : (round : RoundView) (k : ℕ) (h : Hold) (qs : List Seat) (tally : Tally) → ((s : ℕ) (q : Seat) → slice_get qs s ≡ Some q → q.own ≡ []) → Worked round k [] qs h [] tally tally
 worked_none round k h qs tally fresh = record {
   whose = [];
   is_seen = tt;
@@ -176,10 +202,12 @@ worked_none round k h qs tally fresh = record {
   own = λ s q e. ap (λ (ms : List Mark). map without_claim (entries_in_marks ms)) (fresh s q e);
   loose_are = refl;
   tallied = λ y input. omega (arith, nothing y input qs fresh);
+  dropped = λ cause. omega (arith, none_fated cause qs fresh);
   light = λ y input. omega arith;
+  few = λ cause. omega arith;
 }
 
-module _ (turns : List (TurnView PlacedView)) (k : ℕ) (qs qs' : List Seat) (loose loose' : List Loose) (a : Entry) (before after : Book) (seats : AreSeats turns k qs) where
+module _ (turns : List (TurnView PlacedView)) (k : ℕ) (qs qs' : List Seat) (loose loose' : List Loose) (a : Entry) (before after : Tally) (seats : AreSeats turns k qs) where
   set_seat : (n : ℕ) (q q' : Seat) (done : Done) → slice_get qs n ≡ Some q → Books q q' a done → AreSeats turns k (set qs n q')
   set_seat n q q' done at books = record {
     count = length-set qs n q' ∙ seats.count;
@@ -198,9 +226,9 @@ module _ (turns : List (TurnView PlacedView)) (k : ℕ) (qs qs' : List Seat) (lo
   pub seats_after : (r : Rules) (h h' : Hold) → HandlesOne r h h' qs qs' loose loose' a before after → AreSeats turns k qs'
   seats_after r h h' d = seats_on d.whose d.goes
 
-grows_by : (whose : Whose) (qs qs' : List Seat) (loose loose' : List Loose) (a : Entry) (before after : Book) → GoesTo whose qs qs' loose loose' a before after → length loose' ≤ length loose + 1
+grows_by : (whose : Whose) (qs qs' : List Seat) (loose loose' : List Loose) (a : Entry) (before after : Tally) → GoesTo whose qs qs' loose loose' a before after → length loose' ≤ length loose + 1
 grows_by (IsLoose fate) qs qs' loose loose' a before after goes = omega (arith, ap (λ (l : List Loose). length l) goes.1, length-append loose (loose_item a.seat a.place a.item (IsLoose fate)))
 grows_by (Stands n) qs qs' loose loose' a before after goes = omega (arith, ap (λ (l : List Loose). length l) goes.7)
 
-pub loose_grows : (r : Rules) (h h' : Hold) (qs qs' : List Seat) (loose loose' : List Loose) (a : Entry) (before after : Book) → HandlesOne r h h' qs qs' loose loose' a before after → length loose' ≤ length loose + 1
+pub loose_grows : (r : Rules) (h h' : Hold) (qs qs' : List Seat) (loose loose' : List Loose) (a : Entry) (before after : Tally) → HandlesOne r h h' qs qs' loose loose' a before after → length loose' ≤ length loose + 1
 loose_grows r h h' qs qs' loose loose' a before after d = grows_by d.whose qs qs' loose loose' a before after d.goes

@@ -1,26 +1,38 @@
 -- What the workers of a closed round handled, and what the shards did for them.
-use Rattle.std.proofs.Common.{◌≡◌, ℕ, zero, suc, ◌+◌, ◌<◌, ◌≤◌, ◌==◌, Bool, true, false, cond, List, [], ◌∷◌, ◌++◌, map, length, count_by, sum_by, slice_get, Some, refl, sym, ap, ◌∙◌, subst, arith, eq-eqb, ne_eqb}
+use Rattle.std.proofs.Common.{◌≡◌, ◌⊎◌, inl, inr, ⊎_elim, ℕ, zero, suc, ◌+◌, ◌%◌, ◌<◌, ◌≤◌, ◌==◌, Bool, true, false, cond, eqb, List, [], ◌∷◌, ◌++◌, map, filter, length, length-append, count_by, sum_by, get_or, slice_get, slice_index_or, Some, refl, sym, ap, ◌∙◌, subst, arith, eq-eqb, ne_eqb}
 use mathlib.Core.Logic.{dite}
 use native.Mathlib.Decide.{ℕ_discrete}
-use Rattle.std.specs.List.{AllByRecursion, flat_map, range_with_len}
-use Rattle.std.proofs.lemmas.List.Sums.{sum_by-cons}
+use Rattle.std.specs.List.{All, AllByRecursion, AllZip, flat_map, range_with_len}
+use Rattle.std.proofs.lemmas.List.{length-map, map-append, get_or-map}
+use Rattle.std.proofs.lemmas.List.Elements.{All-from_recursion}
+use Rattle.std.proofs.lemmas.List.FromFn.{length-map-range_with_len, get_or-map-range_with_len}
+use Rattle.std.proofs.lemmas.List.Sums.{sum_by-cons, sum_by-append}
+use Rattle.std.proofs.lemmas.Option.{slice_get_within, get_or_from_slice_get}
+use Rattle.bng_base.specs.declared.book.Book.{Book}
 use Rattle.bng_base.specs.declared.fate.Fate.{Fate}
 use Rattle.bng_base.specs.declared.item.Entry.{Entry}
+use Rattle.bng_base.specs.declared.item.Item.{Item}
+use Rattle.bng_base.specs.declared.item.Loose.{Loose}
 use Rattle.bng_engine.specs.Quantities.{Quantity, Octets, Packets, in_book}
-use Rattle.bng_engine.specs.Showing.{with_journal}
+use Rattle.bng_engine.specs.Showing.{Shows, with_journal}
 use Rattle.bng_engine.specs.Sums.{charge_if, is_directed, passed_sum}
+use Rattle.bng_pool.specs.Seats.{PoolView}
 use Rattle.bng_round.specs.declared.mark.Mark.{Mark}
-use Rattle.bng_round.specs.Booking.{IsBeside, mark_of, of_seat, passed_in, without_claim}
-use Rattle.bng_round.specs.Closing.{Ends, EndFrom}
-use Rattle.bng_round.specs.Dealing.{all_loose, loose_in}
-use Rattle.bng_round.specs.Rounds.{RoundView, WorkerView, list_of}
+use Rattle.bng_round.specs.Booking.{Follows, IsBeside, mark_of, of_seat, passed_in, without_claim}
+use Rattle.bng_round.specs.Closing.{AreAllDone, Ends, EndFrom}
+use Rattle.bng_round.specs.Dealing.{StandsWithin, all_loose, entries_in, loose_in}
+use Rattle.bng_round.specs.Entering.{entries_in_marks}
+use Rattle.bng_round.specs.Rounds.{RoundView, WorkerView, IsOpen, list_of, lists_in}
 use Rattle.bng_round.specs.Views.{PlacedView, Sight}
-use Rattle.bng_round.specs.Was.{fated, of_worker, passed_for}
-use Rattle.bng_round.specs.Working.{HasWorked, marks_passed}
+use Rattle.bng_round.specs.Was.{AreParts, IsPart, fated, of_worker, passed_for}
+use Rattle.bng_round.specs.Working.{AreSeats, HasWorked, marks_passed, seats_passed}
+use Rattle.bng_round.proofs.Ended.{list_from}
+use Rattle.bng_round.proofs.Following.{follows_seat, runs_journal, runs_within, set_within}
+use Rattle.bng_round.proofs.Places.{some_at, same_some, sum_same}
 use Rattle.bng_steps.specs.declared.whose.Whose.{Whose}
-use Rattle.bng_steps.specs.Protocol.{Handled}
+use Rattle.bng_steps.specs.Protocol.{Handled, pppoe}
 use Rattle.bng_turn.specs.Marks.{marks_of}
-use Rattle.bng_turn.specs.Views.{TurnView}
+use Rattle.bng_turn.specs.Views.{TurnView, SeatView}
 
 -- Whose the items were ---------------------------------------------------------------------------------------------------------
 
@@ -220,8 +232,8 @@ all_passed q input n (h ∷ hs) all =
 
 -- the tallies of the workers, from a number on
 pub tallies_from : (q : Quantity) (input : Bool) (passed : ℕ → ℕ) (from : ℕ) (vs ws : List WorkerView) → length vs ≡ length ws
-    → ((k : ℕ) (v w : WorkerView) → slice_get vs k ≡ Some v → slice_get ws k ≡ Some w → in_book q input w.tally ≡ in_book q input v.tally + passed (from + k))
-    → sum_by (λ (v : WorkerView). in_book q input v.tally) ws ≡ sum_by (λ (v : WorkerView). in_book q input v.tally) vs + sum_by passed (range_with_len from (length ws))
+    → ((k : ℕ) (v w : WorkerView) → slice_get vs k ≡ Some v → slice_get ws k ≡ Some w → in_book q input w.tally.passed ≡ in_book q input v.tally.passed + passed (from + k))
+    → sum_by (λ (v : WorkerView). in_book q input v.tally.passed) ws ≡ sum_by (λ (v : WorkerView). in_book q input v.tally.passed) vs + sum_by passed (range_with_len from (length ws))
 tallies_from q input passed from [] [] long each = refl
 tallies_from q input passed from [] (w ∷ ws) long each = absurd (omega (arith, long))
 tallies_from q input passed from (v ∷ vs) [] long each = absurd (omega (arith, long))
@@ -232,8 +244,8 @@ tallies_from q input passed from (v ∷ vs) (w ∷ ws) long each =
       each 0 v w refl refl,
       ap passed at,
       tallies_from q input passed (from + 1) vs ws (omega (arith, long)) (λ k a b e f. let n : from + suc k ≡ from + 1 + k = omega arith in omega (arith, each (suc k) a b e f, ap passed n)),
-      sum_by-cons (λ (x : WorkerView). in_book q input x.tally) v vs,
-      sum_by-cons (λ (x : WorkerView). in_book q input x.tally) w ws,
+      sum_by-cons (λ (x : WorkerView). in_book q input x.tally.passed) v vs,
+      sum_by-cons (λ (x : WorkerView). in_book q input x.tally.passed) w ws,
       sum_by-cons passed from (range_with_len (from + 1) (length ws)),
     )
 

@@ -2,6 +2,7 @@ pub mod Views
 pub mod Ticks
 pub mod Asking
 pub mod Booking
+pub mod Tallies
 pub mod Telling
 pub mod Looking
 pub mod Entering

@@ -2,10 +2,8 @@
 use Rattle.std.specs.Prelude.{◌≡◌, ℕ, ◌+◌, ◌^◌, ◌<◌, ◌≤◌, ◌==◌, List, [], ◌∷◌, ◌++◌, Option, Some, Vec, length, map, count_by, slice_get, slice_index_or, vec_capacity}
 use Rattle.std.specs.Global.{Global}
 use Rattle.std.specs.List.{All, AllZip}
-use Rattle.bng_base.specs.declared.book.Book.{Book}
 use Rattle.bng_base.specs.declared.item.Item.{Item}
 use Rattle.bng_engine.specs.Calls.{Kept, IsReady as IsShardReady}
-use Rattle.bng_engine.specs.Quantities.{empty_book}
 use Rattle.bng_engine.specs.Terms.{keys}
 use Rattle.bng_engine.specs.Views.{row_keys}
 use Rattle.bng_pool.specs.Ranges.{HasAddress}
@@ -13,10 +11,12 @@ use Rattle.bng_pool.specs.Seats.{PoolView, SeatView as Hold, Holds}
 use Rattle.bng_round.specs.declared.mark.Mark.{Mark}
 use Rattle.bng_round.specs.declared.opening.Memory.{Memory}
 use Rattle.bng_round.specs.declared.opening.Room.{Room}
+use Rattle.bng_round.specs.declared.tally.Tally.{Tally}
 use Rattle.bng_round.specs.Asking.{AreHeldBy, HasPools}
 use Rattle.bng_round.specs.Booking.{IsSet}
 use Rattle.bng_round.specs.Looking.{IsGround, IsLooker}
 use Rattle.bng_round.specs.Rounds.{RoundView, WorkerView, IsOpen, is_tick_of, is_end_of}
+use Rattle.bng_round.specs.Tallies.{IsFew, empty_tally}
 use Rattle.bng_round.specs.Telling.{EachGoes, IsAt}
 use Rattle.bng_round.specs.Views.{PlacedView}
 use Rattle.bng_round.specs.Working.{IsFresh}
@@ -42,7 +42,7 @@ pub record CanSeat (p : PoolView) (phase : ℕ) (r : Rules) (s allowance : ℕ) 
 
 -- What a round may be opened for: all shards of the rules, in the order of their numbers, and an allowance for each; workers, each with a
 -- tally; at most 1,024 items, each beside its worker, with all of its frame's headroom, and at most one Tick and one End for a shard.
-pub record CanOpen (p : PoolView) (r : Rules) (shards : List PlacedView) (lookers : List Hold) (tallies : List Book) (items : List Item) (seats : List ℕ) (now : ℕ) (allowances : List ℕ) : Type 0 where
+pub record CanOpen (p : PoolView) (r : Rules) (shards : List PlacedView) (lookers : List Hold) (tallies : List Tally) (items : List Item) (seats : List ℕ) (now : ℕ) (allowances : List ℕ) : Type 0 where
   pub phase : ℕ
   pub some : 1 ≤ r.shards
   pub shards_count : (length shards ≡ r.shards) × (p.shards ≡ r.shards)
@@ -52,7 +52,7 @@ pub record CanOpen (p : PoolView) (r : Rules) (shards : List PlacedView) (looker
   pub workers : (1 ≤ length lookers) × (length lookers ≤ 16)
   pub lookers_at : (k : ℕ) (q : Hold) → slice_get lookers k ≡ Some q → IsAt p phase q
   pub tallies_count : length tallies ≡ length lookers
-  pub tallies_low : (k : ℕ) (b : Book) → slice_get tallies k ≡ Some b → IsLow (2 ^ 62) b
+  pub tallies_low : (k : ℕ) (t : Tally) → slice_get tallies k ≡ Some t → IsLow (2 ^ 62) t.passed × IsFew (2 ^ 62) t.drops
   pub beside : AllZip (IsSeat (length lookers)) items seats
   pub within : All (λ k. k < length lookers) seats
   pub ticks : (s : ℕ) → count_by (is_tick_of s) items ≤ 1
@@ -62,7 +62,7 @@ pub record CanOpen (p : PoolView) (r : Rules) (shards : List PlacedView) (looker
   pub early : now < 2 ^ 60
 
 -- a worker that has handled nothing, and knows what all shards hold
-pub record IsNew (p : PoolView) (round : RoundView) (k : ℕ) (tally : Book) (v : WorkerView) : Type 0 where
+pub record IsNew (p : PoolView) (round : RoundView) (k : ℕ) (tally : Tally) (v : WorkerView) : Type 0 where
   pub fresh : IsFresh round v
   pub number : v.number ≡ k
   pub looker : IsLooker round.turns p v.looker
@@ -77,7 +77,7 @@ pub record IsOpening (items allowance : ℕ) (g : PlacedView) (t : TurnView Plac
   pub few : sessions_of t.opening.shard.state ≤ 1022
 
 -- The round that was opened, and its workers: each turn's opening is its shard, made ready, and no worker has handled anything.
-pub record Opens (p : PoolView) (r : Rules) (shards : List PlacedView) (lookers : List Hold) (tallies : List Book) (items : List Item) (seats : List ℕ) (now : ℕ) (allowances : List ℕ) (round : RoundView) (workers : List WorkerView) : Type 0 where
+pub record Opens (p : PoolView) (r : Rules) (shards : List PlacedView) (lookers : List Hold) (tallies : List Tally) (items : List Item) (seats : List ℕ) (now : ℕ) (allowances : List ℕ) (round : RoundView) (workers : List WorkerView) : Type 0 where
   pub rules : round.rules ≡ r
   pub moment : round.moment ≡ now
   pub items_are : (round.items ≡ items) × (round.seats ≡ seats)
@@ -86,7 +86,7 @@ pub record Opens (p : PoolView) (r : Rules) (shards : List PlacedView) (lookers 
   pub openings : (s : ℕ) (g : PlacedView) (t : TurnView PlacedView) → slice_get shards s ≡ Some g → slice_get round.turns s ≡ Some t → IsOpening (length items) (slice_index_or allowances s 0) g t
   pub ground : IsGround round.turns p
   pub workers_count : length workers ≡ length lookers
-  pub fresh : (k : ℕ) (v : WorkerView) → slice_get workers k ≡ Some v → IsNew p round k (slice_index_or tallies k empty_book) v
+  pub fresh : (k : ℕ) (v : WorkerView) → slice_get workers k ≡ Some v → IsNew p round k (slice_index_or tallies k empty_tally) v
 
 -- a shard that was handed back: as it was, what is kept of a round aside
 pub record IsBack (g now : PlacedView) : Type 0 where
@@ -193,14 +193,14 @@ IsEmptyRow n r = (r.items ≡ []) × (n ≤ vec_capacity r)
 
 module _ {S : Type 0} where
   -- a worker with this number, this seat at the words, its seats at the turns, room for loose items and a tally
-  abbrev pub worker_in : ℕ → Hold → Room S → Book → WorkerView
+  abbrev pub worker_in : ℕ → Hold → Room S → Tally → WorkerView
   worker_in k q x tally = record { number = k; turns = x.turns.items; looker = q; loose = x.loose.items; room = vec_capacity x.loose; tally = tally }
 
   -- the workers of a round, from this number on
-  abbrev pub seated : List Book → ℕ → List Hold → List (Room S) → List WorkerView
+  abbrev pub seated : List Tally → ℕ → List Hold → List (Room S) → List WorkerView
   seated tallies k [] rooms = []
   seated tallies k (q ∷ qs) [] = []
-  seated tallies k (q ∷ qs) (x ∷ xs) = worker_in k q x (slice_index_or tallies k empty_book) ∷ seated tallies (k + 1) qs xs
+  seated tallies k (q ∷ qs) (x ∷ xs) = worker_in k q x (slice_index_or tallies k empty_tally) ∷ seated tallies (k + 1) qs xs
 
   -- the memory of a round with these lengths of the lists, so many shards and so many items
   pub record IsMemory (lengths : List ℕ) (shards items : ℕ) (m : Memory S) : Type 0 where

@@ -1,11 +1,11 @@
 -- What clauses see of a round and of its workers.
 use Rattle.std.specs.Prelude.{◌≡◌, ℕ, ◌^◌, ◌<◌, ◌≤◌, ◌==◌, ◌&&◌, Bool, List, [], ◌∷◌, Some, map, length, count_by, slice_get, if◌then◌else◌}
 use Rattle.std.specs.List.{All, AllZip, range_with_len}
-use Rattle.bng_base.specs.declared.book.Book.{Book}
 use Rattle.bng_base.specs.declared.item.Item.{Item}
 use Rattle.bng_base.specs.declared.item.Loose.{Loose}
 use Rattle.bng_pool.specs.Seats.{SeatView as Hold}
 use Rattle.bng_round.specs.declared.mark.Mark.{Mark}
+use Rattle.bng_round.specs.declared.tally.Tally.{Tally}
 use Rattle.bng_round.specs.Booking.{IsSet}
 use Rattle.bng_round.specs.Ticks.{is_tick, is_end}
 use Rattle.bng_round.specs.Views.{PlacedView}
@@ -74,7 +74,7 @@ pub record WorkerView : Type 0 where
   pub looker : Hold
   pub loose : List Loose
   pub room : ℕ
-  pub tally : Book
+  pub tally : Tally
 
 abbrev pub round_of : List (TurnView PlacedView) → Rules → ℕ → List Item → List ℕ → ℕ → RoundView
 round_of turns rules moment items seats workers = record { turns = turns; rules = rules; moment = moment; items = items; seats = seats; workers = workers }

@@ -1,9 +1,11 @@
 -- What a closed round was.
 use Rattle.std.specs.Prelude.{◌≡◌, ℕ, ◌+◌, ◌<◌, ◌≤◌, ◌==◌, Bool, List, [], ◌∷◌, Some, count_by, filter, length, map, slice_get, slice_index_or, sum_by}
 use Rattle.std.specs.List.{All, AllByRecursion, AllZip, flat_map}
+use Rattle.bng_base.specs.declared.fate.DropCause.{DropCause}
 use Rattle.bng_base.specs.declared.fate.Fate.{Fate}
 use Rattle.bng_base.specs.declared.item.Entry.{Entry}
 use Rattle.bng_base.specs.declared.item.Item.{Item}
+use Rattle.bng_base.specs.declared.item.Loose.{Loose}
 use Rattle.bng_engine.specs.Calls.{InTurn}
 use Rattle.bng_engine.specs.Quantities.{Quantity, in_book}
 use Rattle.bng_engine.specs.Rounds.{ShardRound}
@@ -11,11 +13,11 @@ use Rattle.bng_engine.specs.Showing.{Shows, with_journal}
 use Rattle.bng_engine.specs.Sums.{charge_if, is_directed, passed_sum}
 use Rattle.bng_pool.specs.OneHand.{table_of}
 use Rattle.bng_pool.specs.Tables.{Table, entry}
-use Rattle.bng_round.specs.declared.mark.Mark.{Mark}
 use Rattle.bng_round.specs.Asking.{AreHeldBy, Goes}
 use Rattle.bng_round.specs.Booking.{without_claim, of_seat}
 use Rattle.bng_round.specs.Dealing.{StandsWithin, all_loose, entries_in}
 use Rattle.bng_round.specs.Rounds.{RoundView, WorkerView, lists_in}
+use Rattle.bng_round.specs.Tallies.{is_dropped, of_cause}
 use Rattle.bng_round.specs.Views.{PlacedView, Sight}
 use Rattle.bng_steps.specs.declared.rules.Rules.{Rules}
 use Rattle.bng_steps.specs.declared.whose.Whose.{Whose}
@@ -23,7 +25,7 @@ use Rattle.bng_steps.specs.Hearing.{outs_most}
 use Rattle.bng_steps.specs.Protocol.{Handled, packet_octets, pppoe, terms_of}
 use Rattle.bng_steps.specs.Rounds.{IsRound, Standing}
 use Rattle.bng_steps.specs.Whose.{IsWhose}
-use Rattle.bng_turn.specs.Views.{TurnView, SeatView}
+use Rattle.bng_turn.specs.Views.{TurnView}
 
 -- who held which address when the round opened, and in the end
 abbrev pub opening_table : RoundView → Table
@@ -66,10 +68,6 @@ passed_for q input hs = sum_by (λ (h : Handled). passed_sum (charge_if q (is_di
 abbrev pub fated : (Fate → Bool) → List Handled → ℕ
 fated test hs = count_by (λ (h : Handled). test h.deed.fate) hs
 
--- what a worker's seats at the turns tell of the fates
-abbrev pub told_fates : (Fate → Bool) → List (SeatView PlacedView Mark) → ℕ
-told_fates test seats = sum_by (λ (s : SeatView PlacedView Mark). count_by (λ (m : Mark). test m.done.fate) s.own) seats
-
 -- how the shards stood when a round opened, and once all entries were handled
 abbrev pub standing_before : RoundView → Standing
 standing_before round = record { states = map (λ (t : TurnView PlacedView). t.opening.shard.state) round.turns; holder = entry (opening_table round) }
@@ -99,7 +97,7 @@ abbrev pub IsLight : Handled → Type 0
 IsLight h = (packet_octets h.deed.outs ≤ 4160) × (length h.deed.outs ≤ outs_most h.deed.entry.item.kind)
 
 -- Whose each item of each worker's list was, and what each entry of each shard did. Each item was handled in the shard that it was for, or is
--- loose. What a worker's tally rose by is what passed for the entries of its list, and the fates that it was told are theirs. It is a round as
+-- loose. What a worker's tally rose by is what passed for the entries of its list, and their drops by cause. It is a round as
 -- a trace holds it.
 pub record WasRound (round : RoundView) (before workers : List WorkerView) (shards : List PlacedView) : Type 0 where
   pub whose : List (List Whose)
@@ -113,7 +111,8 @@ pub record WasRound (round : RoundView) (before workers : List WorkerView) (shar
   pub parts : AreParts (lists_in round) whose 0 round.moment seen
   pub loose_are : flat_map (λ (v : WorkerView). v.loose) workers ≡ all_loose 0 (lists_in round) whose
   pub tallies : (k : ℕ) (v v' : WorkerView) (q : Quantity) (input : Bool) → slice_get before k ≡ Some v → slice_get workers k ≡ Some v'
-      → in_book q input v'.tally ≡ in_book q input v.tally + sum_by (λ (w : Sight). passed_for q input (of_worker k w.journal)) seen
-  pub total : (q : Quantity) (input : Bool) → sum_by (λ (v : WorkerView). in_book q input v.tally) workers ≡ sum_by (λ (v : WorkerView). in_book q input v.tally) before + sum_by (λ (w : Sight). passed_for q input w.journal) seen
-  pub drops : (k : ℕ) (v' : WorkerView) (test : Fate → Bool) → slice_get workers k ≡ Some v' → told_fates test v'.turns ≡ sum_by (λ (w : Sight). fated test (of_worker k w.journal)) seen
+      → in_book q input v'.tally.passed ≡ in_book q input v.tally.passed + sum_by (λ (w : Sight). passed_for q input (of_worker k w.journal)) seen
+  pub total : (q : Quantity) (input : Bool) → sum_by (λ (v : WorkerView). in_book q input v.tally.passed) workers ≡ sum_by (λ (v : WorkerView). in_book q input v.tally.passed) before + sum_by (λ (w : Sight). passed_for q input w.journal) seen
+  pub drops : (k : ℕ) (v v' : WorkerView) (cause : DropCause) → slice_get before k ≡ Some v → slice_get workers k ≡ Some v'
+      → of_cause cause v'.tally.drops ≡ of_cause cause v.tally.drops + sum_by (λ (w : Sight). fated (is_dropped cause) (of_worker k w.journal)) seen
   pub is_round : IsRound round.rules (standing_before round) round.moment (lists_in round) (rounds_in seen) (all_loose 0 (lists_in round) whose) (standing_after shards)

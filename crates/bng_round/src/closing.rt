@@ -10,17 +10,18 @@ ghost use Rattle.bng_round.specs.Working.{AreSeats};
 use crate::placed::Placed;
 use crate::round::{Floor, Round, Worker};
 use crate::seated::Seated;
+use crate::tally::Tally;
 use crate::telling::agree_in;
-use bng_base::{Batch, Book, Item, Loose};
+use bng_base::{Batch, Item, Loose};
 use bng_pool::{Pool, PoolSeat};
 use bng_turn::{Turn, TurnSeat};
 
-/// What a round answers: the shards in the order of their numbers; the workers' seats at the words, what each worker passed, and the items
+/// What a round answers: the shards in the order of their numbers; the workers' seats at the words, what each worker passed and dropped, and the items
 /// that stand in no shard, of the first worker first; and the items, each beside the number of its worker.
 pub struct Closed<S: Seated> {
     pub shards: Vec<Placed<S>>,
     pub lookers: Vec<PoolSeat>,
-    pub tallies: Vec<Book>,
+    pub tallies: Vec<Tally>,
     pub loose: Vec<Loose>,
     pub items: Batch<Item>,
     pub seats: Vec<u16>,
@@ -104,7 +105,7 @@ fn part<S: Seated>(
     workers: Vec<Worker<S>>,
     lookers: &mut Vec<PoolSeat>,
     loose: &mut Vec<Loose>,
-    tallies: &mut Vec<Book>,
+    tallies: &mut Vec<Tally>,
 )
     requires lookers { (lookers.old.items ≡ []) × (length workers.items ≤ vec_capacity lookers.old) }
     requires loose { (loose.old.items ≡ []) × (sum (map (λ v. length v.loose) workers.items) ≤ vec_capacity loose.old) }

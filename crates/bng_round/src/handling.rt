@@ -8,7 +8,8 @@ ghost use Rattle.bng_round.specs.Entering.{IsDue, Books};
 ghost use Rattle.bng_round.specs.Looking.{IsGround, IsLooker};
 ghost use Rattle.bng_round.specs.Rounds.{IsOpen, list_of, round_of};
 ghost use Rattle.bng_round.specs.Ticks.{is_for_shard};
-ghost use Rattle.bng_round.specs.Working.{Adds, AreNew, AreSeats, HandlesOne, Worked};
+ghost use Rattle.bng_round.specs.Tallies.{IsFew};
+ghost use Rattle.bng_round.specs.Working.{AreNew, AreSeats, HandlesOne, Worked};
 ghost use Rattle.bng_steps.specs.Protocol.{entry_of};
 ghost use Rattle.bng_steps.specs.Sums.{IsLow};
 
@@ -16,7 +17,8 @@ use crate::finding::whose_is;
 use crate::mark::Done;
 use crate::placed::Placed;
 use crate::seated::Seated;
-use bng_base::{At, Book, Item, Loose};
+use crate::tally::{Tally, enter};
+use bng_base::{At, Item, Loose};
 use bng_pool::{Pool, PoolSeat};
 use bng_steps::{Rules, Whose};
 use bng_turn::{Turn, TurnSeat};
@@ -51,18 +53,6 @@ pub(crate) fn handle<R: Wait, G: Gate, S: Seated>(
     done
 }
 
-// Adds what passed for an entry.
-fn add(book: &mut Book, more: &Book)
-    requires low { IsLow (2 ^ 63) book.old }
-    requires light { IsLow 4160 more.now }
-    ensures { Adds book.old more.now book.new }
-{
-    book.input += more.input;
-    book.output += more.output;
-    book.input_packets += more.input_packets;
-    book.output_packets += more.output_packets;
-}
-
 // Handles an item that stands at this place of the list of this seat: it is loose, or goes to the shard that it stands in.
 fn handle_one<R: Wait, G: Gate, S: Seated>(
     rt: &R,
@@ -77,7 +67,7 @@ fn handle_one<R: Wait, G: Gate, S: Seated>(
     looker: &mut PoolSeat,
     seats: &mut Vec<TurnSeat<Placed<S>>>,
     loose: &mut Vec<Loose>,
-    tally: &mut Book,
+    tally: &mut Tally,
 )
     requires some { 1 ≤ rules.now.shards }
     requires shards { length turns.now ≡ rules.now.shards }
@@ -89,7 +79,8 @@ fn handle_one<R: Wait, G: Gate, S: Seated>(
     requires due { (s : ℕ) (t : _) (q : _) → slice_get turns.now s ≡ Some t → slice_get seats.old.items s ≡ Some q
         → (is_for_shard item.now.kind ≡ true → item.now.target ≡ s) → IsDue t.opening q (entry_of number place now item.now) }
     requires room { length loose.old.items < vec_capacity loose.old }
-    requires low { IsLow (2 ^ 63) tally.old }
+    requires low { IsLow (2 ^ 63) tally.old.passed }
+    requires few { IsFew (2 ^ 63) tally.old.drops }
     ensures handled { HandlesOne rules.now looker.old looker.new seats.old.items seats.new.items loose.old.items loose.new.items (entry_of number place now item.now) tally.old tally.new }
     ensures capacity { vec_capacity loose.new ≡ vec_capacity loose.old }
 {
@@ -110,7 +101,7 @@ fn handle_one<R: Wait, G: Gate, S: Seated>(
                 place,
             };
             let done = handle(rt, gate, turn, pool, seat, at, now, item);
-            add(tally, &done.passed);
+            enter(tally, done);
         }
     }
 }
@@ -130,7 +121,7 @@ pub(crate) fn handle_all<R: Wait, G: Gate, S: Seated>(
     looker: &mut PoolSeat,
     seats: &mut Vec<TurnSeat<Placed<S>>>,
     loose: &mut Vec<Loose>,
-    tally: &mut Book,
+    tally: &mut Tally,
 )
     requires round { IsOpen (round_of turns.now rules.now now items.now numbers.now _workers) }
     requires ground { IsGround turns.now pool.now }
@@ -138,7 +129,8 @@ pub(crate) fn handle_all<R: Wait, G: Gate, S: Seated>(
     requires number { number < _workers }
     requires seats { AreSeats turns.now number seats.old.items × AreNew seats.old.items }
     requires loose { (loose.old.items ≡ []) × (length (list_of number numbers.now items.now) ≤ vec_capacity loose.old) }
-    requires low { IsLow (2 ^ 62) tally.old }
+    requires low { IsLow (2 ^ 62) tally.old.passed }
+    requires few { IsFew (2 ^ 62) tally.old.drops }
     ensures seats { AreSeats turns.now number seats.new.items }
     ensures looker { IsLooker turns.now pool.now looker.new }
     ensures worked { Worked (round_of turns.now rules.now now items.now numbers.now _workers) number (list_of number numbers.now items.now) seats.new.items looker.new loose.new.items tally.old tally.new }

@@ -15,6 +15,7 @@ mod opening;
 mod placed;
 mod round;
 mod seated;
+mod tally;
 mod telling;
 
 pub use closing::Closed;
@@ -25,4 +26,5 @@ pub use opening::HandedBack;
 pub use placed::Placed;
 pub use round::{Floor, Round, Worker};
 pub use seated::Seated;
+pub use tally::{CAUSES, Tally};
 pub use telling::{agree, agree_in, brief, brief_in, debrief};

@@ -5,14 +5,15 @@ ghost use Rattle.std.specs.List.{range_with_len};
 ghost use Rattle.bng_round.specs.Opening.{AllTake, AreBack, AreOpened, CanOpen, EachBack, EachMade, HasSeats, IsEmptyRow, IsMemory, IsNew, IsRoom, MayOpen, Opens, counts_of, openings, seated};
 ghost use Rattle.bng_round.specs.Looking.{IsGround, IsLooker};
 ghost use Rattle.bng_round.specs.Rounds.{IsOpen, lists_of, round_of};
-ghost use Rattle.bng_engine.specs.Quantities.{empty_book};
+ghost use Rattle.bng_round.specs.Tallies.{empty_tally};
 ghost use Rattle.bng_base.specs.declared.item.Item.{Item as ItemSeen};
 
 use crate::placed::Placed;
 use crate::round::{Floor, Round, Worker};
 use crate::seated::Seated;
+use crate::tally::Tally;
 use crate::telling::brief_in;
-use bng_base::{Batch, Book, Item, Loose};
+use bng_base::{Batch, Item, Loose};
 use bng_pool::{Pool, PoolSeat};
 use bng_steps::Rules;
 use bng_turn::{Turn, TurnSeat};
@@ -23,7 +24,7 @@ use std::snapshot::Snapshot;
 pub struct HandedBack<S: Seated> {
     pub shards: Vec<Placed<S>>,
     pub lookers: Vec<PoolSeat>,
-    pub tallies: Vec<Book>,
+    pub tallies: Vec<Tally>,
     pub items: Batch<Item>,
     pub seats: Vec<u16>,
 }
@@ -218,7 +219,7 @@ fn deal_all<S: Seated>(rows: &mut Vec<Vec<TurnSeat<Placed<S>>>>, rooms: &mut Vec
 // Puts the workers together.
 fn seat_all<S: Seated>(
     lookers: Vec<PoolSeat>,
-    tallies: &[Book],
+    tallies: &[Tally],
     rooms: Vec<Room<S>>,
     workers: Vec<Worker<S>>,
 ) -> Vec<Worker<S>>
@@ -252,7 +253,7 @@ pub(crate) struct Memory<S: Seated> {
     workers: Vec<Worker<S>>,
     lookers: Vec<PoolSeat>,
     loose: Vec<Loose>,
-    tallies: Vec<Book>,
+    tallies: Vec<Tally>,
 }
 
 // The memory of a round of so many workers and shards.
@@ -289,7 +290,7 @@ fn put_together<S: Seated>(
     _pool: &Pool,
     rules: &Rules,
     lookers: Vec<PoolSeat>,
-    own: Vec<Book>,
+    own: Vec<Tally>,
     items: Batch<Item>,
     seats: Vec<u16>,
     now: u64,
@@ -303,7 +304,7 @@ fn put_together<S: Seated>(
     requires lookers { (k : ℕ) (q : _) → slice_get lookers.items k ≡ Some q → IsLooker opened.turns.items _pool.now q }
     ensures round { result.0 ≡ round_of opened.turns.items rules.now now items.items seats.items workers }
     ensures count { length result.1.items ≡ length lookers.items }
-    ensures fresh { (k : ℕ) (v : _) → slice_get result.1.items k ≡ Some v → IsNew _pool.now result.0 k (slice_index_or own.items k empty_book) v }
+    ensures fresh { (k : ℕ) (v : _) → slice_get result.1.items k ≡ Some v → IsNew _pool.now result.0 k (slice_index_or own.items k empty_tally) v }
 {
     let Opened {
         turns,
@@ -349,7 +350,7 @@ impl<S: Seated> Round<S> {
         rules: &Rules,
         shards: Vec<Placed<S>>,
         lookers: Vec<PoolSeat>,
-        tallies: Vec<Book>,
+        tallies: Vec<Tally>,
         items: Batch<Item>,
         seats: Vec<u16>,
         now: u64,

@@ -1,13 +1,15 @@
 //! A round, and its workers.
 ghost use Rattle.std.specs.Prelude.{◌≡◌, ◌≤◌, ◌^◌, ◌+◌, length};
 ghost use Rattle.bng_round.specs.Looking.{IsGround, IsLooker};
+ghost use Rattle.bng_round.specs.Tallies.{IsFew};
 ghost use Rattle.bng_round.specs.Working.{IsFresh, HasWorked};
 ghost use Rattle.bng_steps.specs.Sums.{IsLow};
 
 use crate::handling::{Gate, handle_all};
 use crate::placed::Placed;
 use crate::seated::Seated;
-use bng_base::{Batch, Book, Item, Loose};
+use crate::tally::Tally;
+use bng_base::{Batch, Item, Loose};
 use bng_pool::{Pool, PoolSeat};
 use bng_steps::Rules;
 use bng_turn::{Turn, TurnSeat};
@@ -51,7 +53,7 @@ pub struct Round<S: Seated> {
     pub(crate) shards: Vec<Placed<S>>,
     pub(crate) lookers: Vec<PoolSeat>,
     pub(crate) loose: Vec<Loose>,
-    pub(crate) tallies: Vec<Book>,
+    pub(crate) tallies: Vec<Tally>,
 }
 
 impl<S: Seated> Model for Round<S> {
@@ -78,7 +80,7 @@ pub struct Worker<S: Seated> {
     pub(crate) turns: Vec<TurnSeat<Placed<S>>>,
     pub(crate) looker: PoolSeat,
     pub(crate) loose: Vec<Loose>,
-    pub(crate) tally: Book,
+    pub(crate) tally: Tally,
 }
 
 impl<S: Seated> Model for Worker<S> {
@@ -118,7 +120,8 @@ impl<S: Seated> Floor<S> {
         requires fresh { IsFresh self.now worker.old }
         requires ground { IsGround self.now.turns pool.now }
         requires looker { IsLooker self.now.turns pool.now worker.old.looker }
-        requires low { IsLow (2 ^ 62) worker.old.tally }
+        requires low { IsLow (2 ^ 62) worker.old.tally.passed }
+        requires few { IsFew (2 ^ 62) worker.old.tally.drops }
         ensures done { HasWorked self.now worker.old worker.new }
         ensures looker { IsLooker self.now.turns pool.now worker.new.looker }
     {

@@ -1,4 +1,4 @@
-use Rattle.std.proofs.Common.{rules, ◌≡◌, ◌<◌, ◌+◌, ◌^◌, ◌++◌, ◌∷◌, [], ℕ, List, length, length-append, take, get_or, refl, sym, ap, ◌∙◌, subst, arith}
+use Rattle.std.proofs.Common.{rules, ◌≡◌, ◌<◌, ◌≤◌, ◌+◌, ◌*◌, ◌^◌, ◌==◌, ◌++◌, ◌∷◌, [], ℕ, List, Some, cond, length, length-append, take, get_or, refl, sym, ap, ◌∙◌, subst, arith, eq-eqb, ne_eqb}
 use Rattle.std.proofs.lemmas.List.{take_all}
 use Rattle.std.proofs.lemmas.Bool.Decides.{nat_tests}
 use Rattle.bng_base.specs.declared.item.Entry.{Entry}
@@ -86,6 +86,13 @@ handle_one-requires-clause-low g c =
     λ q input.
     let light = inv.worked.light q input in let first = c.requires.low q input in
     omega (arith, light, first, list_below k c.args.numbers.now c.args.items.now n, list_short k c.args.numbers.now c.args.items.now, c.requires.round.few)
+
+pub handle_one-requires-clause-few : goal.handle_one-requires-clause-few
+handle_one-requires-clause-few g c =
+    let inv = c.loop-index.invariant in let n : ℕ = c.loop-index.index in let k : ℕ = c.args.number in
+    λ cause.
+    let few = inv.worked.few cause in let first = c.requires.few cause in
+    omega (arith, few, first, list_below k c.args.numbers.now c.args.items.now n, list_short k c.args.numbers.now c.args.items.now, c.requires.round.few)
 
 pub overflow_add-place : goal.overflow_add-place
 overflow_add-place g c =

@@ -1,5 +1,6 @@
-use Rattle.std.proofs.Common.{◌<◌, ℕ, length, refl, sym, subst, arith}
+use Rattle.std.proofs.Common.{◌<◌, ◌≡◌, ℕ, length, slice_get, Some, refl, sym, ap, ◌∙◌, subst, arith}
 use Rattle.std.proofs.lemmas.Option.{slice_get_read}
+use Rattle.bng_steps.specs.declared.whose.Whose.{Whose}
 use Rattle.bng_steps.specs.declared.whose.Whose.TheVariants.{Stands}
 use Rattle.bng_round.specs.Looking.{Finds}
 use Rattle.bng_round.proofs.Standings.{target_of}
@@ -33,4 +34,4 @@ returns-in-Stands-clause-handled g c =
     let finds : Finds c.args.rules.now c.args.item.now (Stands n) c.args.looker.now c.whose_is.new.looker = subst (λ (m : ℕ). Finds c.args.rules.now c.args.item.now (Stands m) c.args.looker.now c.whose_is.new.looker) (sym c.from-index.ensures) c.in-Stands.ensures.finds in
     let low : n < c.args.rules.now.shards = subst (λ (m : ℕ). m < c.args.rules.now.shards) (sym c.from-index.ensures) (c.in-Stands.ensures.inside _ refl) in
     let at = slice_get_read c.args.seats.now.items (length c.args.seats.now.items) n c.index_mut-seat.result.now refl (omega (arith, low, c.requires.shards, c.requires.seats.count)) c.index_mut-seat.ensures.value in
-    record { whose = Stands n; finds = finds; inside = low; goes = (c.index_mut-seat.result.now, c.handle-done.new.seat, c.handle-done.result, at, refl, c.handle-done.ensures, c.add.ensures, refl) }
+    record { whose = Stands n; finds = finds; inside = low; goes = (c.index_mut-seat.result.now, c.handle-done.new.seat, c.handle-done.result, at, refl, c.handle-done.ensures, c.enter.ensures, refl) }

@@ -1,6 +1,7 @@
-use Rattle.std.proofs.Common.{◌≡◌, ℕ, List, length, map, slice_index_or, ap, ◌∙◌, subst, arith}
+use Rattle.std.proofs.Common.{rules, ◌≡◌, ◌≤◌, ◌<◌, ℕ, List, length, map, slice_get, slice_index_or, Some, sym, ap, ◌∙◌, subst, arith}
 use Rattle.std.specs.List.{range_with_len}
 use Rattle.std.proofs.lemmas.List.FromFn.{length-map-range_with_len}
+use Rattle.bng_round.specs.declared.opening.Room.{Room}
 use Rattle.bng_round.specs.Opening.{IsRoom, counts_of}
 use Rattle.bng_round.proofs.opening.memory_for.Goals as goal
 

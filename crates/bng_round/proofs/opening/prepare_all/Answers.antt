@@ -1,4 +1,4 @@
-use Rattle.std.proofs.Common.{rules, ◌≡◌, ◌<◌, ◌≤◌, ℕ, List, Some, length, length-set, set, slice_get, slice_index_or, refl, sym, ap, ◌∙◌, subst, arith}
+use Rattle.std.proofs.Common.{rules, ◌≡◌, ◌<◌, ◌≤◌, ◌+◌, ℕ, List, Some, length, length-set, set, slice_get, slice_index_or, refl, sym, ap, ◌∙◌, subst, arith}
 use mathlib.Core.Logic.{dite}
 use native.Mathlib.Decide.{ℕ_discrete, dec_le}
 use Rattle.std.proofs.lemmas.Option.{slice_get_read, slice_get_within}
@@ -78,7 +78,7 @@ back_at lists items now allowances shards0 shards n before after rest s v x e f 
     (λ low. back_made lists items (slice_index_or allowances s 0) now v x (before s v x (omega (arith, low)) e f))
 
 pub returns-clause-all : goal.returns-clause-all
-returns-clause-all g c all_ready s v made e f =
+returns-clause-all g c yes s v made e f =
     c.loop-s.invariant.before s v made (omega (arith, c.loop-s-test.false, c.len-s-end.ensures, c.args.shards.now.ok.0, slice_get_within c.args.shards.now.items s v e)) e f
 
 pub returns-clause-back : goal.returns-clause-back

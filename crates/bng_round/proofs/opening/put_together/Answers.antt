@@ -1,9 +1,10 @@
-use Rattle.std.proofs.Common.{◌≡◌, ℕ, List, map, length, slice_index_or, refl, sym, ap, ◌∙◌, subst, arith}
+use Rattle.std.proofs.Common.{◌≡◌, ◌≤◌, ℕ, List, map, length, slice_get, slice_index_or, refl, sym, ap, ◌∙◌, subst, arith}
 use Rattle.std.proofs.lemmas.List.{length-map}
 use Rattle.std.proofs.lemmas.List.FromFn.{length-map-range_with_len}
-use Rattle.bng_base.specs.declared.book.Book.{Book}
 use Rattle.bng_base.specs.declared.item.Item.{Item}
-use Rattle.bng_engine.specs.Quantities.{empty_book}
+use Rattle.bng_round.specs.declared.tally.Tally.{Tally}
+use Rattle.bng_round.specs.Tallies.{empty_tally}
+use Rattle.bng_round.specs.declared.opening.Room.{Room}
 use Rattle.bng_round.specs.Rounds.{RoundView, WorkerView, list_of, lists_of, round_of, IsOpen}
 use Rattle.bng_round.specs.Opening.{IsNew}
 use Rattle.bng_round.proofs.Places.{all_of}
@@ -62,4 +63,4 @@ returns-clause-fresh g c =
     λ k v e.
     let is = new_worker c.args._pool.now c.requires.opened.0 c.args.opened.turns.items c.args.opened.rows.items c.args.rules.now c.args.now c.args.items.items c.args.seats.items n c.as_slice.result.now
     c.args.lookers.items c.args.memory.rooms.items c.deal_all.new.rooms.items c.seat_all-made.result.items c.requires.opened.1 c.requires.workers.0 rooms c.deal_all.ensures.count m.rooms c.deal_all.ensures.dealt c.requires.lookers c.seat_all-made.ensures k v e in
-    subst (λ (z : List Book × RoundView). IsNew c.args._pool.now z.1 k (slice_index_or z.0 k empty_book) v) (λ i. (own i, sym (ap (λ r. round_of c.args.opened.turns.items r c.args.now c.args.items.items c.args.seats.items n) c.of.ensures) i)) is
+    subst (λ (z : List Tally × RoundView). IsNew c.args._pool.now z.1 k (slice_index_or z.0 k empty_tally) v) (λ i. (own i, sym (ap (λ r. round_of c.args.opened.turns.items r c.args.now c.args.items.items c.args.seats.items n) c.of.ensures) i)) is

@@ -1,10 +1,11 @@
-use Rattle.std.proofs.Common.{◌≡◌, ◌<◌, ◌+◌, ◌++◌, ◌∷◌, [], ℕ, suc, List, length, length-append, slice_index_or, refl, sym, ap, ◌∙◌, arith}
-use Rattle.bng_engine.specs.Quantities.{empty_book}
+use Rattle.std.proofs.Common.{rules, ◌≡◌, ◌<◌, ◌+◌, ◌++◌, ◌∷◌, [], ℕ, suc, List, Some, length, length-append, slice_index_or, refl, sym, ap, ◌∙◌, arith}
 use Rattle.bng_pool.specs.Seats.{SeatView as Hold}
 use Rattle.bng_turn.proofs.SeatLists.{removed_first}
+use Rattle.bng_round.specs.declared.tally.Tally.{Tally}
+use Rattle.bng_round.specs.Tallies.{empty_tally}
 use Rattle.bng_round.specs.declared.opening.Room.{Room}
 use Rattle.bng_round.specs.Rounds.{WorkerView}
-use Rattle.bng_round.specs.Opening.{worker_in}
+use Rattle.bng_round.specs.Opening.{seated, worker_in}
 use Rattle.bng_round.proofs.Openings.{seated_more, seated_long}
 use Rattle.bng_round.proofs.opening.seat_all.Goals as goal
 
@@ -28,11 +29,12 @@ loop-looker-preserved g c =
     let some : 0 < length c.loop-looker.rooms.items = omega (arith, long, c.requires.counts.0, inv.long, ap (λ (l : List (Room _)). length l) inv.split, length-append inv.done c.loop-looker.rooms.items) in
     let first = removed_first c.loop-looker.rooms.items c.remove-turns.new.self.items c.remove-turns.result some c.remove-turns.ensures.value c.remove-turns.ensures.items in
     let rooms : c.args.rooms.items ≡ inv.done ++ c.remove-turns.result ∷ c.remove-turns.new.self.items = inv.split ∙ ap (λ z. inv.done ++ z) first in
-    let at : c.from.result ≡ 0 + k = omega (arith, c.from.ensures, inv.number) in
+    let view : WorkerView = worker_in c.loop-looker.number c.in-Some.looker c.remove-turns.result (slice_index_or c.args.tallies.now c.loop-looker.number record { input = 0; output = 0; input_packets = 0; output_packets = 0 }) in
     let number : c.loop-looker.number ≡ 0 + k = omega (arith, inv.number) in
-    let view : WorkerView = worker_in c.loop-looker.number c.in-Some.looker c.remove-turns.result (slice_index_or c.args.tallies.now c.from.result empty_book) in
-    let is : view ≡ worker_in (0 + k) c.in-Some.looker c.remove-turns.result (slice_index_or c.args.tallies.now (0 + k) empty_book) =
-    λ i. worker_in (number i) c.in-Some.looker c.remove-turns.result (slice_index_or c.args.tallies.now (at i) empty_book) in
+    let tally : (slice_index_or c.args.tallies.now c.loop-looker.number record { input = 0; output = 0; input_packets = 0; output_packets = 0 }) ≡ slice_index_or c.args.tallies.now (0 + k) empty_tally =
+    ap (λ (n : ℕ). slice_index_or c.args.tallies.now n empty_tally) number in
+    let is : view ≡ worker_in (0 + k) c.in-Some.looker c.remove-turns.result (slice_index_or c.args.tallies.now (0 + k) empty_tally) =
+    λ i. worker_in (number i) c.in-Some.looker c.remove-turns.result (tally i) in
     record {
       done = inv.done ++ c.remove-turns.result ∷ [];
       split = rooms ∙ one_more inv.done c.remove-turns.new.self.items c.remove-turns.result;
