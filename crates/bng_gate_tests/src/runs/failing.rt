@@ -1,5 +1,5 @@
 //! A packet of a circuit and `stop`, where the server of accounting answers at once and exactly one call of the outside fails.
-ghost use Rattle.std.specs.Prelude.{◌≡◌, ◌≤◌, ◌<◌, ◌^◌, None, false};
+ghost use Rattle.std.specs.Prelude.{◌≡◌, ◌≤◌, ◌<◌, ◌^◌, None, false, true};
 ghost use Rattle.bng_base.specs.Causes.{HasCause};
 ghost use Rattle.bng_plant.specs.Calls.{IsFilled};
 
@@ -90,6 +90,7 @@ impl Ends {
     /// A call begins: whether it goes on.
     fn goes_on(&mut self, call: Call) -> bool
         ensures cause { HasCause self.old.faults self.new.faults (result ≡ false) }
+        ensures uncounted { result ≡ true → self.new.faults ≡ self.old.faults }
     {
         self.begun = self.begun.saturating_add(1);
         if self.begun != self.fails {
